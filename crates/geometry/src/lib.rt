@@ -1,0 +1,79 @@
+// Build's numbers (document 000, "Creating Message Files" and FGETINFO): ranges, data blocks, block size, capacity, the share.
+use kinds::limits::MOST_EXTENTS;
+use kinds::limits::MOST_FACTOR;
+use kinds::limits::MOST_RECORDS;
+use kinds::limits::MOST_WORDS;
+use kinds::limits::SHARE_WORDS;
+ghost use mathlib.Core.Path.{_≡_};
+ghost use Prim.Native.Nat.{_+_, _*_, _≤_, _<_};
+ghost use Rattle.rules.specs.Limits.{mostWords, mostFactor, mostRecords, mostExtents, shareWords};
+ghost use Rattle.rules.specs.Geometry.{upTo, dataBlocks, capacity, blockSize, within, inRange, fitsShare};
+
+// The words before a block's first record, and before a record's data.
+const BLOCK_HEAD: u16 = 2;
+
+const RECORD_HEAD: u16 = 3;
+
+fn within(lo: u16, hi: u16, n: u16) -> bool
+    ensures { λ r. ⌜ r ≡ within lo hi n ⌝ }
+{
+    lo <= n && n <= hi
+}
+
+// Whether build's four numbers are in their ranges.
+pub fn in_range(words: u16, factor: u8, records: u16, extents: u8) -> bool
+    ensures { λ r. ⌜ r ≡ inRange words factor records extents ⌝ }
+{
+    within(1, MOST_WORDS, words)
+        && within(1, MOST_FACTOR, factor as u16)
+        && within(1, MOST_RECORDS, records)
+        && within(1, MOST_EXTENTS, extents as u16)
+}
+
+// How many times m holds n, rounded up.
+fn up_to(n: u16, m: u16) -> u16
+    requires { ⌜ (1 ≤ n) × (1 ≤ m) × (n + m ≤ 65536) ⌝ }
+    ensures { λ r. ⌜ r ≡ upTo n m ⌝ }
+    ensures { λ r. ⌜ (1 ≤ r) × (r < n + m) × (n ≤ r * m) × (r * m < n + m) ⌝ }
+{
+    (n + (m - 1)) / m
+}
+
+// The data blocks of a file of so many records, B to a block, in so many extents.
+pub fn data_blocks(records: u16, factor: u8, extents: u8) -> u16
+    requires { ⌜ (1 ≤ records) × (records ≤ mostRecords) ⌝ }
+    requires { ⌜ (1 ≤ factor) × (factor ≤ mostFactor) ⌝ }
+    requires { ⌜ (1 ≤ extents) × (extents ≤ mostExtents) ⌝ }
+    ensures { λ r. ⌜ r ≡ dataBlocks records factor extents ⌝ }
+    ensures { λ r. ⌜ (1 ≤ r) × (r ≤ shareWords) ⌝ }
+{
+    let x = extents as u16;
+    let blocks = up_to(records + 2, factor as u16);
+    up_to(blocks + 1, x) * x - 1
+}
+
+// The words of a block.
+pub fn block_size(words: u16, factor: u8) -> u16
+    requires { ⌜ (words ≤ mostWords) × (factor ≤ mostFactor) ⌝ }
+    ensures { λ r. ⌜ r ≡ blockSize words factor ⌝ }
+    ensures { λ r. ⌜ r ≤ (mostWords + 3) * mostFactor + 2 ⌝ }
+{
+    (words + RECORD_HEAD) * factor as u16 + BLOCK_HEAD
+}
+
+// The records that fit in so many blocks.
+pub fn capacity(factor: u8, blocks: u16) -> u16
+    requires { ⌜ (factor ≤ mostFactor) × (blocks ≤ shareWords) ⌝ }
+    ensures { λ r. ⌜ r ≡ capacity factor blocks ⌝ }
+{
+    factor as u16 * blocks
+}
+
+// Whether so many blocks, any number, fit into a file's share.
+pub fn fits_share(words: u16, factor: u8, blocks: u16) -> bool
+    requires { ⌜ (words ≤ mostWords) × (factor ≤ mostFactor) ⌝ }
+    ensures { λ r. ⌜ r ≡ fitsShare words factor blocks ⌝ }
+{
+    let size = block_size(words, factor);
+    blocks as u32 * size as u32 <= SHARE_WORDS
+}

@@ -1,0 +1,53 @@
+use Prim.Native.Nat.{_≤_, _-_}
+use mathlib.Core.Path.{_≡_, sym, _∙_}
+use lib.ListN.{length, drop}
+use borrow.Author.Needs.{needs}
+use Rattle.rules.specs.Line.{allDigits}
+use Rattle.hex.proofs.Lines.{digits-step, digits-stop, digits-end}
+use Rattle.hex.proofs.all_digits.Statement.{statement}
+use Rattle.hex.proofs.all_digits.Tie as tie
+
+abbrev Inv-loop : tie.InvT-loop
+Inv-loop s i₀ i = (i ≤ length s) × (allDigits s ≡ allDigits (drop i s))
+
+abbrev μ-loop : tie.MeasureT-loop
+μ-loop s i₀ i = length s - i
+
+loop-holds : tie.Need-loop-holds Inv-loop μ-loop
+loop-holds c = search needs
+
+shared-slice-read-value : tie.Need-shared-slice-read-value Inv-loop μ-loop
+shared-slice-read-value c = search needs
+
+value-requires : tie.Need-value-requires Inv-loop μ-loop
+value-requires c κs = search needs
+
+returns : tie.Need-returns Inv-loop μ-loop
+returns c = sym (c .before .before .before .before .loop .inv .1 ∙ digits-stop _ _ (c .before .before .before .loop-test .taken) (rw (c .before .value .ensures .0) at (c .if1 .taken)))
+
+add-i : tie.Need-add-i Inv-loop μ-loop
+add-i c = search needs
+
+loop-less : tie.Need-loop-less Inv-loop μ-loop
+loop-less c = search needs
+
+loop-again : tie.Need-loop-again Inv-loop μ-loop
+loop-again c = (search needs, c .before .before .before .before .loop .inv .1 ∙ digits-step _ _ (c .before .before .before .loop-test .taken) (rw (c .before .value .ensures .0) at (c .if1 .left)))
+
+returns-2 : tie.Need-returns-2 Inv-loop μ-loop
+returns-2 c = sym (c .before .loop .inv .1 ∙ digits-end _ _ (c .loop-test .left))
+
+pub all-digits-spec : {M : Type 1} → statement M
+all-digits-spec =
+    tie.close
+    (tie.spec
+    Inv-loop
+    μ-loop
+    loop-holds
+    shared-slice-read-value
+    value-requires
+    returns
+    add-i
+    loop-less
+    loop-again
+    returns-2)

@@ -1,0 +1,33 @@
+use mathlib.Core.Path.{sym, _∙_}
+use native.Mathlib.Omega.{arith}
+use Rattle.rules.specs.Limits.{lineBytes}
+use Rattle.hex.proofs.Lines.{line-is, length-bytes, frame-line, frame-none}
+use borrow.Author.Needs.{needs}
+use Rattle.hex.proofs.decode.Statement.{statement}
+use Rattle.hex.proofs.decode.Tie as tie
+
+is-line-requires : tie.Need-is-line-requires
+is-line-requires c κs = search needs
+
+fill-requires : tie.Need-fill-requires
+fill-requires c κs =
+    let l = line-is lineBytes _ (sym (c .before .before .is-line .ensures) ∙ c .before .if1 .taken) in
+    (l .2, omega arith)
+
+same-length : tie.Need-same-length
+same-length c = search needs
+
+returns : tie.Need-returns
+returns c =
+    let s = c .before .before .before .before .before .before .before .before .args .s .now in
+    let e = sym (c .before .before .before .before .before .is-line .ensures) ∙ c .before .before .before .before .if1 .taken in
+    let l = line-is lineBytes s e in
+    (rw (frame-line _ e) (sym (length-bytes s)), (rw (frame-line _ e) (c .before .before .fill .ensures), omega arith))
+
+returns-2 : tie.Need-returns-2
+returns-2 c =
+    let e = frame-none _ (sym (c .before .is-line .ensures) ∙ c .if1 .left) in
+    (rw e, (rw e, omega arith))
+
+pub decode-spec : {M : Type 1} → statement M
+decode-spec = tie.close (tie.spec is-line-requires fill-requires same-length returns returns-2)

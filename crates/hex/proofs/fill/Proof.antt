@@ -1,0 +1,86 @@
+use Prim.Native.Nat.{_+_, _*_, _/_, _-_, _<_, _≤_}
+use mathlib.Core.Path.{_≡_, sym, _∙_}
+use native.Mathlib.Omega.{arith}
+use lib.ListN.{length, drop}
+use lib.Seq.{sets}
+use borrow.Author.Needs.{needs}
+use Rattle.rules.specs.Line.{bytesOf}
+use Rattle.hex.proofs.Lines.{digits-at, fill-step, fill-end}
+use Rattle.hex.proofs.fill.Statement.{statement}
+use Rattle.hex.proofs.fill.Tie as tie
+
+abbrev Inv-loop : tie.InvT-loop
+Inv-loop s out₀ n i₀ out i = (i ≤ n) × (n ≡ length s / 2) × (length out ≡ length out₀) × (sets out i (bytesOf (drop (2 * i) s)) ≡ sets out₀ 0 (bytesOf s))
+
+abbrev μ-loop : tie.MeasureT-loop
+μ-loop s out₀ n i₀ out i = n - i
+
+loop-holds : tie.Need-loop-holds Inv-loop μ-loop
+loop-holds c = search needs
+
+mul-a : tie.Need-mul-a Inv-loop μ-loop
+mul-a c = search needs
+
+shared-slice-read-a : tie.Need-shared-slice-read-a Inv-loop μ-loop
+shared-slice-read-a c = search needs
+
+mul-b : tie.Need-mul-b Inv-loop μ-loop
+mul-b c = search needs
+
+add-b : tie.Need-add-b Inv-loop μ-loop
+add-b c = search needs
+
+shared-slice-read-b : tie.Need-shared-slice-read-b Inv-loop μ-loop
+shared-slice-read-b c = search needs
+
+pair-requires : tie.Need-pair-requires Inv-loop μ-loop
+pair-requires c κs =
+    let a = c .before .before .before .before .before .before in
+    let i = c .before .before .before .loop .i in
+    (digits-at (a .args .s .now) (2 * i) (a .pre .0) (omega arith), digits-at (a .args .s .now) (2 * i + 1) (a .pre .0) (omega arith))
+
+slice-write-out : tie.Need-slice-write-out Inv-loop μ-loop
+slice-write-out c = search needs
+
+add-i : tie.Need-add-i Inv-loop μ-loop
+add-i c = search needs
+
+loop-less : tie.Need-loop-less Inv-loop μ-loop
+loop-less c = search needs
+
+loop-again : tie.Need-loop-again Inv-loop μ-loop
+loop-again c =
+    let l = c .before .before .before .before .loop in
+    let s = c .before .before .before .before .before .before .before .args .s .now in
+    let h : 2 * l .i + 1 < length s = omega arith in
+    (search needs, l .inv .1, search needs, rw (c .pair .ensures) (sym (fill-step s (l .out) (l .i) h) ∙ l .inv .3))
+
+same-length : tie.Need-same-length Inv-loop μ-loop
+same-length c = search needs
+
+returns : tie.Need-returns Inv-loop μ-loop
+returns c =
+    let l = c .before .loop in
+    let s = c .before .before .before .before .args .s .now in
+    let h : length s ≤ 2 * l .i + 1 = omega arith in
+    sym (fill-end s (l .out) (l .i) h) ∙ l .inv .3
+
+pub fill-spec : {M : Type 1} → statement M
+fill-spec =
+    tie.close
+    (tie.spec
+    Inv-loop
+    μ-loop
+    loop-holds
+    mul-a
+    shared-slice-read-a
+    mul-b
+    add-b
+    shared-slice-read-b
+    pair-requires
+    slice-write-out
+    add-i
+    loop-less
+    loop-again
+    same-length
+    returns)

@@ -1,0 +1,18 @@
+// The limits of document 01 in the code, each by its name; the rules have them under the same names, in Limits.
+
+pub const MOST_WORDS: u16 = 128;
+
+pub const MOST_FACTOR: u16 = 16;
+
+pub const MOST_RECORDS: u16 = 2000;
+
+pub const MOST_EXTENTS: u16 = 32;
+
+pub const SHARE_WORDS: u32 = 2048;
+
+pub const MOST_READ_WORDS: u16 = 130;
+
+pub const MOST_READ_BYTES: u32 = 260;
+
+// The event program's lines.
+pub const LINE_BYTES: usize = 261;

@@ -1,0 +1,4 @@
+pub mod Proper
+pub mod Isolation
+pub mod Walk
+pub mod Lift

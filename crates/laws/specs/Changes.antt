@@ -1,0 +1,96 @@
+-- The small changes of which every call is made, and what a law has to show of each to hold over all runs.
+use mathlib.Core.Path.{_≡_}
+use mathlib.Core.Bool.{Bool, true, false}
+use mathlib.Core.List.{List, [], _∷_}
+use mathlib.Core.Option.{Option, some}
+use Prim.Native.Nat.{ℕ, _+_, _*_, _≤_}
+use lib.ListN.{length}
+use Rattle.rules.specs.Limits.{mostWords, mostFactor, shareWords, mostReadBytes, leastCapacity}
+use Rattle.rules.specs.Geometry.{capacity, blockSize}
+use Rattle.rules.specs.State.{Rec, Req, idle, reading, writing, readDone, writeDone, Acc, Geo, Built}
+use Rattle.rules.specs.Store.{emptyStore, fetch}
+use Rattle.rules.specs.Requests.{isWriter, fits, accAt, alterAcc, putRec, behind, finish, cancel, wait, freed}
+use Rattle.rules.specs.Settle.{dataRec, settle}
+use Rattle.rules.specs.Open.{newFile, newAcc, openRec, enter, purged, roomToOpen}
+use Rattle.rules.specs.Close.{closeRec, vacate, lessen}
+use Rattle.rules.specs.Sheet.{Sheet, loaded}
+use Rattle.shares.specs.Groups.{All}
+use Rattle.shares.specs.Laid.{GoodRec}
+
+-- a geometry that build or load makes
+pub record GoodGeo (g : Geo) : Type 0 where
+  pub words-low : 1 ≤ g .words
+  pub words-high : g .words ≤ mostWords
+  pub factor-low : 1 ≤ g .factor
+  pub factor-high : g .factor ≤ mostFactor
+  pub room : leastCapacity ≤ capacity (g .factor) (g .blocks)
+  pub share : g .blocks * blockSize (g .words) (g .factor) ≤ shareWords
+
+-- records that a file of records of `words` words may hold
+unfoldable pub GoodRecs : ℕ → List Rec → Type 0
+GoodRecs words rs = All (λ r. GoodRec r × (length (r .body) ≤ 2 * words)) rs
+
+pub record GoodSheet (s : Sheet) : Type 0 where
+  pub geo : GoodGeo (s .geo)
+  pub few : length (s .recs) ≤ capacity (s .geo .factor) (s .geo .blocks)
+  pub recs : GoodRecs (s .geo .words) (s .recs)
+
+-- a change of an accessor that leaves its side and its request as they are
+unfoldable pub Mild : (Acc → Acc) → Type 0
+Mild f = (a : Acc) → (isWriter (f a) ≡ isWriter a) × (f a .ident ≡ a .ident) × (f a .share ≡ a .share) × (f a .req ≡ a .req)
+
+-- a waiting request, and what it may complete as, with a status
+pub data Ends (st : ℕ) : Req → Req → Type 0 where
+  readEnds : {w k : Bool} {l g : ℕ} {d : List ℕ} → length d ≤ l → Ends st (reading w l k) (readDone st g d)
+  writeEnds : {w : Bool} {g : ℕ} {d : List ℕ} → Ends st (writing w d) (writeDone st g)
+
+-- a request that stands in a queue; one that is completed
+unfoldable pub waiting : Req → Bool
+waiting idle = false
+waiting (reading w l k) = true
+waiting (writing w d) = true
+waiting (readDone s l d) = false
+waiting (writeDone s l) = false
+
+unfoldable pub completed : Req → Bool
+completed idle = false
+completed (reading w l k) = false
+completed (writing w d) = false
+completed (readDone s l d) = true
+completed (writeDone s l) = true
+
+-- what every change keeps: I, and J n while the close record of a writer with the ID n is owed
+pub record Walks (I : Built → Type 0) (J : ℕ → Built → Type 0) : Type 0 where
+  pub mild : (p : ℕ) (f : Acc → Acc) (b : Built) → Mild f → I b → I (alterAcc p f b)
+  pub finishes : (p st : ℕ) (q : Req) (a : Acc) (r : Req) (b : Built) → accAt b p ≡ some a → a .req ≡ r → Ends st r q → I b → I (finish p st q b)
+  pub cancels : (p : ℕ) (a : Acc) (b : Built) → accAt b p ≡ some a → waiting (a .req) ≡ true → I b → I (cancel p b)
+  pub readWaits : (p n l : ℕ) (wd k : Bool) (a : Acc) (b : Built) → accAt b p ≡ some a → a .req ≡ idle → a .writer ≡ false → l ≤ mostReadBytes → I b → I (wait false p n (reading wd l k) b)
+  pub writeWaits : (p n : ℕ) (wd : Bool) (d : List ℕ) (a : Acc) (b : Built) → accAt b p ≡ some a → a .req ≡ idle → a .writer ≡ true → length d ≤ 2 * b .geo .words → I b → I (wait true p n (writing wd d) b)
+  pub frees : (p : ℕ) (a : Acc) (b : Built) → accAt b p ≡ some a → completed (a .req) ≡ true → I b → I (freed p b)
+  pub lessens : (e : ℕ) (b : Built) → I b → I (lessen e b)
+  pub fetches : (typed keep : Bool) (b : Built) → I b → I (behind (fetch (b .geo) typed keep (b .store)) b)
+  -- a data record is put: at once, and for a waiting writer
+  pub writes : (p : ℕ) (a : Acc) (d : List ℕ) (b : Built) → accAt b p ≡ some a → a .writer ≡ true → length d ≤ 2 * b .geo .words → fits b ≡ true → I b → I (putRec (dataRec a d) b)
+  pub serves : (p : ℕ) (a : Acc) (wd : Bool) (d : List ℕ) (b : Built) → accAt b p ≡ some a → a .req ≡ writing wd d → fits b ≡ true → I b → I (putRec (dataRec a d) b)
+  -- a reader enters, a writer enters
+  pub enters : (s : ℕ) (b : Built) → I b → I (enter (newAcc false 0 s) b)
+  pub joins : (access n s : ℕ) (b : Built) → 1 ≤ n → roomToOpen access b ≡ true → I b → I (enter (newAcc true n s) (putRec (openRec n) (purged access b)))
+  -- a reader leaves; a writer leaves, the last one's readers end, its close record is put
+  pub leaves : (p : ℕ) (a : Acc) (b : Built) → accAt b p ≡ some a → waiting (a .req) ≡ false → a .writer ≡ false → I b → I (vacate p b)
+  pub parts : (p : ℕ) (a : Acc) (b : Built) → accAt b p ≡ some a → waiting (a .req) ≡ false → a .writer ≡ true → I b → J (a .ident) (vacate p b)
+  pub endings : (n p st : ℕ) (q : Req) (a : Acc) (r : Req) (b : Built) → accAt b p ≡ some a → a .req ≡ r → Ends st r q → J n b → J n (finish p st q b)
+  pub closes : (n : ℕ) (b : Built) → J n b → I (putRec (closeRec n) b)
+
+-- what holds of a file that has settled, and stays where a call does not settle
+pub record Settles (I R : Built → Type 0) : Type 0 where
+  pub rests : (b : Built) → I (settle b) → R (settle b)
+  pub milds : (p : ℕ) (f : Acc → Acc) (b : Built) → Mild f → R b → R (alterAcc p f b)
+  pub finishes : (p st : ℕ) (q : Req) (b : Built) → R b → R (finish p st q b)
+  pub cancels : (p : ℕ) (b : Built) → R b → R (cancel p b)
+  pub frees : (p : ℕ) (b : Built) → R b → R (freed p b)
+  pub lessens : (e : ℕ) (b : Built) → R b → R (lessen e b)
+
+-- what a new file has
+pub record Starts (I : Built → Type 0) : Type 0 where
+  pub built : (g : Geo) → GoodGeo g → I (newFile g emptyStore)
+  pub loads : (s : Sheet) → GoodSheet s → I (loaded s)

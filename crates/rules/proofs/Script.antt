@@ -1,0 +1,62 @@
+-- Sessions as document 01 writes them: a line of input and the line that is printed.
+use mathlib.Core.Path.{_≡_}
+use mathlib.Core.List.{List, [], _∷_, _++_, map}
+use Prim.Native.Nat.{ℕ}
+use Prim.Native.String.{String}
+use Prim.Native.String as string
+use Prim.Native.Char.{code}
+use Rattle.rules.specs.Line.{bytesOf, lineFrame}
+use Rattle.rules.specs.Answers.{answerBytes}
+use Rattle.rules.specs.Reply.{Reply, answers, shows}
+use Rattle.rules.specs.Desk.{Call, event, Desk, freshDesk, replies, after}
+use Rattle.rules.specs.Desk as desk
+
+-- the bytes of a quoted text
+unfoldable pub text : String → List ℕ
+text string.[] = []
+text (string._∷_ c s) = code c ∷ text s
+
+-- texts, each ended by LF
+unfoldable pub lines : List String → List ℕ
+lines [] = []
+lines (s ∷ l) = text s ++ (10 ∷ lines l)
+
+infix 90 _⇒_
+pub data Exchange : Type 0 where
+  -- a line, and the answer's
+  _⇒_ : String → String → Exchange
+  -- look at a file's reader: status, and the bytes shown, in hexadecimal
+  looks : ℕ → ℕ → ℕ → String → Exchange
+  -- save a file into so many bytes: status, and the sheet's lines
+  saves : ℕ → ℕ → ℕ → List String → Exchange
+  -- load a file from these lines, and a text behind them: status
+  loads : ℕ → List String → String → ℕ → Exchange
+
+unfoldable pub call : Exchange → Call
+call (ask ⇒ told) = event (lineFrame (text ask))
+call (looks f p st told) = desk.look f p
+call (saves f n st told) = desk.save f n
+call (loads f l rest st) = desk.load f (lines l ++ text rest)
+
+unfoldable pub expected : Exchange → List ℕ
+expected (ask ⇒ told) = bytesOf (text told)
+expected (looks f p st told) = st ∷ bytesOf (text told)
+expected (saves f n st told) = st ∷ lines told
+expected (loads f l rest st) = st ∷ []
+
+unfoldable pub heard : Reply → List ℕ
+heard (answers a d) = answerBytes a ++ d
+heard (shows st d) = st ∷ d
+
+-- the desk behind a script
+unfoldable pub played : List Exchange → Desk
+played l = after freshDesk (map call l)
+
+-- a fresh desk replies as the script says
+abbrev pub Holds : List Exchange → Type 0
+Holds l = map heard (replies freshDesk (map call l)) ≡ map expected l
+
+-- all that a script computes by
+unfoldable pub Plays : ℕ
+unfolding text lines call expected heard played
+Plays = 0

@@ -1,0 +1,77 @@
+-- Save and load.
+use mathlib.Core.Path.{_≡_, refl}
+use mathlib.Core.List.{List, [], _∷_}
+use Rattle.rules.proofs.All.{All}
+use Rattle.rules.proofs.Script.{_⇒_, saves, loads, Holds, Plays}
+
+-- exactly enough output is enough; one byte short: 44; not built: 31; load of a built file: 31
+pub save-and-its-room : Holds (
+    "0100000401000101" ⇒ "01000003"
+    ∷ "0200030100" ⇒ "0200000001"
+    ∷ "040000000241424344" ⇒ "04000002"
+    ∷ saves 0 43 0 ("0100040100030002" ∷ "00010001" ∷ "0000000141424344" ∷ [])
+    ∷ saves 0 42 44 []
+    ∷ saves 1 100 31 []
+    ∷ saves 8 100 31 []
+    ∷ loads 0 ("0100040100030002" ∷ "00010001" ∷ "0000000141424344" ∷ []) "" 31
+    ∷ loads 8 ("0100040100030002" ∷ "00010001" ∷ "0000000141424344" ∷ []) "" 31
+    ∷ "0900" ⇒ "09000001000200010000"
+    ∷ [])
+unfolding All Plays
+save-and-its-room = refl
+
+-- loaded with no accessor; saving gives the same sheet; the records are read in their order
+pub load-and-its-sheet : Holds (
+    loads 3 ("0100040100030002" ∷ "00010001" ∷ "0000000141424344" ∷ []) "" 0
+    ∷ saves 3 43 0 ("0100040100030002" ∷ "00010001" ∷ "0000000141424344" ∷ [])
+    ∷ "0903" ⇒ "09000001000200000000"
+    ∷ "0203000100" ⇒ "0200000000"
+    ∷ "0303000004" ⇒ "0300000241424344"
+    ∷ "0903" ⇒ "09000000000000000001"
+    ∷ [])
+unfolding All Plays
+load-and-its-sheet = refl
+
+-- used = records held: a loaded file may be full, and then takes a writer only after a purge
+pub loaded-full : Holds (
+    loads 0 ("0100040100030003" ∷ "00010001" ∷ "0000000141424344" ∷ "00020001" ∷ []) "" 0
+    ∷ "0200030100" ⇒ "022A"
+    ∷ "0200000100" ⇒ "0200000000"
+    ∷ "0200030100" ⇒ "022A"
+    ∷ "070000" ⇒ "0700"
+    ∷ "0200010100" ⇒ "0200000001"
+    ∷ "0900" ⇒ "09000000000100010000"
+    ∷ [])
+unfolding All Plays
+loaded-full = refl
+
+-- each number out of its range, a frame too many or too few, a line that is none, text behind the last LF: 43, and nothing is built
+pub not-a-sheet : Holds (
+    loads 0 [] "" 43
+    ∷ loads 0 [] "0100040100030000" 43
+    ∷ loads 0 ("0100040100030000" ∷ []) "00" 43
+    ∷ loads 0 ("0200040100030000" ∷ []) "" 43
+    ∷ loads 0 ("010004010003000000" ∷ []) "" 43
+    ∷ loads 0 ("01000401000300" ∷ []) "" 43
+    ∷ loads 0 ("0100000100030000" ∷ []) "" 43
+    ∷ loads 0 ("0100810100030000" ∷ []) "" 43
+    ∷ loads 0 ("0100040000030000" ∷ []) "" 43
+    ∷ loads 0 ("0100041100030000" ∷ []) "" 43
+    ∷ loads 0 ("0100040100020000" ∷ []) "" 43
+    ∷ loads 0 ("0100800100100000" ∷ []) "" 43
+    ∷ loads 0 ("0100040100030001" ∷ []) "" 43
+    ∷ loads 0 ("0100040100030000" ∷ "00010001" ∷ []) "" 43
+    ∷ loads 0 ("0100040100030004" ∷ "00010001" ∷ "00010001" ∷ "00010001" ∷ "00010001" ∷ []) "" 43
+    ∷ loads 0 ("0100040100030001" ∷ "00030001" ∷ []) "" 43
+    ∷ loads 0 ("0100040100030001" ∷ "00010000" ∷ []) "" 43
+    ∷ loads 0 ("0100040100030001" ∷ "0001000141" ∷ []) "" 43
+    ∷ loads 0 ("0100040100030001" ∷ "00000001414243444546474849" ∷ []) "" 43
+    ∷ loads 0 ("0100040100030001" ∷ "000000" ∷ []) "" 43
+    ∷ loads 0 ("0100040100030001" ∷ "0000000141a2" ∷ []) "" 43
+    ∷ loads 0 ("0100040100030001" ∷ "000000014" ∷ []) "" 43
+    ∷ loads 0 ("0100040100030000" ∷ "-" ∷ []) "" 43
+    ∷ "0900" ⇒ "091F"
+    ∷ loads 0 ("0100040100030001" ∷ "00020001" ∷ []) "" 0
+    ∷ [])
+unfolding All Plays
+not-a-sheet = refl

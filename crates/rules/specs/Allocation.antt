@@ -1,0 +1,144 @@
+-- Beside the definition: which entry each request and each timer holds, the order of the free list, and the desk-wide order of the timers.
+-- "Freed entries go to the front of the free list and are taken from there. A request takes its own entry before its timer's and frees the timer's
+-- first."
+use mathlib.Core.Bool.{Bool, true, false, cond}
+use mathlib.Core.List.{List, [], _∷_, _++_, map}
+use mathlib.Core.Option.{Option, none, some}
+use Prim.Native.Nat.{ℕ, zero, suc, _+_, _*_}
+use lib.Dec.{ltb}
+use lib.ListN.{getD, set, drop, replicate}
+use Rattle.rules.specs.Limits.{files, places, entries}
+use Rattle.rules.specs.State.{Req, idle, reading, writing, readDone, writeDone, Acc, Timer, Hap, puts, gone, purges, waits, arms, ends, cancels, collects, Built, File, unbuilt, built}
+use Rattle.rules.specs.Requests.{withoutTimer, armIn}
+use Rattle.rules.specs.Close.{due, minus}
+use Rattle.rules.specs.Desk.{Desk, Call, Asked, on, time, bad, fileOf, freshDesk, asked, respond, happens}
+
+-- what a place holds: nothing; its request's entry; that and its timer's
+pub data Held : Type 0 where
+  nothing : Held
+  own : ℕ → Held
+  timed : ℕ → ℕ → Held
+
+-- the accessor place p of file f is place 8 × f + p of the desk
+unfoldable pub placeOf : ℕ → ℕ → ℕ
+placeOf f p = places * f + p
+
+pub record Alloc : Type 0 where
+  -- the free list, from its front
+  pub free : List ℕ
+  -- by places of the desk
+  pub held : List Held
+  -- all running timers, smallest first, equals in arming order
+  pub clock : List Timer
+
+unfoldable pub upFrom : ℕ → ℕ → List ℕ
+upFrom n zero = []
+upFrom n (suc k) = n ∷ upFrom (suc n) k
+
+-- "the free list in order of entry number"
+unfoldable pub freshAlloc : Alloc
+freshAlloc = record { free = upFrom 0 entries; held = replicate (files * places) nothing; clock = [] }
+
+unfoldable pub heldAt : Alloc → ℕ → Held
+heldAt s i = getD (s .held) i nothing
+
+-- the entry that is taken next
+unfoldable pub front : Alloc → ℕ
+front s = getD (s .free) 0 0
+
+unfoldable pub holds : ℕ → Held → List ℕ → Alloc → Alloc
+holds i h free s = record { free = free; held = set (s .held) i h; clock = s .clock }
+
+unfoldable pub withClock : List Timer → Alloc → Alloc
+withClock ts s = record { free = s .free; held = s .held; clock = ts }
+
+-- place i takes its request's entry
+unfoldable pub takeOwn : ℕ → Alloc → Alloc
+takeOwn i s = holds i (own (front s)) (drop 1 (s .free)) s
+
+-- and its timer's
+unfoldable pub takeTimer : ℕ → Held → Alloc → Alloc
+takeTimer i nothing s = s
+takeTimer i (own e) s = holds i (timed e (front s)) (drop 1 (s .free)) s
+takeTimer i (timed e t) s = s
+
+-- the timer's entry is freed
+unfoldable pub freeTimer : ℕ → Held → Alloc → Alloc
+freeTimer i nothing s = s
+freeTimer i (own e) s = s
+freeTimer i (timed e t) s = holds i (own e) (t ∷ s .free) (withClock (withoutTimer i (s .clock)) s)
+
+unfoldable pub freeOwn : ℕ → Held → Alloc → Alloc
+freeOwn i nothing s = s
+freeOwn i (own e) s = holds i nothing (e ∷ s .free) s
+freeOwn i (timed e t) s = s
+
+-- a completed request keeps its own entry, on the reply port
+unfoldable pub endsAt : ℕ → Alloc → Alloc
+endsAt i s = freeTimer i (heldAt s i) s
+
+-- one that is cancelled or collected frees both, the timer's first
+unfoldable pub goesAt : ℕ → Alloc → Alloc
+goesAt i s = let t : Alloc = endsAt i s in freeOwn i (heldAt t i) t
+
+-- one happening in file f
+unfoldable pub allot : ℕ → Hap → Alloc → Alloc
+allot f (puts r) s = s
+allot f (gone r) s = s
+allot f purges s = s
+allot f (waits p) s = takeOwn (placeOf f p) s
+allot f (arms p n) s = withClock (armIn (record { place = placeOf f p; left = n }) (s .clock)) (takeTimer (placeOf f p) (heldAt s (placeOf f p)) s)
+allot f (ends p st) s = endsAt (placeOf f p) s
+allot f (cancels p) s = goesAt (placeOf f p) s
+allot f (collects p) s = goesAt (placeOf f p) s
+
+unfoldable pub allotAll : ℕ → List Hap → Alloc → Alloc
+allotAll f [] s = s
+allotAll f (h ∷ hs) s = allotAll f hs (allot f h s)
+
+unfoldable pub endAll : List ℕ → Alloc → Alloc
+endAll [] s = s
+endAll (i ∷ l) s = endAll l (endsAt i s)
+
+-- time: the due timers go in the order of the desk, the others lose e
+unfoldable pub allocTime : ℕ → Alloc → Alloc
+allocTime e s = let t : Alloc = endAll (due e (s .clock)) s in withClock (map (minus e) (t .clock)) t
+
+unfoldable pub allocAsked : Desk → Asked → Alloc → Alloc
+allocAsked d (on f q) s = cond (ltb f files) (allotAll f (happens f d (on f q)) s) s
+allocAsked d (time e) s = allocTime e s
+allocAsked d bad s = s
+
+-- the allocation after a run from desk d
+unfoldable pub allocAfter : Desk → List Call → Alloc → Alloc
+allocAfter d [] s = s
+allocAfter d (c ∷ cs) s = allocAfter (respond d c .desk) cs (allocAsked d (asked c) s)
+
+-- the lists
+
+unfoldable pub ownEntry : Held → ℕ
+ownEntry nothing = 0
+ownEntry (own e) = e
+ownEntry (timed e t) = e
+
+unfoldable pub timerEntry : Held → ℕ
+timerEntry nothing = 0
+timerEntry (own e) = 0
+timerEntry (timed e t) = t
+
+-- "one file's read queue, one file's write queue": the entries of the waiting requests in their order
+unfoldable pub queueOf : (Built → List ℕ) → ℕ → File → Alloc → List ℕ
+queueOf q f unbuilt s = []
+queueOf q f (built b) s = map (λ p. ownEntry (heldAt s (placeOf f p))) (q b)
+
+-- "an accessor's reply port": a completed request's entry
+unfoldable pub portOf : Req → ℕ → Alloc → List ℕ
+portOf idle i s = []
+portOf (reading w l k) i s = []
+portOf (writing w d) i s = []
+portOf (readDone st l d) i s = ownEntry (heldAt s i) ∷ []
+portOf (writeDone st l) i s = ownEntry (heldAt s i) ∷ []
+
+-- "or the timer list"
+unfoldable pub timerList : Alloc → List ℕ
+timerList s = map (λ t. timerEntry (heldAt s (t .place))) (s .clock)

@@ -1,0 +1,57 @@
+-- Control: the six controls of an accessor.
+use mathlib.Core.Bool.{Bool, true, false, _&&_}
+use mathlib.Core.Option.{Option, none, some}
+use Prim.Native.Nat.{ℕ}
+use lib.Dec.{leb, eqb}
+use Rattle.kinds.specs.declared.Answer.the-variants.{Controlled}
+use Rattle.kinds.specs.declared.Control.{Control}
+use Rattle.kinds.specs.declared.Control.the-variants.{Timeout, Verify, Abort, Extended, Typed, Keep}
+use Rattle.rules.specs.State.{Req, idle, reading, writing, readDone, writeDone, Acc, Built}
+use Rattle.rules.specs.Requests.{alterAcc, isIdle, cancel}
+use Rattle.rules.specs.Reply.{Out, done, status}
+
+unfoldable pub setTimeout : ℕ → Acc → Acc
+setTimeout v a = record { writer = a .writer; ident = a .ident; share = a .share; timeout = v; extended = a .extended; typed = a .typed; keep = a .keep; first = a .first; req = a .req }
+
+unfoldable pub setExtended : Bool → Acc → Acc
+setExtended v a = record { writer = a .writer; ident = a .ident; share = a .share; timeout = a .timeout; extended = v; typed = a .typed; keep = a .keep; first = a .first; req = a .req }
+
+unfoldable pub setTyped : Bool → Acc → Acc
+setTyped v a = record { writer = a .writer; ident = a .ident; share = a .share; timeout = a .timeout; extended = a .extended; typed = v; keep = a .keep; first = a .first; req = a .req }
+
+unfoldable pub setKeep : Bool → Acc → Acc
+setKeep v a = record { writer = a .writer; ident = a .ident; share = a .share; timeout = a .timeout; extended = a .extended; typed = a .typed; keep = v; first = a .first; req = a .req }
+
+unfoldable pub unchanged : Acc → Acc
+unchanged a = a
+
+-- a setting of an accessor, "with 0 or 1": 35 any other number
+unfoldable pub switched : ℕ → ℕ → (Bool → Acc → Acc) → Built → Out
+switched p v set b = elim (leb v 1) [ true ↦ done Controlled (alterAcc p (set (eqb v 1)) b) | false ↦ status 5 35 b ]
+
+-- "34: 46 or 47 by a writer"
+unfoldable pub ofReader : Acc → Built → Out → Out
+ofReader a b o = elim (a .writer) [ true ↦ status 5 34 b | false ↦ o ]
+
+-- "43 removes a waiting request, and nothing is left to collect; on a completed one it answers status 2 and leaves it for collection": 39 with
+-- nothing outstanding
+unfoldable pub abort : ℕ → Req → Built → Out
+abort p idle b = status 5 39 b
+abort p (reading w l k) b = done Controlled (cancel p b)
+abort p (writing w d) b = done Controlled (cancel p b)
+abort p (readDone st l d) b = status 5 2 b
+abort p (writeDone st l) b = status 5 2 b
+
+-- "33: control (not 43) while a request is outstanding"
+unfoldable pub whileIdle : Acc → Built → Out → Out
+whileIdle a b o = elim (isIdle (a .req)) [ false ↦ status 5 33 b | true ↦ o ]
+
+-- "6 verify (nothing to do here)"; "6 and 43 take any parameter"; "Any other code, 48 too, is refused 35"
+unfoldable pub control : ℕ → Acc → Option Control → Built → Out
+control p a (some (Timeout v)) b = whileIdle a b (done Controlled (alterAcc p (setTimeout v) b))
+control p a (some (Verify v)) b = whileIdle a b (done Controlled (alterAcc p unchanged b))
+control p a (some (Abort v)) b = abort p (a .req) b
+control p a (some (Extended v)) b = whileIdle a b (switched p v setExtended b)
+control p a (some (Typed v)) b = whileIdle a b (ofReader a b (switched p v setTyped b))
+control p a (some (Keep v)) b = whileIdle a b (ofReader a b (switched p v setKeep b))
+control p a none b = whileIdle a b (status 5 35 b)

@@ -1,0 +1,63 @@
+-- Every limit of document 01, by name.
+use Prim.Native.Nat.{ℕ, _+_, _*_}
+
+-- "Eight files, 0 to 7, each with eight accessor places, 0 to 7."
+abbrev pub files : ℕ
+files = 8
+
+abbrev pub places : ℕ
+places = 8
+
+-- "128 entries of ten 16-bit words"
+abbrev pub entries : ℕ
+entries = 128
+
+-- "Record size R words 1..128, blocking factor B 1..16, records N 1..2,000, extents X 1..32."
+abbrev pub mostWords : ℕ
+mostWords = 128
+
+abbrev pub mostFactor : ℕ
+mostFactor = 16
+
+abbrev pub mostRecords : ℕ
+mostRecords = 2000
+
+abbrev pub mostExtents : ℕ
+mostExtents = 32
+
+-- "D × block size above 2,048 words"; "eight shares of 4,096 bytes"
+abbrev pub shareWords : ℕ
+shareWords = 2048
+
+abbrev pub shareBytes : ℕ
+shareBytes = 2 * shareWords
+
+-- "64 record buffers of 260 bytes"
+abbrev pub bufferBytes : ℕ
+bufferBytes = 260
+
+-- "Read counts run from −260 to 130"
+abbrev pub mostReadWords : ℕ
+mostReadWords = 130
+
+abbrev pub mostReadBytes : ℕ
+mostReadBytes = 260
+
+-- "264 bytes for its answer"
+abbrev pub answerRoom : ℕ
+answerRoom = 264
+
+-- "Upper-case digits, at most 261 bytes": the event program's lines
+abbrev pub lineBytes : ℕ
+lineBytes = 261
+
+-- "access, share and multiaccess: 0 to 3"
+abbrev pub mostMode : ℕ
+mostMode = 3
+
+-- a sheet needs "C ≥ 3" and "types 0 to 2"
+abbrev pub leastCapacity : ℕ
+leastCapacity = 3
+
+abbrev pub mostType : ℕ
+mostType = 2

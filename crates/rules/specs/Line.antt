@@ -1,0 +1,40 @@
+-- "A hexadecimal frame a line": upper-case digits, two a byte.
+use mathlib.Core.Bool.{Bool, true, false, cond}
+use mathlib.Core.List.{List, [], _∷_, _++_}
+use Prim.Native.Nat.{ℕ, _+_, _-_, _*_, _/_, _%_}
+use lib.Dec.{ltb, leb, eqb}
+use lib.ListN.{length}
+use Rattle.rules.specs.Limits.{lineBytes}
+
+-- the digit of a number below 16, and the number of a digit: 16 where the byte is none
+unfoldable pub digitOf : ℕ → ℕ
+digitOf n = cond (ltb n 10) (48 + n) (55 + n)
+
+unfoldable pub valueOf : ℕ → ℕ
+valueOf b = cond (ltb b 48) 16 (cond (ltb b 58) (b - 48) (cond (ltb b 65) 16 (cond (ltb b 71) (b - 55) 16)))
+
+unfoldable pub digitsOf : List ℕ → List ℕ
+digitsOf [] = []
+digitsOf (x ∷ xs) = digitOf (x / 16) ∷ digitOf (x % 16) ∷ digitsOf xs
+
+unfoldable pub allDigits : List ℕ → Bool
+allDigits [] = true
+allDigits (b ∷ s) = cond (ltb (valueOf b) 16) (allDigits s) false
+
+-- what an even number of digits says
+unfoldable pub bytesOf : List ℕ → List ℕ
+bytesOf [] = []
+bytesOf (a ∷ []) = []
+bytesOf (a ∷ b ∷ s) = (valueOf a * 16 + valueOf b) ∷ bytesOf s
+
+-- a line of at most n bytes
+unfoldable pub isLine : ℕ → List ℕ → Bool
+isLine n s = cond (leb (length s) (2 * n)) (cond (eqb (length s % 2) 0) (allDigits s) false) false
+
+-- "The event program takes any other line as an empty frame."
+unfoldable pub lineFrame : List ℕ → List ℕ
+lineFrame s = cond (isLine lineBytes s) (bytesOf s) []
+
+-- "each ended by LF"
+unfoldable pub lineOf : List ℕ → List ℕ
+lineOf xs = digitsOf xs ++ (10 ∷ [])

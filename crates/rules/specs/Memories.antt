@@ -1,0 +1,43 @@
+-- The exact bytes of blocks and record buffers.
+use mathlib.Core.List.{List, [], _∷_, _++_}
+use mathlib.Core.Option.{Option, none, some}
+use Prim.Native.Nat.{ℕ, _-_, _*_}
+use lib.ListN.{length}
+use Rattle.words.specs.Word.{zeros}
+use Rattle.rules.specs.Limits.{places, shareBytes, bufferBytes}
+use Rattle.rules.specs.State.{Req, idle, reading, writing, readDone, writeDone, Acc, Built, File, unbuilt, built}
+use Rattle.rules.specs.Desk.{Desk}
+
+-- "blocks (eight shares of 4,096 bytes)": a file's share, from 4,096 × file on
+unfoldable pub shareOf : File → List ℕ
+shareOf unbuilt = zeros shareBytes
+shareOf (built b) = b .store .share
+
+unfoldable pub blocks : Desk → List ℕ
+blocks [] = []
+blocks (x ∷ d) = shareOf x ++ blocks d
+
+-- "A completed read's record, or a waiting write's data, lies at the start of the accessor's buffer, which is otherwise zero."
+unfoldable pub lies : Req → List ℕ
+lies idle = []
+lies (reading w l k) = []
+lies (writing w d) = d
+lies (readDone st l d) = d
+lies (writeDone st l) = []
+
+unfoldable pub buffer : Option Acc → List ℕ
+buffer none = zeros bufferBytes
+buffer (some a) = lies (a .req) ++ zeros (bufferBytes - length (lies (a .req)))
+
+-- "64 record buffers of 260 bytes, one an accessor place": from 260 × (8 × file + place) on
+unfoldable pub fileBuffers : List (Option Acc) → List ℕ
+fileBuffers [] = []
+fileBuffers (a ∷ l) = buffer a ++ fileBuffers l
+
+unfoldable pub buffersOf : File → List ℕ
+buffersOf unbuilt = zeros (places * bufferBytes)
+buffersOf (built b) = fileBuffers (b .accs)
+
+unfoldable pub buffers : Desk → List ℕ
+buffers [] = []
+buffers (x ∷ d) = buffersOf x ++ buffers d

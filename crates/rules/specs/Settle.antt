@@ -1,0 +1,77 @@
+-- "then the file settles: while something can be done, serve the first waiting reader, else the first waiting writer."
+use mathlib.Core.Bool.{Bool, true, false, cond}
+use mathlib.Core.List.{List, [], _∷_, _++_}
+use mathlib.Core.Option.{Option, none, some}
+use Prim.Native.Nat.{ℕ, zero, suc, _+_}
+use lib.ListN.{length, take}
+use Rattle.words.specs.Word.{word}
+use Rattle.rules.specs.State.{Rec, Req, idle, reading, writing, readDone, writeDone, Acc, Built}
+use Rattle.rules.specs.Store.{fetch, Found}
+use Rattle.rules.specs.Count.{logOf}
+use Rattle.rules.specs.Requests.{accAt, fits, putRec, behind, finish}
+
+-- what a read is handed of a record: with control 46 "type and ID words before the data", and "cut to the count"
+unfoldable pub handed : Bool → ℕ → Rec → List ℕ
+handed typed limit r = take limit (cond typed (word (r .typ) ++ word (r .wid) ++ r .body) (r .body))
+
+unfoldable pub readResult : Bool → List ℕ → Req
+readResult words bytes = readDone 0 (logOf words (length bytes)) bytes
+
+unfoldable pub dataRec : Acc → List ℕ → Rec
+dataRec a bytes = record { typ = 0; wid = a .ident; body = bytes }
+
+-- one turn: the file behind it, and whether a request was served
+pub record Turn : Type 0 where
+  pub file : Built
+  pub moved : Bool
+
+unfoldable pub still : Built → Turn
+still b = record { file = b; moved = false }
+
+unfoldable pub onward : Built → Turn
+onward b = record { file = b; moved = true }
+
+-- the waiting read q of the accessor a at p; "also as first waiting reader whenever the file settles" open and close records at the head go
+unfoldable pub serveReader : ℕ → Acc → Req → Built → Turn
+serveReader p a (reading words limit keep) b =
+    let f : Found = fetch (b .geo) (a .typed) keep (b .store) in
+    elim (f .got) [
+      | none ↦ still (behind f b)
+      | some r ↦ onward (finish p 0 (readResult words (handed (a .typed) limit r)) (behind f b))
+    ]
+serveReader p a idle b = still b
+serveReader p a (writing words bytes) b = still b
+serveReader p a (readDone s l d) b = still b
+serveReader p a (writeDone s l) b = still b
+
+unfoldable pub serveWriter : ℕ → Acc → Req → Built → Turn
+serveWriter p a (writing words bytes) b =
+    elim (fits b) [
+      | true ↦ onward (finish p 0 (writeDone 0 (logOf words (length bytes))) (putRec (dataRec a bytes) b))
+      | false ↦ still b
+    ]
+serveWriter p a idle b = still b
+serveWriter p a (reading words limit keep) b = still b
+serveWriter p a (readDone s l d) b = still b
+serveWriter p a (writeDone s l) b = still b
+
+-- the accessor at the head of a queue, handed to `serve`
+unfoldable pub atHead : (ℕ → Acc → Req → Built → Turn) → List ℕ → Built → Turn
+atHead serve [] b = still b
+atHead serve (p ∷ l) b = elim (accAt b p) [ none ↦ still b | some a ↦ serve p a (a .req) b ]
+
+unfoldable pub turn : Built → Turn
+turn b =
+    let m : Turn = atHead serveReader (b .rq) b in
+    elim (m .moved) [ true ↦ m | false ↦ atHead serveWriter (b .wq) (m .file) ]
+
+-- at most n turns
+unfoldable pub settleFor : ℕ → Built → Built
+settleFor zero b = b
+settleFor (suc n) b =
+    let m : Turn = turn b in
+    elim (m .moved) [ true ↦ settleFor n (m .file) | false ↦ m .file ]
+
+-- each turn that moves serves one waiting request, so as many turns as wait are enough (law `settled`)
+unfoldable pub settle : Built → Built
+settle b = settleFor (length (b .rq) + length (b .wq)) b

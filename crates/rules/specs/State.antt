@@ -1,0 +1,87 @@
+-- What the desk holds, as the rules speak of it: no entry number, link or free list.
+use mathlib.Core.Bool.{Bool}
+use mathlib.Core.List.{List}
+use mathlib.Core.Option.{Option}
+use Prim.Native.Nat.{ℕ}
+
+-- a record: its type (0 data, 1 open, 2 close), the writer's ID, and data
+pub record Rec : Type 0 where
+  pub typ : ℕ
+  pub wid : ℕ
+  pub body : List ℕ
+
+-- record size R in words, blocking factor B, data blocks D
+pub record Geo : Type 0 where
+  pub words : ℕ
+  pub factor : ℕ
+  pub blocks : ℕ
+
+-- "A file is a ring of blocks": the oldest block still holding a record (or the one to go on at), the places of it that are spent,
+-- the records held, oldest first, and the bytes of the file's share
+pub record Store : Type 0 where
+  pub block : ℕ
+  pub spent : ℕ
+  pub recs : List Rec
+  pub share : List ℕ
+
+-- "One outstanding request per accessor, until collected."
+pub data Req : Type 0 where
+  idle : Req
+  -- a waiting read: counted in words?, at most so many bytes, under control 47?
+  reading : Bool → ℕ → Bool → Req
+  -- a waiting write: counted in words?, the data
+  writing : Bool → List ℕ → Req
+  -- a completed read: status, log, data
+  readDone : ℕ → ℕ → List ℕ → Req
+  -- a completed write: status, log
+  writeDone : ℕ → ℕ → Req
+
+pub record Acc : Type 0 where
+  pub writer : Bool
+  -- the writer's ID, 0 for a reader
+  pub ident : ℕ
+  pub share : ℕ
+  -- control 4
+  pub timeout : ℕ
+  -- controls 45, 46, 47
+  pub extended : Bool
+  pub typed : Bool
+  pub keep : Bool
+  -- no read or write accepted yet
+  pub first : Bool
+  pub req : Req
+
+-- the remaining timeout of the request at a place
+pub record Timer : Type 0 where
+  pub place : ℕ
+  pub left : ℕ
+
+-- what happens to a file in a call; what is stated beside the definition is a fold over it
+pub data Hap : Type 0 where
+  -- a record was put; was handed to a read or discarded; all records were purged
+  puts : Rec → Hap
+  gone : Rec → Hap
+  purges : Hap
+  -- the request at a place began to wait, armed its timer, completed with a status, was cancelled, was collected
+  waits : ℕ → Hap
+  arms : ℕ → ℕ → Hap
+  ends : ℕ → ℕ → Hap
+  cancels : ℕ → Hap
+  collects : ℕ → Hap
+
+pub record Built : Type 0 where
+  pub geo : Geo
+  pub store : Store
+  -- eight accessor places
+  pub accs : List (Option Acc)
+  -- the places of the waiting readers, and of the waiting writers, first come first
+  pub rq : List ℕ
+  pub wq : List ℕ
+  -- smallest first, equals in arming order
+  pub timers : List Timer
+  -- what the call at hand has done so far; nothing between calls
+  pub past : List Hap
+
+pub data File : Type 0 where
+  unbuilt : File
+  built : Built → File

@@ -1,0 +1,1 @@
+// No code: the definition of the desk is in specs/, its computed sessions in proofs/.

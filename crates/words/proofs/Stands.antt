@@ -1,0 +1,89 @@
+-- Bytes that stand in a memory: `Stands xs a bs`, from place a on, one after another; and what a store leaves alone.
+use Prim.Native.Nat.{ℕ, zero, suc, _+_, _*_, _/_, _%_, _≤_, _<_}
+use mathlib.Core.Path.{_≡_, refl, sym, ap, _∙_}
+use mathlib.Core.List.{List, [], _∷_, _++_}
+use mathlib.Core.Logic.{_⊎_, inl, inr}
+use native.Mathlib.Omega.{arith}
+use native.Mathlib.Numerals.{add-one}
+use lib.ListN.{length, getD, set, take, drop, length-set}
+use lib.Seq.{sets, getD-set-same, getD-set-other, drop-cons}
+use Rattle.words.specs.Word.{word, wordAt}
+
+unfoldable pub Stands : List ℕ → ℕ → List ℕ → Type 0
+Stands xs a [] = Unit {0}
+Stands xs a (b ∷ bs) = (getD xs a 0 ≡ b) × Stands xs (suc a) bs
+
+pub join : (bs cs xs : List ℕ) (a c : ℕ) → a + length bs ≡ c → Stands xs a bs → Stands xs c cs → Stands xs a (bs ++ cs)
+unfolding Stands
+join [] cs xs a c e h k = let f : a ≡ c = omega arith in rw f k
+join (b ∷ bs) cs xs a c e h k = (h .0, join bs cs xs (suc a) c (omega arith) (h .1) k)
+
+pub left : (bs cs xs : List ℕ) (a : ℕ) → Stands xs a (bs ++ cs) → Stands xs a bs
+unfolding Stands
+left [] cs xs a h = tt
+left (b ∷ bs) cs xs a h = (h .0, left bs cs xs (suc a) (h .1))
+
+pub right : (bs cs xs : List ℕ) (a c : ℕ) → a + length bs ≡ c → Stands xs a (bs ++ cs) → Stands xs c cs
+unfolding Stands
+right [] cs xs a c e h = let f : c ≡ a = omega arith in rw f h
+right (b ∷ bs) cs xs a c e h = right bs cs xs (suc a) c (omega arith) (h .1)
+
+-- a store elsewhere
+pub getD-sets : (vs xs : List ℕ) (c i : ℕ) → (i < c) ⊎ (c + length vs ≤ i) → getD (sets xs c vs) i 0 ≡ getD xs i 0
+getD-sets [] xs c i h = refl
+getD-sets (v ∷ vs) xs c i (inl h) = getD-sets vs (set xs c v) (suc c) i (inl (omega arith)) ∙ getD-set-other xs c i v 0 (λ q. omega arith)
+getD-sets (v ∷ vs) xs c i (inr h) = getD-sets vs (set xs c v) (suc c) i (inr (omega arith)) ∙ getD-set-other xs c i v 0 (λ q. omega arith)
+
+pub other : (bs vs xs : List ℕ) (a c : ℕ) → (a + length bs ≤ c) ⊎ (c + length vs ≤ a) → Stands xs a bs → Stands (sets xs c vs) a bs
+unfolding Stands
+other [] vs xs a c d h = tt
+other (b ∷ bs) vs xs a c (inl d) h = (getD-sets vs xs c a (inl (omega arith)) ∙ h .0, other bs vs xs (suc a) c (inl (omega arith)) (h .1))
+other (b ∷ bs) vs xs a c (inr d) h = (getD-sets vs xs c a (inr d) ∙ h .0, other bs vs xs (suc a) c (inr (omega arith)) (h .1))
+
+-- what was stored stands
+pub same : (vs xs : List ℕ) (a : ℕ) → a + length vs ≤ length xs → Stands (sets xs a vs) a vs
+unfolding Stands
+same [] xs a h = tt
+same (v ∷ vs) xs a h = (
+  getD-sets vs (set xs a v) (suc a) a (inl (omega arith)) ∙ getD-set-same xs a v 0 (omega arith),
+  same vs (set xs a v) (suc a) (rw length-set (omega arith)),
+)
+
+pub word-read : (xs : List ℕ) (a w : ℕ) → Stands xs a (word w) → wordAt xs a ≡ w
+unfolding Stands
+word-read xs a w h = rw (h .0, add-one a, h .1 .0) (omega arith)
+
+-- the part that is lent from there is those bytes
+pub part-read : (bs xs : List ℕ) (a : ℕ) → a + length bs ≤ length xs → Stands xs a bs → take (length bs) (drop a xs) ≡ bs
+unfolding Stands
+part-read [] xs a r h = refl
+part-read (b ∷ bs) xs a r h =
+    rw (drop-cons xs a 0 (omega arith), h .0, part-read bs xs (suc a) (omega arith) (h .1))
+
+-- all that changed lies in the n bytes from a on
+unfoldable pub Within : List ℕ → List ℕ → ℕ → ℕ → Type 0
+Within xs ys a n = (i : ℕ) → (i < a) ⊎ (a + n ≤ i) → getD ys i 0 ≡ getD xs i 0
+
+pub kept : (bs xs ys : List ℕ) (b a n : ℕ) → Within xs ys a n → (b + length bs ≤ a) ⊎ (a + n ≤ b) → Stands xs b bs → Stands ys b bs
+unfolding Stands Within
+kept [] xs ys b a n w d h = tt
+kept (v ∷ bs) xs ys b a n w (inl d) h = (w b (inl (omega arith)) ∙ h .0, kept bs xs ys (suc b) a n w (inl (omega arith)) (h .1))
+kept (v ∷ bs) xs ys b a n w (inr d) h = (w b (inr d) ∙ h .0, kept bs xs ys (suc b) a n w (inr (omega arith)) (h .1))
+
+pub within-then : (xs ys zs : List ℕ) (a n : ℕ) → Within xs ys a n → Within ys zs a n → Within xs zs a n
+unfolding Within
+within-then xs ys zs a n v w i d = w i d ∙ v i d
+
+-- a run of stores inside
+pub sets-within : (vs xs : List ℕ) (c a n : ℕ) → a ≤ c → c + length vs ≤ a + n → Within xs (sets xs c vs) a n
+unfolding Within
+sets-within vs xs c a n h k i (inl d) = getD-sets vs xs c i (inl (omega arith))
+sets-within vs xs c a n h k i (inr d) = getD-sets vs xs c i (inr (omega arith))
+
+-- a word that was stored is read back, and a word elsewhere is as it was
+pub word-same : (xs : List ℕ) (a w : ℕ) → a + 2 ≤ length xs → wordAt (sets xs a (word w)) a ≡ w
+word-same xs a w h = word-read (sets xs a (word w)) a w (same (word w) xs a h)
+
+pub word-other : (xs vs : List ℕ) (a b : ℕ) → (b + 2 ≤ a) ⊎ (a + length vs ≤ b) → wordAt (sets xs a vs) b ≡ wordAt xs b
+word-other xs vs a b (inl h) = rw (getD-sets vs xs a b (inl (omega arith)), getD-sets vs xs a (b + 1) (inl (omega arith)))
+word-other xs vs a b (inr h) = rw (getD-sets vs xs a b (inr h), getD-sets vs xs a (b + 1) (inr (omega arith)))

@@ -1,0 +1,47 @@
+// Bytes and 16-bit words in lent memory, high byte first. A place is a byte's index.
+ghost use mathlib.Core.Path.{_≡_};
+ghost use Prim.Native.Nat.{_+_, _≤_};
+ghost use lib.ListN.{length};
+ghost use lib.Seq.{sets};
+ghost use Rattle.words.specs.Word.{word, wordAt, zeros};
+
+// The word at a place.
+pub fn get(s: &[u8], at: usize) -> u16
+    requires { ⌜ at + 2 ≤ length (now s) ⌝ }
+    ensures { λ r. ⌜ r ≡ wordAt (now (s .entry)) at ⌝ }
+{
+    (s[at] as u16) * 256 + s[at + 1] as u16
+}
+
+// The word w is stored at a place.
+pub fn put(s: &mut [u8], at: usize, w: u16)
+    requires { ⌜ at + 2 ≤ length (now s) ⌝ }
+    ensures { λ _. ⌜ now (s .exit) ≡ sets (now (s .entry)) at (word w) ⌝ }
+{
+    s[at] = (w / 256) as u8;
+    s[at + 1] = (w % 256) as u8;
+}
+
+// n bytes from a place on become zero.
+pub fn zero(s: &mut [u8], at: usize, n: usize)
+    requires { ⌜ at + n ≤ length (now s) ⌝ }
+    ensures { λ _. ⌜ now (s .exit) ≡ sets (now (s .entry)) at (zeros n) ⌝ }
+{
+    let mut i = 0;
+    while i < n {
+        s[at + i] = 0;
+        i += 1;
+    }
+}
+
+// All of `from` is stored from a place on.
+pub fn copy(s: &mut [u8], at: usize, from: &[u8])
+    requires { ⌜ at + length (now from) ≤ length (now s) ⌝ }
+    ensures { λ _. ⌜ now (s .exit) ≡ sets (now (s .entry)) at (now (from .entry)) ⌝ }
+{
+    let mut i = 0;
+    while i < from.len() {
+        s[at + i] = from[i];
+        i += 1;
+    }
+}
