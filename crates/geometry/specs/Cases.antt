@@ -3,8 +3,11 @@ use Prim.Native.Nat.{ℕ, _-_}
 use mathlib.Core.Bool.{Bool, true, false}
 use mathlib.Core.List.{List, [], _∷_}
 use mathlib.Core.Path.{_≡_, refl}
-use Rattle.rules.specs.Geometry.{upTo, dataBlocks, capacity, blockSize, fitsShare}
-use Rattle.rules.specs.Count.{inWords, countBytes, readable}
+use Rattle.rules.specs.Geometry.{dataBlocks, capacity, blockSize, fitsShare}
+use Rattle.rules.specs.Count.{readable}
+use Rattle.rules.specs.Desk.{program}
+use Rattle.rules.proofs.All.{All}
+use Rattle.rules.proofs.Script.{lines, Plays}
 
 -- a row: what the rules work out, and what the paper says
 pub record Case : Type 0 where
@@ -47,10 +50,23 @@ cases =
     ∷ record { got = taken (readable 130) ∷ taken (readable (minus 260)) ∷ []; says = 1 ∷ 1 ∷ [] }
     -- "131, −261 and −32768 refused 35."
     ∷ record { got = taken (readable 131) ∷ taken (readable (minus 261)) ∷ taken (readable (minus 32768)) ∷ []; says = 0 ∷ 0 ∷ 0 ∷ [] }
-    -- ROWS TO COME, once the rules have sessions: the answers to those two builds (15 data blocks; 38), and
-    -- "timeout 5: time 4 completes nothing, then 1 completes it." A row's lists can be the bytes of answers.
+    -- and the same three as the event program answers them: built with 15, refused 38
+    ∷ record {
+      got = program (lines ("0100008001000E01" ∷ "0100008001000D01" ∷ []));
+      says = lines ("0126" ∷ "0100000F" ∷ []);
+    }
+    -- counts 131, −261, −32768: 35; 130 waits, and is aborted; −260 ends with status 2
+    ∷ record {
+      got = program (lines ("0100000401000101" ∷ "0200000100" ∷ "0300000083" ∷ "030000FEFB" ∷ "0300008000" ∷ "0300000082" ∷ "0500002B0000" ∷ "030000FEFC" ∷ []));
+      says = lines ("01000003" ∷ "0200000000" ∷ "0323" ∷ "0323" ∷ "0323" ∷ "0301" ∷ "0500" ∷ "0302" ∷ []);
+    }
+    -- "timeout 5: time 4 completes nothing, then 1 completes it."
+    ∷ record {
+      got = program (lines ("0100000401000101" ∷ "0200000100" ∷ "050000040005" ∷ "0300000001" ∷ "080004" ∷ "060000" ∷ "080001" ∷ "060000" ∷ []));
+      says = lines ("01000003" ∷ "0200000000" ∷ "0500" ∷ "0301" ∷ "0800" ∷ "0601" ∷ "0800" ∷ "0616" ∷ []);
+    }
     ∷ []
 
 pub cases-hold : worked cases ≡ said cases
-unfolding worked said cases capacityOf taken minus upTo dataBlocks capacity blockSize fitsShare inWords countBytes readable
+unfolding All Plays worked said cases capacityOf taken minus
 cases-hold = refl

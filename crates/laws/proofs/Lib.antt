@@ -2,3 +2,10 @@ pub mod Proper
 pub mod Isolation
 pub mod Walk
 pub mod Lift
+pub mod Files
+pub mod Stores
+pub mod Accessors
+pub mod Room
+pub mod Places
+pub mod Bounds
+pub mod Shares
