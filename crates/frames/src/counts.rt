@@ -1,0 +1,47 @@
+// Counts as they stand in a frame, 0 to 65,535: "n ≥ 0 is n words, below 0 it is −n bytes."
+use kinds::limits::MOST_READ_BYTES;
+use kinds::limits::MOST_READ_WORDS;
+ghost use mathlib.Core.Path.{_≡_};
+ghost use Prim.Native.Nat.{_≤_};
+ghost use Rattle.rules.specs.Count.{inWords, countBytes, readable, logOf};
+
+// The first count below 0, and what −n lacks of n. The difference is taken in 32 bits: −32,768 has no 16-bit negative.
+const LEAST: u16 = 32768;
+
+const TURN: u32 = 65536;
+
+pub fn in_words(count: u16) -> bool
+    ensures { λ r. ⌜ r ≡ inWords count ⌝ }
+{
+    count < LEAST
+}
+
+// The bytes that are counted.
+pub fn count_bytes(count: u16) -> u32
+    ensures value { λ r. ⌜ r ≡ countBytes count ⌝ }
+    ensures bound { λ r. ⌜ r ≤ 65534 ⌝ }
+{
+    if in_words(count) {
+        2 * count as u32
+    } else {
+        TURN - count as u32
+    }
+}
+
+// Whether a read may ask for that count.
+pub fn readable(count: u16) -> bool
+    ensures { λ r. ⌜ r ≡ readable count ⌝ }
+{
+    if in_words(count) {
+        count <= MOST_READ_WORDS
+    } else {
+        count_bytes(count) <= MOST_READ_BYTES
+    }
+}
+
+// n bytes, in the unit asked.
+pub fn log_of(words: bool, n: u16) -> u16
+    ensures { λ r. ⌜ r ≡ logOf words n ⌝ }
+{
+    if words { n / 2 + n % 2 } else { n }
+}
