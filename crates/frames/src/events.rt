@@ -2,8 +2,8 @@
 ghost use mathlib.Core.Path.{_≡_};
 ghost use lib.ListN.{getD};
 ghost use Rattle.rules.specs.Frames.{controlFrame, frameOf};
-use crate::counts::count_bytes;
 use crate::operations;
+use counts::count_bytes;
 use kinds::Control;
 use kinds::Event;
 use kinds::Frame;

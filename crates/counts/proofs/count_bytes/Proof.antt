@@ -3,8 +3,8 @@ use native.Mathlib.Omega.{arith}
 use borrow.Author.Tests.{ltb-true, ltb-false}
 use Rattle.rules.specs.Count.{inWords, countBytes}
 use borrow.Author.Needs.{needs}
-use Rattle.frames.proofs.counts.count_bytes.Statement.{statement}
-use Rattle.frames.proofs.counts.count_bytes.Tie as tie
+use Rattle.counts.proofs.count_bytes.Statement.{statement}
+use Rattle.counts.proofs.count_bytes.Tie as tie
 
 in-words-requires : tie.Need-in-words-requires
 in-words-requires c κs = search needs

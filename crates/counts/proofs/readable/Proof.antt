@@ -1,8 +1,8 @@
 use mathlib.Core.Path.{sym, _∙_}
 use Rattle.rules.specs.Count.{readable}
 use borrow.Author.Needs.{needs}
-use Rattle.frames.proofs.counts.readable.Statement.{statement}
-use Rattle.frames.proofs.counts.readable.Tie as tie
+use Rattle.counts.proofs.readable.Statement.{statement}
+use Rattle.counts.proofs.readable.Tie as tie
 
 in-words-requires : tie.Need-in-words-requires
 in-words-requires c κs = search needs

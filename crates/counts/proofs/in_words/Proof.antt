@@ -1,7 +1,7 @@
 use mathlib.Core.Path.{refl}
 use Rattle.rules.specs.Count.{inWords}
-use Rattle.frames.proofs.counts.in_words.Statement.{statement}
-use Rattle.frames.proofs.counts.in_words.Tie as tie
+use Rattle.counts.proofs.in_words.Statement.{statement}
+use Rattle.counts.proofs.in_words.Tie as tie
 
 returns : tie.Need-returns
 unfolding inWords

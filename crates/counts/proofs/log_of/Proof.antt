@@ -1,8 +1,8 @@
 use native.Mathlib.Omega.{arith}
 use Rattle.rules.specs.Count.{logOf}
 use borrow.Author.Needs.{needs}
-use Rattle.frames.proofs.counts.log_of.Statement.{statement}
-use Rattle.frames.proofs.counts.log_of.Tie as tie
+use Rattle.counts.proofs.log_of.Statement.{statement}
+use Rattle.counts.proofs.log_of.Tie as tie
 
 add-result : tie.Need-add-result
 add-result c = search needs
