@@ -6,10 +6,10 @@ use mathlib.Core.Option.{Option, none, some, Option·some-injective, Option·non
 use Prim.Native.Nat.{ℕ, zero, suc, _+_, _≤_}
 use native.Mathlib.Omega.{arith}
 use lib.Dec.{eqb}
-use lib.ListN.{length, getD, set, replicate}
+use lib.ListN.{length, getD, set}
 use Rattle.rules.specs.State.{Req, Acc, Timer, Hap, arms, Built}
 use Rattle.rules.specs.Store.{purge}
-use Rattle.rules.specs.Requests.{countAcc, opened, alter, withAccs, withQueues, withTimers, withStore, alterAcc, say, withReq, armIn, requeue, arm, wait}
+use Rattle.rules.specs.Requests.{countAcc, isWriter, writers, opened, alter, withAccs, withQueues, withTimers, withStore, alterAcc, say, withReq, armIn, requeue, arm, wait}
 use Rattle.rules.specs.Open.{firstFree, purged}
 use Rattle.rules.proofs.Split.{both}
 
@@ -22,6 +22,14 @@ length-alter f (none ∷ l) zero = refl
 length-alter f (some a ∷ l) zero = refl
 length-alter f (none ∷ l) (suc p) = ap suc (length-alter f l p)
 length-alter f (some a ∷ l) (suc p) = ap suc (length-alter f l p)
+
+pub getD-alter-same : (f : Acc → Acc) (a : Acc) (l : List (Option Acc)) (p : ℕ) → getD l p none ≡ some a → getD (alter f l p) p none ≡ some (f a)
+unfolding alter
+getD-alter-same f a [] p e = absurd (Option·none-ne-some a e)
+getD-alter-same f a (none ∷ l) zero e = absurd (Option·none-ne-some a e)
+getD-alter-same f a (some c ∷ l) zero e = cc (Option·some-injective c a e)
+getD-alter-same f a (none ∷ l) (suc p) e = getD-alter-same f a l p e
+getD-alter-same f a (some c ∷ l) (suc p) e = getD-alter-same f a l p e
 
 pub getD-alter-other : (f : Acc → Acc) (l : List (Option Acc)) (p x : ℕ) → (p ≡ x → ⊥) → getD (alter f l p) x none ≡ getD l x none
 unfolding alter
@@ -42,6 +50,10 @@ countAcc-alter t f h (some a ∷ l) zero = rw h
 countAcc-alter t f h (none ∷ l) (suc p) = countAcc-alter t f h l p
 countAcc-alter t f h (some a ∷ l) (suc p) = rw (countAcc-alter t f h l p)
 
+pub writers-withReq : (q : Req) (b : Built) (p : ℕ) → countAcc isWriter (alter (withReq q) (b .accs) p) ≡ writers b
+unfolding withReq isWriter writers
+writers-withReq q b p = countAcc-alter isWriter (withReq q) (λ a. refl) (b .accs) p
+
 -- one enters; one leaves
 
 pub countAcc-enter : (t : Acc → Bool) (a : Acc) (l : List (Option Acc)) → countAcc t (set l (firstFree l) (some a)) ≤ countAcc t l + cond (t a) 1 0
@@ -57,13 +69,6 @@ countAcc-vacate t a (none ∷ l) zero e = absurd (Option·none-ne-some a e)
 countAcc-vacate t a (some c ∷ l) zero e = omega (arith, ap (λ (x : Acc). cond {A = ℕ} (t x) 1 0) (Option·some-injective c a e))
 countAcc-vacate t a (none ∷ l) (suc p) e = countAcc-vacate t a l p e
 countAcc-vacate t a (some c ∷ l) (suc p) e = omega (arith, countAcc-vacate t a l p e)
-
--- nobody yet
-
-pub getD-replicate-none : (n x : ℕ) → getD {A = Option Acc} (replicate n none) x none ≡ none
-getD-replicate-none zero x = refl
-getD-replicate-none (suc n) zero = refl
-getD-replicate-none (suc n) (suc x) = getD-replicate-none n x
 
 -- every place behind such a change, beside what it was
 

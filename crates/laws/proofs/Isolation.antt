@@ -2,9 +2,9 @@
 use mathlib.Core.Path.{_≡_, refl, sym, ap, _∙_}
 use mathlib.Core.Bool.{Bool, true, false}
 use mathlib.Core.List.{List, [], _∷_, _++_, append-assoc, append-nil}
-use Prim.Native.Nat.{ℕ, zero, suc}
+use Prim.Native.Nat.{ℕ}
 use lib.Dec.{ltb, eqb}
-use lib.ListN.{length, getD, set, length-set, length-map, List·getD-map, replicate}
+use lib.ListN.{length, length-set, length-map, List·getD-map}
 use lib.Seq.{getD-set-same, getD-set-other}
 use borrow.Author.Tests.{ltb-true, eqb-true, eqb-false}
 use Rattle.rules.specs.Limits.{files}
@@ -15,6 +15,7 @@ use Rattle.rules.specs.Calls.{Ask, ask, refusal}
 use Rattle.rules.specs.Desk.{Call, Asked, on, time, bad, asked, Desk, freshDesk, fileOf, fileTime, Responded, answered, respond, replies, after, happens, history}
 use Rattle.rules.proofs.Split.{both}
 use Rattle.laws.specs.Runs.{Own, call, wait, mine, only, names, theirs, Proper}
+use Rattle.laws.proofs.Lists.{getD-replicate-same}
 use Rattle.laws.proofs.Proper.{ProperAsked, asked-proper}
 
 -- one file by itself
@@ -45,33 +46,37 @@ ownPast f x (o ∷ os) = ownHaps f x o ++ ownPast f (ownFile f x o) os
 
 -- one call, seen from file f
 
-eight : (d : Desk) (a : Asked) → length d ≡ files → length (answered d a .desk) ≡ files
+pub length-answered : (d : Desk) (a : Asked) → length d ≡ files → length (answered d a .desk) ≡ files
 unfolding answered
-eight d (on g q) n = both (λ (r : Responded). length (r .desk) ≡ files) (ltb g files) (λ _. length-set d g _ ∙ n) (λ _. n)
-eight d (time e) n = length-map d (fileTime e) ∙ n
-eight d bad n = n
+length-answered d (on g q) n = both (λ (r : Responded). length (r .desk) ≡ files) (ltb g files) (λ _. length-set d g _ ∙ n) (λ _. n)
+length-answered d (time e) n = length-map d (fileTime e) ∙ n
+length-answered d bad n = n
 
--- a call that names f, and one that names another
-named : (d : Desk) (f : ℕ) (q : Ask) → length d ≡ files → (fileOf (answered d (on f q) .desk) f ≡ ownFile f (fileOf d f) (call q)) × (answered d (on f q) .reply ∷ [] ≡ ownHears f (fileOf d f) (call q))
+-- a call that names f, one that names another, and time
+pub answered-named : (d : Desk) (f : ℕ) (q : Ask) → length d ≡ files → (fileOf (answered d (on f q) .desk) f ≡ ownFile f (fileOf d f) (call q)) × (answered d (on f q) .reply ∷ [] ≡ ownHears f (fileOf d f) (call q))
 unfolding answered fileOf ownFile ownHears
-named d f q n = go (ltb f files) refl
+answered-named d f q n = go (ltb f files) refl
   where
     go : (t : Bool) → ltb f files ≡ t → (fileOf (answered d (on f q) .desk) f ≡ ownFile f (fileOf d f) (call q)) × (answered d (on f q) .reply ∷ [] ≡ ownHears f (fileOf d f) (call q))
     go true e = rw (e, answered, ownFile, ownHears) (getD-set-same d f _ unbuilt (rw n (ltb-true f files e)), refl)
     go false e = rw (e, answered, ownFile, ownHears) (refl, refl)
 
-other : (d : Desk) (f g : ℕ) (q : Ask) → eqb g f ≡ false → fileOf (answered d (on g q) .desk) f ≡ fileOf d f
+pub answered-other : (d : Desk) (f g : ℕ) (q : Ask) → eqb g f ≡ false → fileOf (answered d (on g q) .desk) f ≡ fileOf d f
 unfolding answered fileOf
-other d f g q h = both (λ (r : Responded). fileOf (r .desk) f ≡ fileOf d f) (ltb g files) (λ _. getD-set-other d g f _ unbuilt (λ e. eqb-false g f h (sym e))) (λ _. refl)
+answered-other d f g q h = both (λ (r : Responded). fileOf (r .desk) f ≡ fileOf d f) (ltb g files) (λ _. getD-set-other d g f _ unbuilt (λ e. eqb-false g f h (sym e))) (λ _. refl)
+
+pub answered-time : (d : Desk) (f e : ℕ) → fileOf (answered d (time e) .desk) f ≡ fileTime e (fileOf d f)
+unfolding answered fileOf fileTime timePasses unmade
+answered-time d f e = List·getD-map (fileTime e) d f unbuilt
 
 step-file : (f : ℕ) (d : Desk) (a : Asked) → length d ≡ files → fileOf (answered d a .desk) f ≡ ownAfter f (fileOf d f) (mine f a)
 unfolding mine ownAfter
 step-file f d (on g q) n = go (eqb g f) refl
   where
     go : (t : Bool) → eqb g f ≡ t → fileOf (answered d (on g q) .desk) f ≡ ownAfter f (fileOf d f) (mine f (on g q))
-    go true e = rw (e, mine, ← eqb-true g f e) (named d g q n .0)
-    go false e = rw (e, mine) (other d f g q e)
-step-file f d (time e) n = unfold answered fileOf ownFile fileTime timePasses unmade in List·getD-map (fileTime e) d f unbuilt
+    go true e = rw (e, mine, ← eqb-true g f e) (answered-named d g q n .0)
+    go false e = rw (e, mine) (answered-other d f g q e)
+step-file f d (time e) n = unfold ownFile in answered-time d f e
 step-file f d bad n = unfold answered in refl
 
 step-haps : (f : ℕ) (d : Desk) (a : Asked) → happens f d a ≡ ownPast f (fileOf d f) (mine f a)
@@ -93,47 +98,47 @@ unfolding mine ownHeard ownHears names heardOf
 step-hears f d (on g q) rs n = go (eqb g f) refl
   where
     go : (t : Bool) → eqb g f ≡ t → heardOf (eqb g f) (answered d (on g q) .reply) rs ≡ ownHeard f (fileOf d f) (mine f (on g q)) ++ rs
-    go true e = rw (e, mine, append-nil, ← eqb-true g f e, ← named d g q n .1)
+    go true e = rw (e, mine, append-nil, ← eqb-true g f e, ← answered-named d g q n .1)
     go false e = rw (e, mine)
 step-hears f d (time e) rs n = refl
 step-hears f d bad rs n = refl
 
 -- rows of calls
-after-more : (f : ℕ) (os ps : List Own) (x : File) → ownAfter f x (os ++ ps) ≡ ownAfter f (ownAfter f x os) ps
+ownAfter-append : (f : ℕ) (os ps : List Own) (x : File) → ownAfter f x (os ++ ps) ≡ ownAfter f (ownAfter f x os) ps
 unfolding ownAfter
-after-more f [] ps x = refl
-after-more f (o ∷ os) ps x = after-more f os ps (ownFile f x o)
+ownAfter-append f [] ps x = refl
+ownAfter-append f (o ∷ os) ps x = ownAfter-append f os ps (ownFile f x o)
 
-past-more : (f : ℕ) (os ps : List Own) (x : File) → ownPast f x (os ++ ps) ≡ ownPast f x os ++ ownPast f (ownAfter f x os) ps
+ownPast-append : (f : ℕ) (os ps : List Own) (x : File) → ownPast f x (os ++ ps) ≡ ownPast f x os ++ ownPast f (ownAfter f x os) ps
 unfolding ownPast ownAfter
-past-more f [] ps x = refl
-past-more f (o ∷ os) ps x = rw (past-more f os ps (ownFile f x o)) (sym (append-assoc (ownHaps f x o) (ownPast f (ownFile f x o) os) _))
+ownPast-append f [] ps x = refl
+ownPast-append f (o ∷ os) ps x = rw (ownPast-append f os ps (ownFile f x o)) (sym (append-assoc (ownHaps f x o) (ownPast f (ownFile f x o) os) _))
 
-heard-more : (f : ℕ) (os ps : List Own) (x : File) → ownHeard f x (os ++ ps) ≡ ownHeard f x os ++ ownHeard f (ownAfter f x os) ps
+ownHeard-append : (f : ℕ) (os ps : List Own) (x : File) → ownHeard f x (os ++ ps) ≡ ownHeard f x os ++ ownHeard f (ownAfter f x os) ps
 unfolding ownHeard ownAfter
-heard-more f [] ps x = refl
-heard-more f (o ∷ os) ps x = rw (heard-more f os ps (ownFile f x o)) (sym (append-assoc (ownHears f x o) (ownHeard f (ownFile f x o) os) _))
+ownHeard-append f [] ps x = refl
+ownHeard-append f (o ∷ os) ps x = rw (ownHeard-append f os ps (ownFile f x o)) (sym (append-assoc (ownHears f x o) (ownHeard f (ownFile f x o) os) _))
 
 -- a run, seen from f, is f's own run
 pub after-own : (f : ℕ) (cs : List Call) (d : Desk) → length d ≡ files → fileOf (after d cs) f ≡ ownAfter f (fileOf d f) (only f cs)
 unfolding after only respond
 after-own f [] d n = unfold ownAfter in refl
 after-own f (c ∷ cs) d n =
-    after-own f cs (answered d (asked c) .desk) (eight d (asked c) n) ∙ ap (λ (x : File). ownAfter f x (only f cs)) (step-file f d (asked c) n) ∙ sym (after-more f (mine f (asked c)) (only f cs) (fileOf d f))
+    after-own f cs (answered d (asked c) .desk) (length-answered d (asked c) n) ∙ ap (λ (x : File). ownAfter f x (only f cs)) (step-file f d (asked c) n) ∙ sym (ownAfter-append f (mine f (asked c)) (only f cs) (fileOf d f))
 
 pub past-own : (f : ℕ) (cs : List Call) (d : Desk) → length d ≡ files → history f d cs ≡ ownPast f (fileOf d f) (only f cs)
 unfolding history only respond
 past-own f [] d n = unfold ownPast in refl
 past-own f (c ∷ cs) d n =
-    let ih = past-own f cs (answered d (asked c) .desk) (eight d (asked c) n) in
-    rw (step-haps f d (asked c), ih, step-file f d (asked c) n) (sym (past-more f (mine f (asked c)) (only f cs) (fileOf d f)))
+    let ih = past-own f cs (answered d (asked c) .desk) (length-answered d (asked c) n) in
+    rw (step-haps f d (asked c), ih, step-file f d (asked c) n) (sym (ownPast-append f (mine f (asked c)) (only f cs) (fileOf d f)))
 
 heard-own : (f : ℕ) (cs : List Call) (d : Desk) → length d ≡ files → theirs f cs (replies d cs) ≡ ownHeard f (fileOf d f) (only f cs)
 unfolding theirs replies only respond heardOf
 heard-own f [] d n = unfold ownHeard in refl
 heard-own f (c ∷ cs) d n =
-    let ih = heard-own f cs (answered d (asked c) .desk) (eight d (asked c) n) in
-    step-hears f d (asked c) _ n ∙ rw (ih, step-file f d (asked c) n) (sym (heard-more f (mine f (asked c)) (only f cs) (fileOf d f)))
+    let ih = heard-own f cs (answered d (asked c) .desk) (length-answered d (asked c) n) in
+    step-hears f d (asked c) _ n ∙ rw (ih, step-file f d (asked c) n) (sym (ownHeard-append f (mine f (asked c)) (only f cs) (fileOf d f)))
 
 -- two runs from a fresh desk that hold the same for f
 pub record Alike (f : ℕ) (r s : List Call) : Type 0 where
@@ -149,20 +154,11 @@ isolation f r s e = record {
   tell = cc (past-own f r freshDesk refl, past-own f s freshDesk refl);
 }
 
-none-built : (n f : ℕ) → getD (replicate n unbuilt) f unbuilt ≡ unbuilt
-none-built zero f = refl
-none-built (suc n) zero = refl
-none-built (suc n) (suc f) = none-built n f
-
 pub fresh-file : (f : ℕ) → fileOf freshDesk f ≡ unbuilt
 unfolding fileOf freshDesk
-fresh-file f = none-built files f
+fresh-file f = getD-replicate-same unbuilt files f
 
 -- what holds of an unbuilt file, and is kept by each proper call and by time, holds of each file after any run from a fresh desk
-unfoldable pub ProperOwn : Own → Type 0
-ProperOwn (call q) = Proper q
-ProperOwn (wait e) = Unit {0}
-
 module _ (P : File → Type 0) (start : P unbuilt) (kept : (x : File) (q : Ask) → Proper q → P x → P (ask x q .file)) (aged : (e : ℕ) (x : File) → P x → P (fileTime e x)) where
   own-kept : (f : ℕ) (x : File) (a : Asked) → ProperAsked a → P x → P (ownAfter f x (mine f a))
   unfolding mine ownAfter ownFile ProperAsked
@@ -175,7 +171,7 @@ module _ (P : File → Type 0) (start : P unbuilt) (kept : (x : File) (q : Ask) 
   own-run : (f : ℕ) (cs : List Call) (x : File) → P x → P (ownAfter f x (only f cs))
   unfolding only
   own-run f [] x h = unfold ownAfter in h
-  own-run f (c ∷ cs) x h = rw (after-more f (mine f (asked c)) (only f cs) x) (own-run f cs _ (own-kept f x (asked c) (asked-proper c) h))
+  own-run f (c ∷ cs) x h = rw (ownAfter-append f (mine f (asked c)) (only f cs) x) (own-run f cs _ (own-kept f x (asked c) (asked-proper c) h))
 
   pub always : (f : ℕ) (cs : List Call) → P (fileOf (after freshDesk cs) f)
   always f cs = rw (after-own f cs freshDesk (unfold freshDesk in refl)) (own-run f cs (fileOf freshDesk f) (rw fresh-file start))

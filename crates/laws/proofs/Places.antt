@@ -19,10 +19,11 @@ use Rattle.laws.specs.Changes.{Walks, Starts}
 use Rattle.laws.specs.Places.{Eight}
 use Rattle.laws.proofs.Files.{on-file}
 use Rattle.laws.proofs.Accessors.{length-alter, wait-keeps, purged-keeps}
+use Rattle.laws.proofs.Walk.{lapsed}
 use Rattle.laws.proofs.Lift.{lifted}
 
 eight-walks : Walks Eight (λ n. Eight)
-unfolding alterAcc withAccs withQueues withTimers withStore say requeue leave finish cancel freed lessen behind putRec enter vacate
+unfolding alterAcc withAccs withQueues withTimers withStore say requeue leave finish cancel freed behind putRec enter vacate
 eight-walks = record {
   mild = λ p f b _ s. length-alter f (b .accs) p ∙ s;
   finishes = λ p st q a r b _ _ _ s. length-alter (withReq q) (b .accs) p ∙ s;
@@ -30,7 +31,6 @@ eight-walks = record {
   readWaits = λ p n l wd k a b _ _ _ _ s. wait-keeps Eight false p n _ b (λ r w ts hs. length-alter _ (b .accs) p ∙ s);
   writeWaits = λ p n wd d a b _ _ _ _ s. wait-keeps Eight true p n _ b (λ r w ts hs. length-alter _ (b .accs) p ∙ s);
   frees = λ p a b _ _ s. length-alter _ (b .accs) p ∙ s;
-  lessens = λ e b s. s;
   fetches = λ typed keep b s. s;
   writes = λ p a d b _ _ _ _ s. s;
   serves = λ p a wd d b _ _ _ s. s;
@@ -47,7 +47,7 @@ unfolding newFile loaded say
 eight-starts = record { built = λ g _. refl; loads = λ s _. refl }
 
 pub eight-places : (f : ℕ) (cs : List Call) → OnFile Eight (fileOf (after freshDesk cs) f)
-eight-places f cs = lifted Eight (λ n. Eight) eight-walks eight-starts (λ b s. unfold hushed in s) f cs
+eight-places f cs = lifted Eight (λ n. Eight) eight-walks (lapsed Eight (λ n. Eight) eight-walks (λ e b s. unfold lessen withTimers in s)) eight-starts (λ b s. unfold hushed in s) f cs
 
 -- no accessor from place 8 on
 pub accAt-high : (b : Built) (p : ℕ) → Eight b → places ≤ p → accAt b p ≡ none

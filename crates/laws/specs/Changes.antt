@@ -1,9 +1,9 @@
 -- The small changes of which every call is made, and what a law has to show of each to hold over all runs.
 use mathlib.Core.Path.{_≡_}
 use mathlib.Core.Bool.{Bool, true, false}
-use mathlib.Core.List.{List, [], _∷_}
-use mathlib.Core.Option.{Option, some}
-use Prim.Native.Nat.{ℕ, _+_, _*_, _≤_}
+use mathlib.Core.List.{List}
+use mathlib.Core.Option.{some}
+use Prim.Native.Nat.{ℕ, _*_, _≤_}
 use lib.ListN.{length}
 use Rattle.rules.specs.Limits.{mostWords, mostFactor, shareWords, mostReadBytes, leastCapacity}
 use Rattle.rules.specs.Geometry.{capacity, blockSize}
@@ -16,6 +16,7 @@ use Rattle.rules.specs.Close.{closeRec, vacate, lessen}
 use Rattle.rules.specs.Sheet.{Sheet, loaded}
 use Rattle.shares.specs.Groups.{All}
 use Rattle.shares.specs.Laid.{GoodRec}
+use Rattle.laws.specs.Outstanding.{awaits, uncollected}
 
 -- a geometry that build or load makes
 pub record GoodGeo (g : Geo) : Type 0 where
@@ -44,30 +45,18 @@ pub data Ends (st : ℕ) : Req → Req → Type 0 where
   readEnds : {w k : Bool} {l g : ℕ} {d : List ℕ} → length d ≤ l → Ends st (reading w l k) (readDone st g d)
   writeEnds : {w : Bool} {g : ℕ} {d : List ℕ} → Ends st (writing w d) (writeDone st g)
 
--- a request that stands in a queue; one that is completed
-unfoldable pub waiting : Req → Bool
-waiting idle = false
-waiting (reading w l k) = true
-waiting (writing w d) = true
-waiting (readDone s l d) = false
-waiting (writeDone s l) = false
+-- what a waiting request that completes keeps
+abbrev pub Finishes : (Built → Type 0) → Type 0
+Finishes I = (p st : ℕ) (q : Req) (a : Acc) (r : Req) (b : Built) → accAt b p ≡ some a → a .req ≡ r → Ends st r q → I b → I (finish p st q b)
 
-unfoldable pub completed : Req → Bool
-completed idle = false
-completed (reading w l k) = false
-completed (writing w d) = false
-completed (readDone s l d) = true
-completed (writeDone s l) = true
-
--- what every change keeps: I, and J n while the close record of a writer with the ID n is owed
+-- what every change that a call makes keeps: I, and J n while the close record of a writer with the ID n is owed
 pub record Walks (I : Built → Type 0) (J : ℕ → Built → Type 0) : Type 0 where
   pub mild : (p : ℕ) (f : Acc → Acc) (b : Built) → Mild f → I b → I (alterAcc p f b)
-  pub finishes : (p st : ℕ) (q : Req) (a : Acc) (r : Req) (b : Built) → accAt b p ≡ some a → a .req ≡ r → Ends st r q → I b → I (finish p st q b)
-  pub cancels : (p : ℕ) (a : Acc) (b : Built) → accAt b p ≡ some a → waiting (a .req) ≡ true → I b → I (cancel p b)
+  pub finishes : Finishes I
+  pub cancels : (p : ℕ) (a : Acc) (b : Built) → accAt b p ≡ some a → awaits (a .req) ≡ 1 → I b → I (cancel p b)
   pub readWaits : (p n l : ℕ) (wd k : Bool) (a : Acc) (b : Built) → accAt b p ≡ some a → a .req ≡ idle → a .writer ≡ false → l ≤ mostReadBytes → I b → I (wait false p n (reading wd l k) b)
   pub writeWaits : (p n : ℕ) (wd : Bool) (d : List ℕ) (a : Acc) (b : Built) → accAt b p ≡ some a → a .req ≡ idle → a .writer ≡ true → length d ≤ 2 * b .geo .words → I b → I (wait true p n (writing wd d) b)
-  pub frees : (p : ℕ) (a : Acc) (b : Built) → accAt b p ≡ some a → completed (a .req) ≡ true → I b → I (freed p b)
-  pub lessens : (e : ℕ) (b : Built) → I b → I (lessen e b)
+  pub frees : (p : ℕ) (a : Acc) (b : Built) → accAt b p ≡ some a → uncollected (a .req) ≡ 1 → I b → I (freed p b)
   pub fetches : (typed keep : Bool) (b : Built) → I b → I (behind (fetch (b .geo) typed keep (b .store)) b)
   -- a data record is put: at once, and for a waiting writer
   pub writes : (p : ℕ) (a : Acc) (d : List ℕ) (b : Built) → accAt b p ≡ some a → a .writer ≡ true → length d ≤ 2 * b .geo .words → fits b ≡ true → I b → I (putRec (dataRec a d) b)
@@ -76,9 +65,9 @@ pub record Walks (I : Built → Type 0) (J : ℕ → Built → Type 0) : Type 0 
   pub enters : (s : ℕ) (b : Built) → I b → I (enter (newAcc false 0 s) b)
   pub joins : (access n s : ℕ) (b : Built) → 1 ≤ n → roomToOpen access b ≡ true → I b → I (enter (newAcc true n s) (putRec (openRec n) (purged access b)))
   -- a reader leaves; a writer leaves, the last one's readers end, its close record is put
-  pub leaves : (p : ℕ) (a : Acc) (b : Built) → accAt b p ≡ some a → waiting (a .req) ≡ false → a .writer ≡ false → I b → I (vacate p b)
-  pub parts : (p : ℕ) (a : Acc) (b : Built) → accAt b p ≡ some a → waiting (a .req) ≡ false → a .writer ≡ true → I b → J (a .ident) (vacate p b)
-  pub endings : (n p st : ℕ) (q : Req) (a : Acc) (r : Req) (b : Built) → accAt b p ≡ some a → a .req ≡ r → Ends st r q → J n b → J n (finish p st q b)
+  pub leaves : (p : ℕ) (a : Acc) (b : Built) → accAt b p ≡ some a → a .req ≡ idle → a .writer ≡ false → I b → I (vacate p b)
+  pub parts : (p : ℕ) (a : Acc) (b : Built) → accAt b p ≡ some a → a .req ≡ idle → a .writer ≡ true → I b → J (a .ident) (vacate p b)
+  pub endings : (n : ℕ) → Finishes (J n)
   pub closes : (n : ℕ) (b : Built) → J n b → I (putRec (closeRec n) b)
 
 -- what holds of a file that has settled, and stays where a call does not settle

@@ -1,5 +1,15 @@
 pub mod Runs
+pub mod Outstanding
 pub mod Changes
-pub mod Room
+pub mod Counts
 pub mod Places
 pub mod Bounds
+pub mod Room
+pub mod Queues
+pub mod Rest
+pub mod Apart
+pub mod Sides
+pub mod One
+pub mod Timers
+pub mod Entries
+pub mod Midst

@@ -1,24 +1,16 @@
--- A file's room: one place is kept for the close record of each open writer.
-use mathlib.Core.Path.{_≡_}
-use mathlib.Core.List.{[]}
-use Prim.Native.Nat.{ℕ, suc, _+_, _≤_, _<_}
+-- A file's room: its share holds its records, and one place is kept for the close record of each open writer.
+use Prim.Native.Nat.{ℕ, suc, _+_, _≤_}
 use Rattle.rules.specs.Geometry.{capacity}
 use Rattle.rules.specs.State.{Geo, Store, Built}
 use Rattle.rules.specs.Store.{used}
 use Rattle.rules.specs.Requests.{writers}
+use Rattle.shares.specs.Holds.{Holds}
 use Rattle.laws.specs.Changes.{GoodGeo}
-
--- where a store stands in the ring of blocks
-pub record Ring (g : Geo) (s : Store) : Type 0 where
-  pub block : s .block < g .blocks
-  pub spent : s .spent < g .factor
-  -- "A file that becomes empty has used = 0"
-  pub empty : s .recs ≡ [] → s .spent ≡ 0
 
 -- a store with w close records to come
 pub record Kept (g : Geo) (s : Store) (w : ℕ) : Type 0 where
   pub geo : GoodGeo g
-  pub ring : Ring g s
+  pub holds : Holds g s
   pub places : used s + w ≤ capacity (g .factor) (g .blocks)
   -- and an empty one has room for a data record
   pub one-more : w + 1 ≤ capacity (g .factor) (g .blocks)

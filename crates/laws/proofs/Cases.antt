@@ -1,0 +1,77 @@
+-- The cases of a turn and of a request that fails, for laws that follow them.
+use mathlib.Core.Path.{_≡_, refl, ap, _∙_}
+use mathlib.Core.Bool.{Bool, true, false}
+use mathlib.Core.List.{List, [], _∷_}
+use mathlib.Core.Option.{none, some}
+use Prim.Native.Nat.{ℕ}
+use native.Mathlib.Omega.{arith}
+use lib.ListN.{length}
+use Rattle.rules.specs.State.{Rec, Req, idle, reading, writing, readDone, writeDone, Acc, Built}
+use Rattle.rules.specs.Store.{fetch}
+use Rattle.rules.specs.Count.{logOf}
+use Rattle.rules.specs.Requests.{accAt, fits, putRec, behind, finish, failReq, fail}
+use Rattle.rules.specs.Settle.{handed, readResult, dataRec, Turn, still, onward, serveReader, serveWriter, atHead, turn}
+use Rattle.rules.proofs.Split.{both, opt, pick-true, pick-false}
+use Rattle.laws.specs.Outstanding.{reqOf, reqAt, waitsRead, waitsWrite, awaits}
+use Rattle.laws.specs.Changes.{Ends, readEnds, writeEnds}
+
+-- a reader that does not wait; one that finds nothing; one that is served
+pub reader-cases : (P : Turn → Type 0) (p : ℕ) (a : Acc) (q : Req) (b : Built) → (waitsRead q ≡ 0 → serveReader p a q b ≡ still b → P (still b))
+    → ((w k : Bool) (l : ℕ) → q ≡ reading w l k → fetch (b .geo) (a .typed) k (b .store) .got ≡ none → P (still (behind (fetch (b .geo) (a .typed) k (b .store)) b)))
+    → ((w k : Bool) (l : ℕ) (r : Rec) → q ≡ reading w l k → fetch (b .geo) (a .typed) k (b .store) .got ≡ some r → P (onward (finish p 0 (readResult w (handed (a .typed) l r)) (behind (fetch (b .geo) (a .typed) k (b .store)) b))))
+    → P (serveReader p a q b)
+unfolding serveReader waitsRead
+reader-cases P p a (reading w l k) b i n s = opt P (fetch (b .geo) (a .typed) k (b .store) .got) (n w k l refl) (λ r. s w k l r refl)
+reader-cases P p a idle b i n s = i refl refl
+reader-cases P p a (writing w d) b i n s = i refl refl
+reader-cases P p a (readDone st l d) b i n s = i refl refl
+reader-cases P p a (writeDone st l) b i n s = i refl refl
+
+-- a writer that does not wait; one whose record does not fit; one that is served
+pub writer-cases : (P : Turn → Type 0) (p : ℕ) (a : Acc) (q : Req) (b : Built) → (waitsWrite q ≡ 0 → P (still b)) → (fits b ≡ false → P (still b))
+    → ((w : Bool) (d : List ℕ) → q ≡ writing w d → fits b ≡ true → P (onward (finish p 0 (writeDone 0 (logOf w (length d))) (putRec (dataRec a d) b))))
+    → P (serveWriter p a q b)
+unfolding serveWriter waitsWrite
+writer-cases P p a (writing w d) b i n s = both P (fits b) (s w d refl) n
+writer-cases P p a idle b i n s = i refl
+writer-cases P p a (reading w l k) b i n s = i refl
+writer-cases P p a (readDone st l d) b i n s = i refl
+writer-cases P p a (writeDone st l) b i n s = i refl
+
+-- nobody at the head; somebody
+pub head-cases : (P : Turn → Type 0) (serve : ℕ → Acc → Req → Built → Turn) (l : List ℕ) (b : Built) → (atHead serve l b ≡ still b → P (still b))
+    → ((p : ℕ) (rest : List ℕ) (a : Acc) → l ≡ p ∷ rest → accAt b p ≡ some a → P (serve p a (a .req) b)) → P (atHead serve l b)
+unfolding atHead
+head-cases P serve [] b i s = i refl
+head-cases P serve (p ∷ l) b i s = opt P (accAt b p) (λ e. i (rw (e, atHead))) (λ a. s p l a refl)
+
+-- the head that is served, once known
+pub atHead-some : (serve : ℕ → Acc → Req → Built → Turn) (p : ℕ) (l : List ℕ) (a : Acc) (b : Built) → accAt b p ≡ some a → atHead serve (p ∷ l) b ≡ serve p a (a .req) b
+unfolding atHead
+atHead-some serve p l a b e = rw (e, atHead)
+
+-- the first reader moves; else the first writer's turn it is
+pub turn-reader : (b : Built) → atHead serveReader (b .rq) b .moved ≡ true → turn b ≡ atHead serveReader (b .rq) b
+unfolding turn
+turn-reader b e = pick-true (atHead serveReader (b .rq) b .moved) _ _ e
+
+pub turn-writer : (b : Built) → atHead serveReader (b .rq) b .moved ≡ false → turn b ≡ atHead serveWriter (b .wq) (atHead serveReader (b .rq) b .file)
+unfolding turn
+turn-writer b e = pick-false (atHead serveReader (b .rq) b .moved) _ _ e
+
+pub turn-still : (b : Built) → atHead serveReader (b .rq) b ≡ still b → atHead serveWriter (b .wq) b ≡ still b → turn b ≡ still b
+unfolding still
+turn-still b r w = turn-writer b (ap (λ (m : Turn). m .moved) r) ∙ ap (λ (m : Turn). atHead serveWriter (b .wq) (m .file)) r ∙ w
+
+-- no request waits; one does, and ends with a status and brings nothing
+pub fail-cases : (P : Built → Type 0) (p st : ℕ) (b : Built) → (awaits (reqAt (b .accs) p) ≡ 0 → P b)
+    → ((q : Req) (a : Acc) (r : Req) → accAt b p ≡ some a → a .req ≡ r → Ends st r q → P (finish p st q b)) → P (fail p st b)
+unfolding fail accAt reqOf waitsRead waitsWrite
+fail-cases P p st b i f = opt P (accAt b p) (λ e. i (ap awaits (ap reqOf e))) (λ a e. go a e (a .req) refl)
+  where
+    go : (a : Acc) → accAt b p ≡ some a → (q : Req) → a .req ≡ q → P (failReq p st q b)
+    go a e idle r = unfold failReq in i (ap awaits (ap reqOf e ∙ r))
+    go a e (reading w l k) r = unfold failReq in f _ a _ e r (readEnds (omega arith))
+    go a e (writing w d) r = unfold failReq in f _ a _ e r writeEnds
+    go a e (readDone s l d) r = unfold failReq in i (ap awaits (ap reqOf e ∙ r))
+    go a e (writeDone s l) r = unfold failReq in i (ap awaits (ap reqOf e ∙ r))

@@ -1,0 +1,43 @@
+-- What is outstanding at a place: a request that waits, or is completed and not yet collected.
+use mathlib.Core.List.{List}
+use mathlib.Core.Option.{Option, none, some}
+use Prim.Native.Nat.{ℕ, _+_}
+use lib.ListN.{getD}
+use Rattle.rules.specs.State.{Req, idle, reading, writing, readDone, writeDone, Acc}
+
+-- the request of an accessor, and at a place: idle where there is none
+unfoldable pub reqOf : Option Acc → Req
+reqOf none = idle
+reqOf (some a) = a .req
+
+abbrev pub reqAt : List (Option Acc) → ℕ → Req
+reqAt l x = reqOf (getD l x none)
+
+-- 1 where a read waits, 1 where a write waits, 1 where a request is completed and not yet collected
+unfoldable pub waitsRead : Req → ℕ
+waitsRead idle = 0
+waitsRead (reading w l k) = 1
+waitsRead (writing w d) = 0
+waitsRead (readDone s l d) = 0
+waitsRead (writeDone s l) = 0
+
+unfoldable pub waitsWrite : Req → ℕ
+waitsWrite idle = 0
+waitsWrite (reading w l k) = 0
+waitsWrite (writing w d) = 1
+waitsWrite (readDone s l d) = 0
+waitsWrite (writeDone s l) = 0
+
+unfoldable pub uncollected : Req → ℕ
+uncollected idle = 0
+uncollected (reading w l k) = 0
+uncollected (writing w d) = 0
+uncollected (readDone s l d) = 1
+uncollected (writeDone s l) = 1
+
+-- 1 where a request waits; 1 where one is outstanding
+abbrev pub awaits : Req → ℕ
+awaits q = waitsRead q + waitsWrite q
+
+abbrev pub outstanding : Req → ℕ
+outstanding q = awaits q + uncollected q

@@ -1,0 +1,24 @@
+-- Reads belong to readers and writes to writers.
+use mathlib.Core.Path.{_≡_}
+use mathlib.Core.Bool.{Bool, true, false}
+use mathlib.Core.Option.{some}
+use Prim.Native.Nat.{ℕ, _≤_}
+use Rattle.rules.specs.State.{Req, idle, reading, writing, readDone, writeDone, Acc, Built}
+use Rattle.rules.specs.Requests.{accAt}
+
+-- a request that a writer may have, or a reader
+unfoldable pub Fitting : Bool → Req → Type 0
+Fitting writer idle = Unit {0}
+Fitting writer (reading w l k) = writer ≡ false
+Fitting writer (writing w d) = writer ≡ true
+Fitting writer (readDone st l d) = writer ≡ false
+Fitting writer (writeDone st l) = writer ≡ true
+
+-- "the writer's ID, from 1": a reader's is 0
+pub record Sided (a : Acc) : Type 0 where
+  pub request : Fitting (a .writer) (a .req)
+  pub reader : a .writer ≡ false → a .ident ≡ 0
+  pub writer : a .writer ≡ true → 1 ≤ a .ident
+
+abbrev pub Sides : Built → Type 0
+Sides b = (p : ℕ) (a : Acc) → accAt b p ≡ some a → Sided a
