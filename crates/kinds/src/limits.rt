@@ -10,6 +10,11 @@ pub const MOST_EXTENTS: u16 = 32;
 
 pub const SHARE_WORDS: u32 = 2048;
 
+// A file's share of the blocks, and an accessor place's record buffer.
+pub const SHARE_BYTES: usize = 4096;
+
+pub const BUFFER_BYTES: usize = 260;
+
 pub const MOST_READ_WORDS: u16 = 130;
 
 pub const MOST_READ_BYTES: u32 = 260;

@@ -10,9 +10,11 @@ use Rattle.rules.specs.State.{Timer}
 use Rattle.rules.specs.Requests.{armIn, without, withoutTimer}
 use Rattle.rules.specs.Close.{minus}
 use Rattle.rules.proofs.Split.{by-cases, bothc}
-use Rattle.laws.specs.Counts.{bit, count, placesOf, countT}
+use Rattle.tally.specs.Count.{bit, count}
+use Rattle.laws.specs.Counts.{placesOf, countT}
 use Rattle.laws.specs.Timers.{Sorted, Clock}
-use Rattle.laws.proofs.Counts.{at-or-else, bit-ne, count-without-same, count-without-other}
+use Rattle.tally.proofs.Counts.{bit-ne}
+use Rattle.laws.proofs.Counts.{at-or-else, count-without-same, count-without-other}
 
 -- one clause of `armIn` and of `withoutTimer`
 

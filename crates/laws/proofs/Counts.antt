@@ -10,34 +10,12 @@ use borrow.Author.Tests.{eqb-true, eqb-false, lt-ltb, le-ltb, eq-eqb, ne-eqb}
 use Rattle.rules.specs.Requests.{without}
 use Rattle.rules.specs.Allocation.{upFrom}
 use Rattle.rules.proofs.Split.{by-cases, bothc}
-use Rattle.laws.specs.Counts.{bit, count}
+use Rattle.tally.specs.Count.{bit, count}
+use Rattle.tally.proofs.Counts.{bit-eq, bit-ne}
 
 -- a place is p, or another
 pub at-or-else : (P : ℕ → Type 0) (p x : ℕ) → P p → ((p ≡ x → ⊥) → P x) → P x
 at-or-else P p x h k = by-cases (eqb p x) (λ e. subst P (eqb-true p x e) h) (λ e. k (eqb-false p x e))
-
-pub bit-eq : (x y : ℕ) → x ≡ y → bit (eqb x y) ≡ 1
-bit-eq x y e = ap bit (eq-eqb x y e)
-
-pub bit-ne : (x y : ℕ) → (x ≡ y → ⊥) → bit (eqb x y) ≡ 0
-bit-ne x y d = ap bit (ne-eqb x y d)
-
-pub count-head : (p : ℕ) (l : List ℕ) → 1 ≤ count p (p ∷ l)
-unfolding count
-count-head p l = omega (arith, bit-eq p p refl)
-
-pub count-append : (x : ℕ) (l m : List ℕ) → count x (l ++ m) ≡ count x l + count x m
-unfolding count
-count-append x [] m = omega arith
-count-append x (q ∷ l) m = omega (arith, count-append x l m)
-
-pub count-snoc-same : (p : ℕ) (l : List ℕ) → count p (l ++ (p ∷ [])) ≡ count p l + 1
-unfolding count
-count-snoc-same p l = omega (arith, count-append p l (p ∷ []), bit-eq p p refl)
-
-pub count-snoc-other : (x p : ℕ) (l : List ℕ) → (p ≡ x → ⊥) → count x (l ++ (p ∷ [])) ≡ count x l
-unfolding count
-count-snoc-other x p l h = omega (arith, count-append x l (p ∷ []), bit-ne p x h)
 
 pub count-without-same : (p : ℕ) (l : List ℕ) → count p (without p l) ≡ 0
 unfolding without count
@@ -59,19 +37,6 @@ length-without p [] = refl
 length-without p (q ∷ l) =
     let ih = length-without p l in
     by-cases (eqb q p) (λ e. rw e (omega (arith, ih))) (λ e. rw e (omega (arith, ih)))
-
--- the front of a list and what is behind it
-pub count-front : (x : ℕ) (l : List ℕ) → 1 ≤ length l → count x (drop 1 l) + count x (getD l 0 0 ∷ []) ≡ count x l
-unfolding count
-count-front x [] h = absurd (omega arith)
-count-front x (y ∷ l) h = omega arith
-
--- each number below n is there, so there are n
-pub pigeons : (n : ℕ) (l : List ℕ) → ((x : ℕ) → x < n → 1 ≤ count x l) → n ≤ length l
-pigeons zero l h = omega arith
-pigeons (suc n) l h =
-    let ih = pigeons n (without n l) (λ x k. rw (count-without-other n x l (λ e. omega arith)) (h x (omega arith))) in
-    omega (arith, ih, length-without n l, h n (omega arith))
 
 -- numbers in a row
 

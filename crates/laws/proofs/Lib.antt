@@ -21,6 +21,7 @@ pub mod Settled
 pub mod Rest
 pub mod Apart
 pub mod Sides
+pub mod Records
 pub mod One
 pub mod Timers
 pub mod Sieve

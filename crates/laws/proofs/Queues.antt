@@ -17,9 +17,11 @@ use Rattle.rules.specs.Desk.{Call, freshDesk, fileOf, after}
 use Rattle.laws.specs.Runs.{OnFile}
 use Rattle.laws.specs.Outstanding.{reqOf, reqAt, waitsRead, waitsWrite, uncollected, awaits}
 use Rattle.laws.specs.Changes.{Finishes, Walks, Starts}
-use Rattle.laws.specs.Counts.{count, placesOf, countT}
+use Rattle.tally.specs.Count.{count}
+use Rattle.laws.specs.Counts.{placesOf, countT}
 use Rattle.laws.specs.Queues.{Queued, Agree}
-use Rattle.laws.proofs.Counts.{bit-eq, bit-ne, count-snoc-same, count-snoc-other, count-without-same, count-without-other}
+use Rattle.tally.proofs.Counts.{bit-eq, bit-ne, count-snoc-same, count-snoc-other}
+use Rattle.laws.proofs.Counts.{count-without-same, count-without-other}
 use Rattle.laws.proofs.Clock.{countT-armIn, countT-withoutTimer-same, countT-withoutTimer-other, countT-minus}
 use Rattle.laws.proofs.Accessors.{arm-keeps, purged-keeps}
 use Rattle.laws.proofs.Outstanding.{outstanding-most, outstanding-idle, outstanding-ends, reqs-none, ByRequests, mild-keeps, enter-keeps, vacate-keeps, reqs-each}

@@ -17,13 +17,13 @@ use Rattle.rules.proofs.Split.{by-cases}
 use Rattle.laws.specs.Runs.{OnFile}
 use Rattle.laws.specs.Changes.{Mild, Settles, Starts}
 use Rattle.laws.specs.Outstanding.{reqOf, waitsRead, waitsWrite}
-use Rattle.laws.specs.Counts.{count}
+use Rattle.tally.specs.Count.{count}
 use Rattle.laws.specs.Queues.{Agree}
 use Rattle.laws.specs.Rest.{Resting, Rest}
 use Rattle.laws.proofs.Files.{on-file}
 use Rattle.laws.proofs.Stores.{recs-fetch-none}
 use Rattle.laws.proofs.Accessors.{countAcc-alter, writers-withReq}
-use Rattle.laws.proofs.Counts.{count-head}
+use Rattle.tally.proofs.Counts.{count-head}
 use Rattle.laws.proofs.Queues.{agree-walks, agree-starts, agree-lapse, agree-hushed}
 use Rattle.laws.proofs.Cases.{reader-cases, writer-cases, head-cases, atHead-some, turn-reader, turn-writer, turn-still}
 use Rattle.laws.proofs.Settled.{reader-empty, writer-head, settled, settleFor-still}

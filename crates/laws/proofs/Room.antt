@@ -109,13 +109,13 @@ room-part p a b e w k = let h : countAcc isWriter (set (b .accs) p none) + 1 ≡
 
 -- a waiting write's data fit, so both go together
 
-abbrev Sound : Built → Type 0
+abbrev pub Sound : Built → Type 0
 Sound b = Bounds b × Roomy b
 
-abbrev Owed : ℕ → Built → Type 0
+abbrev pub Owed : ℕ → Built → Type 0
 Owed n b = Bounds b × Owing n b
 
-sound-walks : Walks Sound Owed
+pub sound-walks : Walks Sound Owed
 unfolding finish cancel freed leave requeue alterAcc withAccs withQueues withTimers say writers Bounded
 sound-walks = record {
   mild = λ p f b m s. (bounds-walks .mild p f b m (s .0), room-mild p f b m (s .1));
@@ -137,7 +137,7 @@ sound-walks = record {
 
 -- a new file
 
-small : (words : ℕ) (rs : List Rec) → GoodRecs words rs → Small (words + 3) rs
+pub small : (words : ℕ) (rs : List Rec) → GoodRecs words rs → Small (words + 3) rs
 unfolding GoodRecs All
 small words [] h = tt
 small words (r ∷ rs) h = (recordWords-most words r (h .0 .1), small words rs (h .1))
@@ -145,7 +145,7 @@ small words (r ∷ rs) h = (recordWords-most words r (h .0 .1), small words rs (
 kept-new : (g : Geo) (s : Store) → GoodGeo g → Holds g s → Kept g s 0
 kept-new g s k h = record { geo = k; holds = h; places = omega (arith, used-most g s h); one-more = omega (arith, k .room) }
 
-sound-starts : Starts Sound
+pub sound-starts : Starts Sound
 unfolding newFile writers countAcc loaded say
 sound-starts = record {
   built = λ g k. (bounds-starts .built g k, kept-new g _ k (holds-empty g (good-sized g k)));

@@ -66,7 +66,7 @@ sides-withReq : (q : Req) (p : ℕ) (a : Acc) (b : Built) → accAt b p ≡ some
 sides-withReq q p a b e h s =
     sides-alter (withReq q) p b (λ c i t. sided-withReq q c (subst (λ (d : Acc). Fitting (d .writer) (d .req) → Fitting (d .writer) q) (Option·some-injective a c (sym e ∙ i)) h) t) s
 
-sides-walks : Walks Sides (λ n. Sides)
+pub sides-walks : Walks Sides (λ n. Sides)
 unfolding alterAcc withAccs withQueues withTimers withStore say requeue leave finish cancel freed behind putRec accAt Fitting
 sides-walks = record {
   mild = λ p f b h s. sides-alter f p b (λ a _ t. sided-mild f a h t) s;
@@ -89,7 +89,7 @@ sides-walks = record {
 nobody : (p : ℕ) (a : Acc) → getD (replicate places none) p none ≡ some a → Sided a
 nobody p a e = absurd (Option·none-ne-some a (sym (getD-replicate-same none places p) ∙ e))
 
-sides-starts : Starts Sides
+pub sides-starts : Starts Sides
 unfolding newFile loaded say accAt
 sides-starts = record { built = λ g _. nobody; loads = λ s _. nobody }
 

@@ -16,12 +16,13 @@ use Rattle.rules.specs.Desk.{Call, freshDesk, fileOf, after}
 use Rattle.rules.proofs.Split.{by-cases, both}
 use Rattle.laws.specs.Runs.{OnFile}
 use Rattle.laws.specs.Changes.{Walks, Starts}
-use Rattle.laws.specs.Counts.{count}
+use Rattle.tally.specs.Count.{count}
 use Rattle.laws.specs.Queues.{Agree}
 use Rattle.laws.specs.Timers.{Sorted, Ticking}
 use Rattle.laws.proofs.Files.{on-file}
 use Rattle.laws.proofs.Accessors.{purged-keeps}
-use Rattle.laws.proofs.Counts.{at-or-else, count-head, count-without-same, count-without-other, bit-ne}
+use Rattle.tally.proofs.Counts.{count-head, bit-ne}
+use Rattle.laws.proofs.Counts.{at-or-else, count-without-same, count-without-other}
 use Rattle.laws.proofs.Clock.{withoutTimer-absent, sorted-lower, sorted-withoutTimer, sorted-armIn, sorted-minus}
 use Rattle.laws.proofs.Cases.{fail-cases}
 use Rattle.laws.proofs.Queues.{agree-walks, agree-starts, agree-lapse, agree-hushed}

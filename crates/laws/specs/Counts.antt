@@ -1,16 +1,8 @@
--- Counting: how often a number stands in a list, and how many timers a place has.
-use mathlib.Core.Bool.{Bool, cond}
-use mathlib.Core.List.{List, [], _∷_, map}
-use Prim.Native.Nat.{ℕ, _+_}
-use lib.Dec.{eqb}
+-- How many timers a place has.
+use mathlib.Core.List.{List, map}
+use Prim.Native.Nat.{ℕ}
 use Rattle.rules.specs.State.{Timer}
-
-abbrev pub bit : Bool → ℕ
-bit t = cond t 1 0
-
-unfoldable pub count : ℕ → List ℕ → ℕ
-count x [] = 0
-count x (y ∷ l) = bit (eqb y x) + count x l
+use Rattle.tally.specs.Count.{count}
 
 unfoldable pub placesOf : List Timer → List ℕ
 placesOf ts = map (λ t. t .place) ts

@@ -13,7 +13,8 @@ use Rattle.rules.specs.Desk.{Desk, fileOf}
 use Rattle.rules.specs.Allocation.{Held, nothing, own, timed, Alloc, placeOf, heldAt, allot}
 use Rattle.laws.specs.Runs.{OnFile}
 use Rattle.laws.specs.Outstanding.{reqAt, awaits, outstanding}
-use Rattle.laws.specs.Counts.{bit, count, countT}
+use Rattle.tally.specs.Count.{bit, count}
+use Rattle.laws.specs.Counts.{countT}
 use Rattle.laws.specs.Timers.{Clock}
 
 -- each entry in exactly one place

@@ -9,6 +9,7 @@ pub mod Queues
 pub mod Rest
 pub mod Apart
 pub mod Sides
+pub mod Records
 pub mod One
 pub mod Timers
 pub mod Entries

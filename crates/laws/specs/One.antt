@@ -1,7 +1,8 @@
 -- "One outstanding request per accessor, until collected."
 use Prim.Native.Nat.{ℕ, _+_, _≤_}
 use Rattle.rules.specs.State.{Built}
-use Rattle.laws.specs.Counts.{count, countT}
+use Rattle.tally.specs.Count.{count}
+use Rattle.laws.specs.Counts.{countT}
 use Rattle.laws.specs.Outstanding.{reqAt, uncollected}
 
 -- a place waits as a reader or as a writer, or has a completed request, or none of these; a timer runs only where it waits

@@ -3,7 +3,8 @@ use mathlib.Core.Path.{_≡_}
 use mathlib.Core.List.{List}
 use Prim.Native.Nat.{ℕ, _≤_}
 use Rattle.rules.specs.State.{Req, Timer, Built}
-use Rattle.laws.specs.Counts.{count, countT}
+use Rattle.tally.specs.Count.{count}
+use Rattle.laws.specs.Counts.{countT}
 use Rattle.laws.specs.Outstanding.{reqAt, waitsRead, waitsWrite, awaits}
 
 -- a place x with the request q stands in a queue exactly when q waits there, once, and has at most one timer, only then

@@ -10,15 +10,16 @@ use lib.Dec.{leb, eqb}
 use lib.ListN.{length, getD, take, drop, length-drop}
 use lib.Seq.{length-take-le, drop-cons}
 use borrow.Author.Tests.{le-leb, leb-true, eqb-true, eqb-false, eq-eqb, ne-eqb}
-use Rattle.words.specs.Word.{word, wordAt, zeros}
+use Rattle.words.specs.Word.{word, wordAt, zeros, quiet}
 use Rattle.words.proofs.Stands.{Stands, join, left, right}
+use Rattle.words.proofs.Zeros.{quiet-stands, quiet-true}
 use Rattle.rules.specs.Limits.{mostType}
 use Rattle.rules.specs.State.{Rec, Geo}
 use Rattle.rules.specs.Store.{pad, recordBytes, recordWords, blockBytes}
 use Rattle.shares.specs.Image.{bytesOf, wordsOf, image}
 use Rattle.shares.specs.Groups.{All, Small}
 use Rattle.shares.specs.Back.{recAt, next, recsAt, blockRecs}
-use Rattle.shares.specs.Laid.{Bytes, GoodRec, quiet, fair, walk, laid}
+use Rattle.shares.specs.Laid.{Bytes, GoodRec, fair, walk, laid}
 use Rattle.rules.proofs.Split.{by-cases, pick-true, and-true, true-and, or-true, true-or, pass-true}
 use Rattle.shares.proofs.Image.{length-recordBytes, apart, whole, image-put, image-used}
 use Rattle.shares.proofs.Back.{fields, next-stands}
@@ -35,13 +36,6 @@ part-stands : (xs : List ℕ) (n p : ℕ) → p + n ≤ length xs → Stands xs 
 unfolding Stands
 part-stands xs zero p h = tt
 part-stands xs (suc n) p h = rw (drop-cons xs p 0 (omega arith)) (refl, part-stands xs n (suc p) (omega arith))
-
-quiet-stands : (xs : List ℕ) (n p : ℕ) → quiet xs p n ≡ true → Stands xs p (zeros n)
-unfolding Stands quiet zeros
-quiet-stands xs zero p h = tt
-quiet-stands xs (suc n) p h =
-    let q = pass-true (eqb (getD xs p 0) 0) (quiet xs (suc p) n) h in
-    (eqb-true (getD xs p 0) 0 (q .0), quiet-stands xs n (suc p) (q .1))
 
 -- what the tests of a record say
 pub record Fair (words : ℕ) (xs : List ℕ) (e p : ℕ) : Type 0 where
@@ -167,11 +161,6 @@ laid-stands g xs a b l h =
     (whole xs a n rs (record { put = rw c (word-stands xs a b); used = rw w (word-stands xs (a + 2) b); recs = y .recs; rest = rw (u, z) (y .rest) }), y .small, y .proper)
 
 -- What passes.
-
-quiet-true : (xs : List ℕ) (n p : ℕ) → Stands xs p (zeros n) → quiet xs p n ≡ true
-unfolding Stands quiet zeros
-quiet-true xs zero p h = refl
-quiet-true xs (suc n) p h = pick-true (eqb (getD xs p 0) 0) (quiet xs (suc p) n) false (eq-eqb (getD xs p 0) 0 (h .0)) ∙ quiet-true xs n (suc p) (h .1)
 
 pad-zero : (xs : List ℕ) (p n : ℕ) → (n % 2 ≡ 0 → ⊥) → Stands xs p (pad n) → getD xs p 0 ≡ 0
 unfolding pad Stands

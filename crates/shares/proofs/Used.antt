@@ -46,7 +46,7 @@ usedRecs-put g r s o w c h =
 -- What holds of each record of the held blocks goes on to do so.
 module _ (P : Rec → Type 0) (g : Geo) (o : Sized g) where
   -- where none is spent, they are the records held
-  all-unspent : (s : Store) → Holds g s → s .spent ≡ 0 → All P (s .recs) → All P (usedRecs g s)
+  pub all-unspent : (s : Store) → Holds g s → s .spent ≡ 0 → All P (s .recs) → All P (usedRecs g s)
   all-unspent s h e a = rw (ap (λ (n : ℕ). drop n (usedRecs g s)) (sym e) ∙ drop-usedRecs g s o h) a
 
   all-recs : (s : Store) → Holds g s → All P (usedRecs g s) → All P (s .recs)

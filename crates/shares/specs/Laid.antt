@@ -5,7 +5,7 @@ use mathlib.Core.Path.{_≡_}
 use mathlib.Core.List.{List, []}
 use lib.Dec.{leb, eqb}
 use lib.ListN.{getD}
-use Rattle.words.specs.Word.{wordAt}
+use Rattle.words.specs.Word.{wordAt, quiet}
 use Rattle.rules.specs.Limits.{mostType}
 use Rattle.rules.specs.State.{Rec, Geo}
 use Rattle.rules.specs.Store.{blockBytes}
@@ -20,11 +20,6 @@ pub record GoodRec (r : Rec) : Type 0 where
   pub kind : r .typ ≤ mostType
   pub from : 1 ≤ r .wid
   pub bare : (r .typ ≡ 0 → ⊥) → r .body ≡ []
-
--- n zero bytes from p on
-unfoldable pub quiet : List ℕ → ℕ → ℕ → Bool
-quiet xs p zero = true
-quiet xs p (suc n) = elim (eqb (getD xs p 0) 0) [ true ↦ quiet xs (suc p) n | false ↦ false ]
 
 -- a proper record with at most `words` words of data stands at p, whole before e
 unfoldable pub fair : ℕ → List ℕ → ℕ → ℕ → Bool

@@ -1,7 +1,9 @@
 -- Words of 16 bits in lists of bytes: "Words are stored high byte first."
-use Prim.Native.Nat.{ℕ, _+_, _*_, _/_, _%_}
+use Prim.Native.Nat.{ℕ, zero, suc, _+_, _*_, _/_, _%_}
+use mathlib.Core.Bool.{Bool, true, false}
 use mathlib.Core.List.{List, [], _∷_}
-use lib.ListN.{getD, replicate}
+use lib.Dec.{eqb}
+use lib.ListN.{getD, take, drop, replicate}
 
 -- the two bytes of a word
 abbrev pub word : ℕ → List ℕ
@@ -14,3 +16,12 @@ wordAt xs at = getD xs at 0 * 256 + getD xs (at + 1) 0
 -- n zero bytes
 unfoldable pub zeros : ℕ → List ℕ
 zeros n = replicate n 0
+
+-- n zero bytes from p on
+unfoldable pub quiet : List ℕ → ℕ → ℕ → Bool
+quiet xs p zero = true
+quiet xs p (suc n) = elim (eqb (getD xs p 0) 0) [ true ↦ quiet xs (suc p) n | false ↦ false ]
+
+-- the i-th of the parts, k bytes each, that a memory consists of
+abbrev pub part : ℕ → ℕ → List ℕ → List ℕ
+part k i xs = take k (drop (k * i) xs)

@@ -3,7 +3,7 @@ ghost use mathlib.Core.Path.{_≡_};
 ghost use Prim.Native.Nat.{_+_, _≤_};
 ghost use lib.ListN.{length};
 ghost use lib.Seq.{sets};
-ghost use Rattle.words.specs.Word.{word, wordAt, zeros};
+ghost use Rattle.words.specs.Word.{word, wordAt, zeros, quiet};
 
 // The word at a place.
 pub fn get(s: &[u8], at: usize) -> u16
@@ -44,4 +44,21 @@ pub fn copy(s: &mut [u8], at: usize, from: &[u8])
         s[at + i] = from[i];
         i += 1;
     }
+}
+
+// Whether n bytes from a place on are zero.
+pub fn quiet(s: &[u8], at: usize, n: usize) -> bool
+    requires { ⌜ at + n ≤ length (now s) ⌝ }
+    ensures { λ r. ⌜ r ≡ quiet (now (s .entry)) at n ⌝ }
+{
+    let mut p = at;
+    let mut left = n;
+    while left > 0 {
+        if s[p] != 0 {
+            return false;
+        }
+        p += 1;
+        left -= 1;
+    }
+    true
 }

@@ -1,0 +1,76 @@
+-- Laws of the bytes of a buffer: how they are written, how they are tested, and that they are the rules'.
+use Prim.Native.Nat.{ℕ, _+_, _-_, _*_, _≤_, _<_}
+use mathlib.Core.Bool.{true}
+use mathlib.Core.Path.{_≡_, refl, sym, ap, _∙_}
+use mathlib.Core.List.{List, [], _++_}
+use mathlib.Core.Option.{none, some}
+use native.Mathlib.Omega.{arith}
+use lib.ListN.{length, take, drop, length-append, length-drop, take-append-drop}
+use lib.Seq.{sets, take-all, length-take-le}
+use Rattle.words.specs.Word.{zeros, quiet}
+use Rattle.words.proofs.Runs.{length-zeros, sets-at}
+use Rattle.words.proofs.Stands.{Stands, right, same, part-read}
+use Rattle.words.proofs.Zeros.{quiet-stands, quiet-true}
+use Rattle.words.proofs.Parts.{sets-whole, part-back}
+use Rattle.rules.specs.Limits.{bufferBytes}
+use Rattle.rules.specs.State.{Acc}
+use Rattle.rules.specs.Memories.{lies, buffer}
+use Rattle.buffers.specs.Buffer.{bufferCount, buffersBytes, filled}
+
+pub length-filled : (d : List ℕ) → length d ≤ bufferBytes → length (filled d) ≡ bufferBytes
+unfolding filled
+length-filled d h =
+    let z = bufferBytes - length d in
+    omega (arith, length-append d (zeros z), length-zeros z)
+
+-- the data, then zeros
+pub fill-written : (x₀ x₁ x₂ d : List ℕ) → length x₀ ≡ bufferBytes → length d ≤ bufferBytes → x₁ ≡ sets x₀ 0 d
+    → x₂ ≡ sets x₁ (length d) (zeros (bufferBytes - length d))
+    → x₂ ≡ filled d
+unfolding filled
+fill-written x₀ x₁ x₂ d n h e₁ e₂ =
+    let z = zeros (bufferBytes - length d) in
+    let f : 0 + length d ≡ length d = omega arith in
+    e₂ ∙ (ap (λ (x : List ℕ). sets x (length d) z) e₁ ∙ (sets-at d z x₀ 0 (length d) f ∙ sets-whole x₀ (d ++ z) (length-filled d h ∙ sym n)))
+
+pub clear-written : (x₀ x₁ : List ℕ) → length x₀ ≡ bufferBytes → x₁ ≡ sets x₀ 0 (zeros bufferBytes) → x₁ ≡ zeros bufferBytes
+clear-written x₀ x₁ n e = e ∙ sets-whole x₀ (zeros bufferBytes) (length-zeros bufferBytes ∙ sym n)
+
+-- a buffer that was lent from the whole memory, and is back with the bytes bs
+pub back : (xs ys bs : List ℕ) (i : ℕ) → length xs ≡ buffersBytes → i < bufferCount → length bs ≡ bufferBytes → ys ≡ bs
+    → take (bufferBytes * i) xs ++ (ys ++ drop bufferBytes (drop (bufferBytes * i) xs)) ≡ sets xs (bufferBytes * i) bs
+back xs ys bs i n h l e = rw e (part-back xs bs (bufferBytes * i) bufferBytes l (omega arith))
+
+-- The test says that what stands there are data and zeros, and each such buffer passes.
+
+pub holds-filled : (xs : List ℕ) (n : ℕ) → length xs ≡ bufferBytes → n ≤ bufferBytes → quiet xs n (bufferBytes - n) ≡ true → xs ≡ filled (take n xs)
+unfolding filled
+holds-filled xs n l h q =
+    let z = zeros (bufferBytes - n) in
+    let m : length z ≡ bufferBytes - n = length-zeros (bufferBytes - n) in
+    let e : length (take n xs) ≡ n = length-take-le n xs (omega arith) in
+    let d : length (drop n xs) ≤ length z = omega (arith, length-drop n xs) in
+    let r : take (length z) (drop n xs) ≡ z = part-read z xs n (omega arith) (quiet-stands xs (bufferBytes - n) n q) in
+    rw e (sym (take-append-drop n xs) ∙ ap (λ (x : List ℕ). take n xs ++ x) (sym (take-all (length z) (drop n xs) d) ∙ r))
+
+pub filled-holds : (d : List ℕ) → length d ≤ bufferBytes → quiet (filled d) (length d) (bufferBytes - length d) ≡ true
+unfolding filled
+filled-holds d h =
+    let z = zeros (bufferBytes - length d) in
+    let s : Stands (sets (d ++ z) 0 (d ++ z)) 0 (d ++ z) = same (d ++ z) (d ++ z) 0 (omega arith) in
+    let t : Stands (d ++ z) 0 (d ++ z) = rw (sets-whole (d ++ z) (d ++ z) refl) at s in
+    quiet-true (d ++ z) (bufferBytes - length d) (length d) (right d z (d ++ z) 0 (length d) (omega arith) t)
+
+-- "lies at the start of the accessor's buffer, which is otherwise zero"
+pub buffer-some : (a : Acc) → buffer (some a) ≡ filled (lies (a .req))
+unfolding buffer filled
+buffer-some a = refl
+
+pub buffer-none : buffer none ≡ zeros bufferBytes
+unfolding buffer
+buffer-none = refl
+
+-- nothing lies there
+pub filled-none : filled [] ≡ zeros bufferBytes
+unfolding filled
+filled-none = refl

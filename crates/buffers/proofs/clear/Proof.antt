@@ -1,0 +1,22 @@
+use Rattle.buffers.proofs.Filled.{clear-written}
+use borrow.Author.Needs.{needs}
+use Rattle.buffers.proofs.clear.Statement.{statement}
+use Rattle.buffers.proofs.clear.Tie as tie
+use Rattle.buffers.proofs.clear.Reads as reads
+use Rattle.buffers.proofs.clear.Lts as lts
+use Rattle.words.proofs.zero.Reads as zero-reads
+
+-- src/lib.rt:28:5
+zero-requires : tie.Need-zero-requires
+zero-requires c κs = search needs
+
+-- src/lib.rt:24:1
+same-length : tie.Need-same-length
+same-length c = search needs
+
+-- src/lib.rt:24:1
+returns : tie.Need-returns
+returns c = clear-written _ _ (c .before .before .before .before .before .pre) (c .before .before .zero .ensures)
+
+pub clear-spec : {M : Type 1} → statement M
+clear-spec = tie.close (tie.spec zero-requires same-length returns)

@@ -1,0 +1,31 @@
+use Rattle.buffers.proofs.Filled.{fill-written}
+use borrow.Author.Needs.{needs}
+use Rattle.buffers.proofs.fill.Statement.{statement}
+use Rattle.buffers.proofs.fill.Tie as tie
+use Rattle.buffers.proofs.fill.Reads as reads
+use Rattle.buffers.proofs.fill.Lts as lts
+use Rattle.words.proofs.copy.Reads as copy-reads
+use Rattle.words.proofs.zero.Reads as zero-reads
+
+-- src/lib.rt:19:5
+copy-requires : tie.Need-copy-requires
+copy-requires c κs = search needs
+
+-- src/lib.rt:20:28
+sub-zero : tie.Need-sub-zero
+sub-zero c = search needs
+
+-- src/lib.rt:20:5
+zero-requires : tie.Need-zero-requires
+zero-requires c κs = search needs
+
+-- src/lib.rt:14:1
+same-length : tie.Need-same-length
+same-length c = search needs
+
+-- src/lib.rt:14:1
+returns : tie.Need-returns
+returns c = fill-written _ _ _ _ (c .before .before .before .before .before .before .before .before .before .before .pre .0) (c .before .before .before .before .before .before .before .before .before .before .pre .1) (c .before .before .before .before .before .before .copy .ensures) (c .before .before .zero .ensures)
+
+pub fill-spec : {M : Type 1} → statement M
+fill-spec = tie.close (tie.spec copy-requires sub-zero zero-requires same-length returns)

@@ -1,0 +1,61 @@
+-- A desk determines the bytes of blocks and buffers, but for those of files that are not built.
+use Prim.Native.Nat.{ℕ, _*_, _<_}
+use mathlib.Core.Path.{_≡_, refl, sym, ap, _∙_}
+use mathlib.Core.List.{List, [], _∷_, _++_}
+use lib.ListN.{length}
+use Rattle.words.specs.Word.{zeros}
+use Rattle.rules.specs.Limits.{files, places, shareBytes, bufferBytes}
+use Rattle.rules.specs.State.{File, unbuilt, built}
+use Rattle.rules.specs.Desk.{Desk, fileOf}
+use Rattle.rules.specs.Memories.{shareOf, blocks, buffersOf, buffers}
+use Rattle.memory.specs.Stands.{shareAt, buffersAt, FileBytes, Bodies}
+use Rattle.memory.specs.Covers.{Alike, Blank}
+use Rattle.memory.proofs.Parts.{part, parts, parts-all, parts-same}
+
+-- two pairs of memories for one desk
+
+file-same : (x : File) (s b s′ b′ : List ℕ) → FileBytes x s b → FileBytes x s′ b′ → (x ≡ unbuilt → (s ≡ s′) × (b ≡ b′)) → (s ≡ s′) × (b ≡ b′)
+unfolding FileBytes
+file-same unbuilt s b s′ b′ h k u = u refl
+file-same (built c) s b s′ b′ h k u = (h .0 ∙ sym (k .0), h .1 ∙ sym (k .1))
+
+pub bodies-same : (d : Desk) (x b x′ b′ : List ℕ) → Bodies x b d → Bodies x′ b′ d → Alike d x b x′ b′ → (x ≡ x′) × (b ≡ b′)
+unfolding part shareAt buffersAt
+bodies-same d x b x′ b′ S T h = (
+  parts-same shareBytes files x x′ (S .blocks-size) (T .blocks-size) (λ f k. each f k .0),
+  parts-same (places * bufferBytes) files b b′ (S .buffers-size) (T .buffers-size) (λ f k. each f k .1),
+)
+  where
+    each : (f : ℕ) → f < files → (shareAt f x ≡ shareAt f x′) × (buffersAt f b ≡ buffersAt f b′)
+    each f k = file-same (fileOf d f) _ _ _ _ (S .each f k) (T .each f k) (h f k)
+
+-- all files built
+pub bodies-built : (d : Desk) (x b x′ b′ : List ℕ) → Bodies x b d → Bodies x′ b′ d → ((f : ℕ) → f < files → fileOf d f ≡ unbuilt → ⊥) → (x ≡ x′) × (b ≡ b′)
+bodies-built d x b x′ b′ S T h = bodies-same d x b x′ b′ S T (λ f k u. absurd (h f k u))
+
+-- the bytes of files that are not built zero: exactly the rules' bytes
+
+file-blank : (x : File) (s b : List ℕ) → FileBytes x s b → (x ≡ unbuilt → (s ≡ zeros shareBytes) × (b ≡ zeros (places * bufferBytes))) → (s ≡ shareOf x) × (b ≡ buffersOf x)
+unfolding FileBytes shareOf buffersOf
+file-blank unbuilt s b h u = u refl
+file-blank (built c) s b h u = h
+
+blocks-parts : (d : Desk) → blocks d ≡ parts (length d) (λ f. shareOf (fileOf d f))
+unfolding blocks parts fileOf
+blocks-parts [] = refl
+blocks-parts (x ∷ d) = ap (λ (l : List ℕ). shareOf x ++ l) (blocks-parts d)
+
+buffers-parts : (d : Desk) → buffers d ≡ parts (length d) (λ f. buffersOf (fileOf d f))
+unfolding buffers parts fileOf
+buffers-parts [] = refl
+buffers-parts (x ∷ d) = ap (λ (l : List ℕ). buffersOf x ++ l) (buffers-parts d)
+
+pub bodies-are : (d : Desk) (x b : List ℕ) → length d ≡ files → Bodies x b d → Blank d x b → (x ≡ blocks d) × (b ≡ buffers d)
+unfolding part shareAt buffersAt
+bodies-are d x b e S h = (
+  parts-all shareBytes files x (λ f. shareOf (fileOf d f)) (S .blocks-size) (λ f k. each f k .0) ∙ (rw (← e) (sym (blocks-parts d))),
+  parts-all (places * bufferBytes) files b (λ f. buffersOf (fileOf d f)) (S .buffers-size) (λ f k. each f k .1) ∙ (rw (← e) (sym (buffers-parts d))),
+)
+  where
+    each : (f : ℕ) → f < files → (shareAt f x ≡ shareOf (fileOf d f)) × (buffersAt f b ≡ buffersOf (fileOf d f))
+    each f k = file-blank (fileOf d f) _ _ (S .each f k) (h f k)

@@ -1,0 +1,96 @@
+-- A segment that stands for a desk, as the boxes and rows of `ports`, and back.
+use Prim.Native.Nat.{ℕ, zero, suc, _+_, _≤_, _<_}
+use mathlib.Core.Path.{_≡_, refl, ap, _∙_}
+use mathlib.Core.List.{List, [], _∷_, map}
+use native.Mathlib.Omega.{arith}
+use native.Mathlib.Decide.{decLt}
+use lib.ListN.{length, getD}
+use borrow.Author.Tests.{lt-ltb}
+use Rattle.tally.specs.Count.{bit, count, total}
+use Rattle.segment.specs.Layout.{listCount, rowCount}
+use Rattle.ports.specs.Lists.{Boxes}
+use Rattle.rules.specs.Desk.{Desk}
+use Rattle.rules.specs.Allocation.{Alloc, upFrom}
+use Rattle.memory.specs.Image.{rowOf, listOf, boxOf, listsOf, boxesOf, rowsOf}
+use Rattle.memory.specs.Stands.{Bytes, Segment}
+use Rattle.memory.specs.Covers.{Covers, Once}
+
+-- a list of values g 0, g 1, ..
+
+module _ {A : Type 0} (g : ℕ → A) where
+  length-up : (n k : ℕ) → length (map g (upFrom k n)) ≡ n
+  unfolding upFrom
+  length-up zero k = refl
+  length-up (suc n) k = ap suc (length-up n (suc k))
+
+  getD-up : (n k l : ℕ) (a : A) → l < n → getD (map g (upFrom k n)) l a ≡ g (k + l)
+  unfolding upFrom
+  getD-up zero k l a h = absurd (omega arith)
+  getD-up (suc n) k zero a h = let e : k ≡ k + 0 = omega arith in ap g e
+  getD-up (suc n) k (suc l) a h = let e : suc k + l ≡ k + suc l = omega arith in getD-up n (suc k) l a (omega arith) ∙ ap g e
+
+  getD-all : (n l : ℕ) (a : A) → l < n → getD (map g (upFrom 0 n)) l a ≡ g l
+  getD-all n l a h = let e : 0 + l ≡ l = omega arith in getD-up n 0 l a h ∙ ap g e
+
+module _ (d : Desk) (s : Alloc) where
+  pub getD-listsOf : (l : ℕ) → l < listCount → getD (listsOf d s) l [] ≡ listOf d s l
+  unfolding listsOf
+  getD-listsOf l h = getD-all (listOf d s) listCount l [] h
+
+  pub getD-boxesOf : (l : ℕ) → l < listCount → getD (boxesOf d s) l [] ≡ boxOf d s l
+  unfolding boxesOf
+  getD-boxesOf l h = getD-all (boxOf d s) listCount l [] h
+
+  pub getD-rowsOf : (i : ℕ) → i < rowCount → getD (rowsOf d) i [] ≡ rowOf d i
+  unfolding rowsOf
+  getD-rowsOf i h = getD-all (rowOf d) rowCount i [] h
+
+  pub segment-boxes : (xs : List ℕ) → Once d s → Segment xs d s → Boxes xs [] [] (listsOf d s) (boxesOf d s) (rowsOf d)
+  segment-boxes xs once S = record {
+    lists = record {
+      size = S .size;
+      heads = unfold listsOf in length-up (listOf d s) listCount 0;
+      once = λ x. unfold count in omega (arith, once x);
+      chains = λ l h. rw (getD-listsOf l h) (S .chains l h);
+    };
+    held = refl;
+    boxes = λ l h. rw (getD-listsOf l h, getD-boxesOf l h) (S .boxes l h);
+    sized = unfold boxesOf in length-up (boxOf d s) listCount 0;
+    rows = λ i h. rw (getD-rowsOf i h) (S .rows i h);
+    rowed = unfold rowsOf in length-up (rowOf d) rowCount 0;
+  }
+
+  -- nothing in hand, and boxes and rows as the desk has them
+  pub boxes-segment : (xs : List ℕ) (hm ls : List (List ℕ)) (ms : List (List (List ℕ))) (rs : List (List ℕ)) → Bytes xs → Boxes xs [] hm ls ms rs
+      → ((l : ℕ) → l < listCount → getD ls l [] ≡ listOf d s l)
+      → ((l : ℕ) → l < listCount → getD ms l [] ≡ boxOf d s l)
+      → ((i : ℕ) → i < rowCount → getD rs i [] ≡ rowOf d i)
+      → Segment xs d s
+  boxes-segment xs hm ls ms rs bytes B el em er = record {
+    bytes = bytes;
+    size = B .lists .size;
+    chains = λ l h. rw (← el l h) (B .lists .chains l h);
+    boxes = λ l h. rw (← el l h, ← em l h) (B .boxes l h);
+    rows = λ i h. B .rows i h ∙ er i h;
+  }
+
+-- an entry that stands in some list
+
+find : (x : ℕ) (ls : List (List ℕ)) → 1 ≤ total x ls → (l : ℕ) × (l < length ls) × (1 ≤ count x (getD ls l []))
+unfolding total
+find x [] h = absurd (omega arith)
+find x (xs ∷ ls) h = go (decLt 0 (count x xs)) (λ k. find x ls k)
+  where
+    go : Dec (0 < count x xs) → (1 ≤ total x ls → (l : ℕ) × (l < length ls) × (1 ≤ count x (getD ls l [])))
+        → (l : ℕ) × (l < suc (length ls)) × (1 ≤ count x (getD (xs ∷ ls) l []))
+    go (yes k) r = (0, omega arith, k)
+    go (no k) r = let (l, a, b) = r (omega arith) in (suc l, omega arith, b)
+
+pub once-covers : (d : Desk) (s : Alloc) → Once d s → Covers d s
+once-covers d s once e h =
+    let (l, a, b) = find e (listsOf d s) (omega (arith, once e, ap bit (lt-ltb e 128 h))) in
+    let k : l < listCount = rw long at a in
+    (l, k, rw (getD-listsOf d s l k) at b)
+  where
+    long : length (listsOf d s) ≡ listCount
+    long = unfold listsOf in length-up (listOf d s) listCount 0

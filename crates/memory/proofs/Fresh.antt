@@ -1,0 +1,241 @@
+-- The memories of a fresh desk stand for the fresh desk.
+use Prim.Native.Nat.{ℕ, zero, suc, _+_, _-_, _*_, _/_, _%_, _≤_, _<_}
+use mathlib.Core.Path.{_≡_, refl, sym, ap, ap₂, _∙_}
+use mathlib.Core.Bool.{cond}
+use mathlib.Core.List.{List, [], _∷_, map}
+use mathlib.Core.Option.{none}
+use native.Mathlib.Omega.{arith}
+use native.Mathlib.Decide.{ℕ-discrete, decLt}
+use lib.Dec.{ltb, eqb}
+use lib.ListN.{length, getD, take, drop, replicate}
+use borrow.Author.Tests.{lt-ltb, le-ltb, eq-eqb, ne-eqb, ltb-true}
+use Rattle.tally.specs.Count.{bit, count}
+use Rattle.words.specs.Word.{zeros}
+use Rattle.words.proofs.Runs.{length-zeros}
+use Rattle.rules.proofs.Split.{bothc}
+use Rattle.segment.specs.Layout.{listCount, freeList, nil, linkAt, dataAt, dataWords, readQueue, writeQueue, replyPort, rowAt, rowWords, rowCount, segmentWords}
+use Rattle.segment.specs.Layout as layout
+use Rattle.segment.specs.Table.{nth, row, dataOf}
+use Rattle.ports.specs.Lists.{Chain}
+use Rattle.rules.specs.Limits.{files, places, entries, shareBytes, bufferBytes}
+use Rattle.rules.specs.State.{unbuilt}
+use Rattle.rules.specs.Desk.{fileOf, freshDesk}
+use Rattle.rules.specs.Allocation.{upFrom, freshAlloc, queueOf, portOf, timerList}
+use Rattle.memory.specs.Image.{accOf, reqOf, placeAcc, fileWords, placeWords, rowOf, rqOf, wqOf, listOf, queueWords, portWords, boxOf}
+use Rattle.memory.specs.Stands.{Bytes, Segment, shareAt, buffersAt, FileBytes, Bodies, Stands}
+use Rattle.memory.specs.Covers.{Covers, Blank}
+use Rattle.memory.specs.Fresh.{table, freshLink, freshWord, freshSegment, freshBlocks, freshBuffers}
+use Rattle.memory.proofs.Image.{rowOf-file, rowOf-place, each-row, listOf-free, listOf-read, listOf-write, listOf-port, listOf-timers, boxOf-free, boxOf-read, boxOf-write, boxOf-port, boxOf-timers, each-list}
+
+-- a table of words
+
+length-table : (n : ℕ) (w : ℕ → ℕ) → length (table n w) ≡ 2 * n
+unfolding table
+length-table zero w = refl
+length-table (suc n) w = omega (arith, length-table n (λ k. w (suc k)))
+
+nth-table : (n : ℕ) (w : ℕ → ℕ) (k : ℕ) → k < n → nth (table n w) k ≡ w k
+unfolding table nth
+nth-table zero w k h = absurd (omega arith)
+nth-table (suc n) w zero h = omega arith
+nth-table (suc n) w (suc k) h =
+    let e : 2 * suc k ≡ suc (suc (2 * k)) = omega arith in
+    let g : 2 * suc k + 1 ≡ suc (suc (2 * k + 1)) = omega arith in
+    rw (g, e) (nth-table n (λ i. w (suc i)) k (omega arith))
+
+bytes-table : (n : ℕ) (w : ℕ → ℕ) → ((k : ℕ) → w k < 65536) → Bytes (table n w)
+unfolding table Bytes
+bytes-table zero w h i = omega arith
+bytes-table (suc n) w h zero = omega (arith, h 0)
+bytes-table (suc n) w h (suc zero) = omega arith
+bytes-table (suc n) w h (suc (suc i)) = bytes-table n (λ k. w (suc k)) (λ k. h (suc k)) i
+
+bytes-zeros : (n : ℕ) → Bytes (zeros n)
+unfolding Bytes zeros
+bytes-zeros n i = go n i
+  where
+    go : (m j : ℕ) → getD (replicate m 0) j 0 < 256
+    go zero j = omega arith
+    go (suc m) zero = omega arith
+    go (suc m) (suc j) = go m j
+
+-- the words of the fresh segment
+
+freshLink-word : (e : ℕ) → freshLink e < 65536
+unfolding freshLink
+freshLink-word e = bothc (λ v. v < 65536) (ltb (suc e) entries) (λ t. omega (arith, ltb-true (suc e) entries t)) (λ _. omega arith)
+
+freshWord-word : (k : ℕ) → freshWord k < 65536
+unfolding freshWord
+freshWord-word k =
+    bothc (λ v. v < 65536) (ltb k 1) (λ _. omega arith)
+    (λ _. bothc (λ v. v < 65536) (ltb k 82) (λ _. omega arith)
+    (λ _. bothc (λ v. v < 65536) (ltb k 1362) (λ _. bothc (λ v. v < 65536) (eqb ((k - 82) % 10) 0) (λ _. freshLink-word ((k - 82) / 10)) (λ _. omega arith))
+    (λ _. omega arith)))
+
+pub nth-fresh : (k : ℕ) → k < segmentWords → nth freshSegment k ≡ freshWord k
+unfolding freshSegment
+nth-fresh k h = nth-table segmentWords freshWord k h
+
+fresh-head : (l : ℕ) → 0 < l → l < listCount → nth freshSegment l ≡ nil
+unfolding freshWord
+fresh-head l a b = nth-fresh l (omega arith) ∙ rw (le-ltb l 1 a, lt-ltb l 82 b)
+
+fresh-link : (e : ℕ) → e < entries → nth freshSegment (linkAt e) ≡ freshLink e
+unfolding freshWord
+fresh-link e h =
+    let z : (82 + 10 * e - 82) % 10 ≡ 0 = omega arith in
+    let q : (82 + 10 * e - 82) / 10 ≡ e = omega arith in
+    nth-fresh (linkAt e) (omega arith)
+    ∙ rw (le-ltb (82 + 10 * e) 1 (omega arith), le-ltb (82 + 10 * e) 82 (omega arith), lt-ltb (82 + 10 * e) 1362 (omega arith), z, q)
+
+fresh-zero : (k : ℕ) → listCount ≤ k → k < segmentWords → (k < rowAt 0 → (k - 82) % 10 ≡ 0 → ⊥) → nth freshSegment k ≡ 0
+fresh-zero k a b c = nth-fresh k b ∙ go (decLt k 1362)
+  where
+    go : Dec (k < 1362) → freshWord k ≡ 0
+    go (yes h) = unfold freshWord in rw (le-ltb k 1 (omega arith), le-ltb k 82 a, lt-ltb k 1362 h, ne-eqb ((k - 82) % 10) 0 (c h))
+    go (no h) = unfold freshWord in rw (le-ltb k 1 (omega arith), le-ltb k 82 a, le-ltb k 1362 (omega arith))
+
+row-zero : (s : List ℕ) (k n : ℕ) → ((j : ℕ) → k ≤ j → j < k + n → nth s j ≡ 0) → row s k n ≡ replicate n 0
+unfolding row
+row-zero s k zero f = refl
+row-zero s k (suc n) f = ap₂ {C = List ℕ} (λ x l. x ∷ l) (f k (omega arith) (omega arith)) (row-zero s (suc k) n (λ j a b. f j (omega arith) (omega arith)))
+
+fresh-data : (e : ℕ) → e < entries → dataOf freshSegment e ≡ replicate dataWords 0
+unfolding dataOf
+fresh-data e h = row-zero freshSegment (dataAt e) dataWords (λ j a b. fresh-zero j (omega arith) (omega arith) (λ _ u. omega arith))
+
+fresh-row : (i : ℕ) → i < rowCount → row freshSegment (rowAt i) rowWords ≡ replicate rowWords 0
+fresh-row i h = row-zero freshSegment (rowAt i) rowWords (λ j a b. fresh-zero j (omega arith) (omega arith) (λ k _. omega arith))
+
+-- the free list: n entries from e on
+
+up-chain : (n e p : ℕ) → e + n ≡ entries → nth freshSegment p ≡ cond (ltb e entries) e nil → Chain freshSegment p (upFrom e n)
+unfolding upFrom Chain
+up-chain zero e p q h = h ∙ rw (le-ltb e 128 (omega arith))
+up-chain (suc n) e p q h =
+    (h ∙ rw (lt-ltb e 128 (omega arith)), omega arith, up-chain n (suc e) (linkAt e) (omega arith) (fresh-link e (omega arith) ∙ (unfold freshLink in refl)))
+
+up-data : (n e : ℕ) → e + n ≡ entries → map (dataOf freshSegment) (upFrom e n) ≡ map (λ z. replicate dataWords 0) (upFrom e n)
+unfolding upFrom
+up-data zero e q = refl
+up-data (suc n) e q = ap₂ {C = List (List ℕ)} (λ x l. x ∷ l) (fresh-data e (omega arith)) (up-data n (suc e) (omega arith))
+
+-- the fresh desk: no file built
+
+fresh-file : (f : ℕ) → fileOf freshDesk f ≡ unbuilt
+unfolding fileOf freshDesk
+fresh-file f = go files f
+  where
+    go : (n g : ℕ) → getD (replicate n unbuilt) g unbuilt ≡ unbuilt
+    go zero g = refl
+    go (suc n) zero = refl
+    go (suc n) (suc g) = go n g
+
+fresh-acc : (i : ℕ) → placeAcc freshDesk i ≡ none
+unfolding placeAcc accOf
+fresh-acc i = rw (fresh-file (i / places))
+
+-- each list but the free list is empty
+
+Empty : ℕ → Type 0
+Empty l = (listOf freshDesk freshAlloc l ≡ []) × (boxOf freshDesk freshAlloc l ≡ [])
+
+read-none : (f : ℕ) → f < files → Empty (readQueue f)
+unfolding Empty queueOf queueWords rqOf
+read-none f h = (listOf-read freshDesk freshAlloc f h ∙ rw (fresh-file f), boxOf-read freshDesk freshAlloc f h ∙ rw (fresh-file f))
+
+write-none : (f : ℕ) → f < files → Empty (writeQueue f)
+unfolding Empty queueOf queueWords wqOf
+write-none f h = (listOf-write freshDesk freshAlloc f h ∙ rw (fresh-file f), boxOf-write freshDesk freshAlloc f h ∙ rw (fresh-file f))
+
+port-none : (i : ℕ) → i < files * places → Empty (replyPort i)
+unfolding Empty portOf portWords reqOf
+port-none i h = (listOf-port freshDesk freshAlloc i h ∙ rw (fresh-acc i), boxOf-port freshDesk freshAlloc i h ∙ rw (fresh-acc i))
+
+timers-none : Empty layout.timerList
+unfolding Empty timerList freshAlloc
+timers-none = (listOf-timers freshDesk freshAlloc, boxOf-timers freshDesk freshAlloc)
+
+list-none : (l : ℕ) → 0 < l → l < listCount → Empty l
+list-none l a b =
+    each-list (λ l. 0 < l → Empty l) (λ h. absurd (omega arith)) (λ f h _. read-none f h) (λ f h _. write-none f h) (λ i h _. port-none i h)
+    (λ _. timers-none) l b a
+
+-- the memories stand for it
+
+module _ (l : ℕ) (h : l < listCount) where
+  fresh-chain : Dec (l ≡ 0) → Chain freshSegment l (listOf freshDesk freshAlloc l)
+  unfolding Empty Chain
+  fresh-chain (yes e) =
+      rw (e, listOf-free freshDesk freshAlloc)
+      (unfold freshAlloc in up-chain entries 0 0 (omega arith) (nth-fresh 0 (omega arith) ∙ (unfold freshWord in refl)))
+  fresh-chain (no d) = rw (list-none l (omega arith) h .0) (fresh-head l (omega arith) h)
+
+  fresh-box : Dec (l ≡ 0) → map (dataOf freshSegment) (listOf freshDesk freshAlloc l) ≡ boxOf freshDesk freshAlloc l
+  unfolding Empty
+  fresh-box (yes e) = rw (e, listOf-free freshDesk freshAlloc, boxOf-free freshDesk freshAlloc) (unfold freshAlloc in up-data entries 0 (omega arith))
+  fresh-box (no d) = rw (list-none l (omega arith) h .0, list-none l (omega arith) h .1)
+
+fresh-rows : (i : ℕ) → i < rowCount → rowOf freshDesk i ≡ replicate rowWords 0
+fresh-rows i h =
+    each-row (λ i. rowOf freshDesk i ≡ replicate rowWords 0)
+    (λ f k. rowOf-file freshDesk f k ∙ (rw (fresh-file f) (unfold fileWords in refl)))
+    (λ j k. rowOf-place freshDesk j ∙ (rw (fresh-acc j) (unfold placeWords in refl))) i h
+
+pub fresh-segment : Segment freshSegment freshDesk freshAlloc
+fresh-segment = record {
+  bytes = unfold freshSegment in bytes-table segmentWords freshWord freshWord-word;
+  size = unfold freshSegment in length-table segmentWords freshWord;
+  chains = λ l h. fresh-chain l h (ℕ-discrete l 0);
+  boxes = λ l h. fresh-box l h (ℕ-discrete l 0);
+  rows = λ i h. fresh-row i h ∙ sym (fresh-rows i h);
+}
+
+pub fresh-bodies : Bodies freshBlocks freshBuffers freshDesk
+fresh-bodies = record {
+  blocks-bytes = unfold freshBlocks in bytes-zeros (shareBytes * files);
+  buffers-bytes = unfold freshBuffers in bytes-zeros (places * bufferBytes * files);
+  blocks-size = unfold freshBlocks in length-zeros (shareBytes * files);
+  buffers-size = unfold freshBuffers in length-zeros (places * bufferBytes * files);
+  each = λ f h. rw (fresh-file f) (unfold FileBytes in tt);
+}
+
+pub fresh-stands : Stands freshSegment freshBlocks freshBuffers freshDesk freshAlloc
+fresh-stands = record { segment = fresh-segment; bodies = fresh-bodies }
+
+-- and they are the only ones, the files that are not built being zero
+
+up-count : (n e x : ℕ) → e ≤ x → x < e + n → 1 ≤ count x (upFrom e n)
+unfolding upFrom count
+up-count zero e x h k = absurd (omega arith)
+up-count (suc n) e x h k = go (ℕ-discrete e x) (λ i. up-count n (suc e) x i (omega arith))
+  where
+    go : Dec (e ≡ x) → (suc e ≤ x → 1 ≤ count x (upFrom (suc e) n)) → 1 ≤ bit (eqb e x) + count x (upFrom (suc e) n)
+    go (yes u) r = omega (arith, ap bit (eq-eqb e x u))
+    go (no u) r = omega (arith, r (omega arith))
+
+pub fresh-covers : Covers freshDesk freshAlloc
+fresh-covers e h = (freeList, omega arith, rw (listOf-free freshDesk freshAlloc) (unfold freshAlloc in up-count entries 0 e (omega arith) (omega arith)))
+
+take-zeros : (n m : ℕ) → n ≤ m → take n (zeros m) ≡ zeros n
+unfolding zeros
+take-zeros zero m h = refl
+take-zeros (suc n) zero h = absurd (omega arith)
+take-zeros (suc n) (suc m) h = ap (_∷_ 0) (take-zeros n m (omega arith))
+
+drop-zeros : (n m k : ℕ) → n + k ≡ m → drop n (zeros m) ≡ zeros k
+unfolding zeros
+drop-zeros zero m k h = let e : m ≡ k = omega arith in rw e
+drop-zeros (suc n) zero k h = absurd (omega arith)
+drop-zeros (suc n) (suc m) k h = drop-zeros n m k (omega arith)
+
+part-zeros : (n at m : ℕ) → at + n ≤ m → take n (drop at (zeros m)) ≡ zeros n
+part-zeros n at m h = rw (drop-zeros at m (m - at) (omega arith)) (take-zeros n (m - at) (omega arith))
+
+pub fresh-blank : Blank freshDesk freshBlocks freshBuffers
+unfolding shareAt buffersAt freshBlocks freshBuffers
+fresh-blank f h e = (
+  part-zeros shareBytes (shareBytes * f) (shareBytes * files) (omega arith),
+  part-zeros (places * bufferBytes) (places * bufferBytes * f) (places * bufferBytes * files) (omega arith),
+)

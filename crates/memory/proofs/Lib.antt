@@ -1,0 +1,12 @@
+pub mod Image
+pub mod Words
+pub mod Segments
+pub mod Parts
+pub mod Bodies
+pub mod Frames
+pub mod Boxes
+pub mod Fresh
+pub mod Determined
+pub mod Sums
+pub mod Held
+pub mod Once

@@ -1,0 +1,101 @@
+-- What the words of the segment are for a desk of the rules and an allocation of entries.
+use Prim.Native.Nat.{ℕ, _+_, _-_, _/_, _%_}
+use mathlib.Core.Bool.{cond}
+use mathlib.Core.List.{List, [], _∷_, map}
+use mathlib.Core.Option.{Option, none, some}
+use lib.Dec.{ltb}
+use lib.ListN.{length, replicate}
+use Rattle.tally.specs.Count.{bit}
+use Rattle.segment.specs.Layout.{listCount, dataWords, rowCount, rowWords}
+use Rattle.rules.specs.Limits.{files, places}
+use Rattle.rules.specs.State.{Req, idle, reading, writing, readDone, writeDone, Acc, Timer, File, unbuilt, built}
+use Rattle.rules.specs.Requests.{accAt}
+use Rattle.rules.specs.Desk.{Desk, fileOf}
+use Rattle.rules.specs.Allocation.{Alloc, upFrom, placeOf, queueOf, portOf, timerList}
+
+unfoldable pub accOf : File → ℕ → Option Acc
+accOf unbuilt p = none
+accOf (built b) p = accAt b p
+
+unfoldable pub reqOf : Option Acc → Req
+reqOf none = idle
+reqOf (some a) = a .req
+
+-- the place i of the desk
+unfoldable pub placeAcc : Desk → ℕ → Option Acc
+placeAcc d i = accOf (fileOf d (i / places)) (i % places)
+
+-- the data of entries: place, unit, limit, keep, status, log, size, seconds, and a word to spare
+
+unfoldable pub reqWords : ℕ → Req → List ℕ
+reqWords i idle = replicate dataWords 0
+reqWords i (reading w l k) = i ∷ bit w ∷ l ∷ bit k ∷ 0 ∷ 0 ∷ 0 ∷ 0 ∷ 0 ∷ []
+reqWords i (writing w d) = i ∷ bit w ∷ 0 ∷ 0 ∷ 0 ∷ 0 ∷ length d ∷ 0 ∷ 0 ∷ []
+reqWords i (readDone st log d) = i ∷ 0 ∷ 0 ∷ 0 ∷ st ∷ log ∷ length d ∷ 0 ∷ 0 ∷ []
+reqWords i (writeDone st log) = i ∷ 0 ∷ 0 ∷ 0 ∷ st ∷ log ∷ 0 ∷ 0 ∷ 0 ∷ []
+
+unfoldable pub timerWords : Timer → List ℕ
+timerWords t = t .place ∷ 0 ∷ 0 ∷ 0 ∷ 0 ∷ 0 ∷ 0 ∷ t .left ∷ 0 ∷ []
+
+-- rows
+
+unfoldable pub fileWords : File → List ℕ
+fileWords unbuilt = replicate rowWords 0
+fileWords (built b) = b .geo .words ∷ b .geo .factor ∷ b .geo .blocks ∷ b .store .block ∷ b .store .spent ∷ length (b .store .recs) ∷ 0 ∷ 0 ∷ []
+
+unfoldable pub placeWords : Option Acc → List ℕ
+placeWords none = replicate rowWords 0
+placeWords (some a) = (1 + bit (a .writer)) ∷ a .ident ∷ a .share ∷ a .timeout ∷ bit (a .extended) ∷ bit (a .typed) ∷ bit (a .keep) ∷ bit (a .first) ∷ []
+
+unfoldable pub rowOf : Desk → ℕ → List ℕ
+rowOf d i = cond (ltb i files) (fileWords (fileOf d i)) (placeWords (placeAcc d (i - files)))
+
+-- lists of entries, and what the entries in them hold
+
+unfoldable pub rqOf : File → List ℕ
+rqOf unbuilt = []
+rqOf (built b) = b .rq
+
+unfoldable pub wqOf : File → List ℕ
+wqOf unbuilt = []
+wqOf (built b) = b .wq
+
+-- of five things the one for list l: for the free list, a file's read queue, its write queue, a place's reply port, the timer list
+unfoldable pub atList : {A : Type 0} → A → (ℕ → A) → (ℕ → A) → (ℕ → A) → A → ℕ → A
+atList free reads writes port timers l =
+    cond (ltb l 1) free (cond (ltb l 9) (reads (l - 1)) (cond (ltb l 17) (writes (l - 9)) (cond (ltb l 81) (port (l - 17)) timers)))
+
+-- the entries of list l
+unfoldable pub listOf : Desk → Alloc → ℕ → List ℕ
+listOf d s l =
+    atList (s .free) (λ f. queueOf (λ b. b .rq) f (fileOf d f) s) (λ f. queueOf (λ b. b .wq) f (fileOf d f) s) (λ i. portOf (reqOf (placeAcc d i)) i s)
+    (timerList s) l
+
+unfoldable pub queueWords : ℕ → File → List ℕ → List (List ℕ)
+queueWords f x q = map (λ p. reqWords (placeOf f p) (reqOf (accOf x p))) q
+
+unfoldable pub portWords : ℕ → Req → List (List ℕ)
+portWords i idle = []
+portWords i (reading w l k) = []
+portWords i (writing w d) = []
+portWords i (readDone st log d) = reqWords i (readDone st log d) ∷ []
+portWords i (writeDone st log) = reqWords i (writeDone st log) ∷ []
+
+-- what the entries of list l hold, in the same order
+unfoldable pub boxOf : Desk → Alloc → ℕ → List (List ℕ)
+boxOf d s l =
+    atList (map (λ e. replicate dataWords 0) (s .free)) (λ f. queueWords f (fileOf d f) (rqOf (fileOf d f)))
+    (λ f. queueWords f (fileOf d f) (wqOf (fileOf d f)))
+    (λ i. portWords i (reqOf (placeAcc d i)))
+    (map timerWords (s .clock)) l
+
+-- all lists, all contents, all rows, in order
+
+unfoldable pub listsOf : Desk → Alloc → List (List ℕ)
+listsOf d s = map (listOf d s) (upFrom 0 listCount)
+
+unfoldable pub boxesOf : Desk → Alloc → List (List (List ℕ))
+boxesOf d s = map (boxOf d s) (upFrom 0 listCount)
+
+unfoldable pub rowsOf : Desk → List (List ℕ)
+rowsOf d = map (rowOf d) (upFrom 0 rowCount)

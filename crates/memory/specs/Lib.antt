@@ -1,0 +1,5 @@
+pub mod Image
+pub mod Stands
+pub mod Covers
+pub mod Fresh
+pub mod Fine

@@ -1,0 +1,54 @@
+-- The memories stand for a desk of the rules with an allocation of entries.
+use Prim.Native.Nat.{ℕ, _*_, _<_}
+use mathlib.Core.Path.{_≡_}
+use mathlib.Core.List.{List, map}
+use lib.ListN.{length, getD, take, drop}
+use Rattle.segment.specs.Layout.{listCount, rowCount, rowWords, rowAt, segmentBytes}
+use Rattle.segment.specs.Table.{row, dataOf}
+use Rattle.ports.specs.Lists.{Chain}
+use Rattle.rules.specs.Limits.{files, places, shareBytes, bufferBytes}
+use Rattle.rules.specs.State.{File, unbuilt, built}
+use Rattle.rules.specs.Desk.{Desk, fileOf}
+use Rattle.rules.specs.Memories.{fileBuffers}
+use Rattle.rules.specs.Allocation.{Alloc}
+use Rattle.memory.specs.Image.{listOf, boxOf, rowOf}
+
+-- each element is a byte
+unfoldable pub Bytes : List ℕ → Type 0
+Bytes xs = (i : ℕ) → getD xs i 0 < 256
+
+-- the segment: each list leads through its entries, these hold what they should, and each row is as it should be
+pub record Segment (xs : List ℕ) (d : Desk) (s : Alloc) : Type 0 where
+  pub bytes : Bytes xs
+  pub size : length xs ≡ segmentBytes
+  pub chains : (l : ℕ) → l < listCount → Chain xs l (listOf d s l)
+  pub boxes : (l : ℕ) → l < listCount → map (dataOf xs) (listOf d s l) ≡ boxOf d s l
+  pub rows : (i : ℕ) → i < rowCount → row xs (rowAt i) rowWords ≡ rowOf d i
+
+-- file f's share of the blocks, and its eight record buffers
+unfoldable pub shareAt : ℕ → List ℕ → List ℕ
+shareAt f xs = take shareBytes (drop (shareBytes * f) xs)
+
+unfoldable pub buffersAt : ℕ → List ℕ → List ℕ
+buffersAt f xs = take (places * bufferBytes) (drop (places * bufferBytes * f) xs)
+
+-- the record buffer of place i of the desk
+unfoldable pub bufferAt : ℕ → List ℕ → List ℕ
+bufferAt i xs = take bufferBytes (drop (bufferBytes * i) xs)
+
+-- of a file that is not built nothing is asked: no call reads its share or its buffers
+unfoldable pub FileBytes : File → List ℕ → List ℕ → Type 0
+FileBytes unbuilt share buffers = Unit {0}
+FileBytes (built b) share buffers = (share ≡ b .store .share) × (buffers ≡ fileBuffers (b .accs))
+
+pub record Bodies (blocks buffers : List ℕ) (d : Desk) : Type 0 where
+  pub blocks-bytes : Bytes blocks
+  pub buffers-bytes : Bytes buffers
+  pub blocks-size : length blocks ≡ shareBytes * files
+  pub buffers-size : length buffers ≡ places * bufferBytes * files
+  pub each : (f : ℕ) → f < files → FileBytes (fileOf d f) (shareAt f blocks) (buffersAt f buffers)
+
+-- the three memories together
+pub record Stands (seg blocks buffers : List ℕ) (d : Desk) (s : Alloc) : Type 0 where
+  pub segment : Segment seg d s
+  pub bodies : Bodies blocks buffers d

@@ -1,0 +1,55 @@
+use Prim.Native.Nat.{_<_}
+use mathlib.Core.Path.{_≡_, refl, _∙_, sym}
+use native.Mathlib.Omega.{arith}
+use borrow.Author.Needs.{needs}
+use Rattle.rules.specs.Limits.{entries}
+use Rattle.ports.specs.Slots.{endSlot}
+use Rattle.ports.proofs.Steps.{end-stop, end-step}
+use Rattle.ports.proofs.end_slot.Statement.{statement}
+use Rattle.ports.proofs.end_slot.Tie as tie
+
+abbrev Inv-loop : tie.InvT-loop
+Inv-loop s l p₀ n₀ p n = (p < 1362) × (endSlot s l entries ≡ endSlot s p n)
+
+abbrev μ-loop : tie.MeasureT-loop
+μ-loop s l p₀ n₀ p n = n
+
+loop-holds : tie.Need-loop-holds Inv-loop μ-loop
+loop-holds c = (search needs, refl)
+
+get-requires : tie.Need-get-requires Inv-loop μ-loop
+get-requires c κs = search needs
+
+returns : tie.Need-returns Inv-loop μ-loop
+returns c = (sym (c .before .before .before .loop .inv .1 ∙ end-stop _ _ _ (c .before .get .ensures) _ (c .if1 .taken)), search needs)
+
+link-at-requires : tie.Need-link-at-requires Inv-loop μ-loop
+link-at-requires c κs = search needs
+
+sub-n : tie.Need-sub-n Inv-loop μ-loop
+sub-n c = search needs
+
+loop-less : tie.Need-loop-less Inv-loop μ-loop
+loop-less c = search needs
+
+loop-again : tie.Need-loop-again Inv-loop μ-loop
+loop-again c = (search needs, rw (c .link-at .ensures .0) (c .before .before .before .before .loop .inv .1 ∙ end-step _ _ _ (c .before .before .get .ensures) _ (c .before .before .before .loop-test .taken) (c .before .if1 .left)))
+
+returns-2 : tie.Need-returns-2 Inv-loop μ-loop
+unfolding endSlot
+returns-2 c = let z : c .before .loop .n ≡ 0 = omega arith in (sym (c .before .loop .inv .1 ∙ rw z), search needs)
+
+pub end-slot-spec : {M : Type 1} → statement M
+end-slot-spec =
+    tie.close
+    (tie.spec
+    Inv-loop
+    μ-loop
+    loop-holds
+    get-requires
+    returns
+    link-at-requires
+    sub-n
+    loop-less
+    loop-again
+    returns-2)

@@ -1,0 +1,67 @@
+use Prim.Native.Nat.{_<_}
+use mathlib.Core.Path.{_≡_, refl, _∙_, sym}
+use native.Mathlib.Omega.{arith}
+use borrow.Author.Needs.{needs}
+use borrow.Author.Tests.{lt-ltb, le-ltb}
+use Rattle.rules.specs.Limits.{entries}
+use Rattle.segment.specs.Fields.{entryAt, entryOf}
+use Rattle.ports.specs.Slots.{seek, over}
+use Rattle.ports.proofs.Steps.{seek-stop, seek-here, seek-step}
+use Rattle.ports.proofs.seek_over.Statement.{statement}
+use Rattle.ports.proofs.seek_over.Tie as tie
+
+abbrev Inv-loop : tie.InvT-loop
+Inv-loop s l seconds p₀ n₀ p n = (p < 1362) × (seek (over 7 seconds) s l entries ≡ seek (over 7 seconds) s p n)
+
+abbrev μ-loop : tie.MeasureT-loop
+μ-loop s l seconds p₀ n₀ p n = n
+
+loop-holds : tie.Need-loop-holds Inv-loop μ-loop
+loop-holds c = (search needs, refl)
+
+get-requires : tie.Need-get-requires Inv-loop μ-loop
+get-requires c κs = search needs
+
+returns : tie.Need-returns Inv-loop μ-loop
+returns c = (sym (c .before .before .before .loop .inv .1 ∙ seek-stop _ _ _ (c .before .get .ensures) _ _ (c .if1 .taken)), search needs)
+
+entry-seconds-requires : tie.Need-entry-seconds-requires Inv-loop μ-loop
+entry-seconds-requires c κs = search needs
+
+returns-2 : tie.Need-returns-2 Inv-loop μ-loop
+unfolding entryAt entryOf
+returns-2 c = (sym (c .before .before .before .before .before .loop .inv .1 ∙ seek-here _ _ _ (c .before .before .before .get .ensures) _ _ (c .before .before .if1 .left) (rw (← c .before .entry-seconds .ensures) (lt-ltb _ _ (c .if2 .taken)))), search needs)
+
+link-at-requires : tie.Need-link-at-requires Inv-loop μ-loop
+link-at-requires c κs = search needs
+
+sub-n : tie.Need-sub-n Inv-loop μ-loop
+sub-n c = search needs
+
+loop-less : tie.Need-loop-less Inv-loop μ-loop
+loop-less c = search needs
+
+loop-again : tie.Need-loop-again Inv-loop μ-loop
+unfolding entryAt entryOf
+loop-again c = (search needs, rw (c .link-at .ensures .0) (c .before .before .before .before .before .before .loop .inv .1 ∙ seek-step _ _ _ (c .before .before .before .before .get .ensures) _ _ (c .before .before .before .before .before .loop-test .taken) (c .before .before .before .if1 .left) (rw (← c .before .before .entry-seconds .ensures) (le-ltb _ _ (c .before .if2 .left)))))
+
+returns-3 : tie.Need-returns-3 Inv-loop μ-loop
+unfolding seek
+returns-3 c = let z : c .before .loop .n ≡ 0 = omega arith in (sym (c .before .loop .inv .1 ∙ rw z), search needs)
+
+pub seek-over-spec : {M : Type 1} → statement M
+seek-over-spec =
+    tie.close
+    (tie.spec
+    Inv-loop
+    μ-loop
+    loop-holds
+    get-requires
+    returns
+    entry-seconds-requires
+    returns-2
+    link-at-requires
+    sub-n
+    loop-less
+    loop-again
+    returns-3)

@@ -1,0 +1,67 @@
+use Prim.Native.Nat.{_<_}
+use mathlib.Core.Path.{_≡_, refl, _∙_, sym}
+use native.Mathlib.Omega.{arith}
+use borrow.Author.Needs.{needs}
+use borrow.Author.Tests.{eq-eqb, ne-eqb}
+use Rattle.rules.specs.Limits.{entries}
+use Rattle.segment.specs.Fields.{entryAt, entryOf}
+use Rattle.ports.specs.Slots.{seek, has}
+use Rattle.ports.proofs.Steps.{seek-stop, seek-here, seek-step}
+use Rattle.ports.proofs.seek_place.Statement.{statement}
+use Rattle.ports.proofs.seek_place.Tie as tie
+
+abbrev Inv-loop : tie.InvT-loop
+Inv-loop s l place p₀ n₀ p n = (p < 1362) × (seek (has 0 place) s l entries ≡ seek (has 0 place) s p n)
+
+abbrev μ-loop : tie.MeasureT-loop
+μ-loop s l place p₀ n₀ p n = n
+
+loop-holds : tie.Need-loop-holds Inv-loop μ-loop
+loop-holds c = (search needs, refl)
+
+get-requires : tie.Need-get-requires Inv-loop μ-loop
+get-requires c κs = search needs
+
+returns : tie.Need-returns Inv-loop μ-loop
+returns c = (sym (c .before .before .before .loop .inv .1 ∙ seek-stop _ _ _ (c .before .get .ensures) _ _ (c .if1 .taken)), search needs)
+
+entry-place-requires : tie.Need-entry-place-requires Inv-loop μ-loop
+entry-place-requires c κs = search needs
+
+returns-2 : tie.Need-returns-2 Inv-loop μ-loop
+unfolding entryAt entryOf
+returns-2 c = (sym (c .before .before .before .before .before .loop .inv .1 ∙ seek-here _ _ _ (c .before .before .before .get .ensures) _ _ (c .before .before .if1 .left) (rw (← c .before .entry-place .ensures) (eq-eqb _ _ (c .if2 .taken)))), search needs)
+
+link-at-requires : tie.Need-link-at-requires Inv-loop μ-loop
+link-at-requires c κs = search needs
+
+sub-n : tie.Need-sub-n Inv-loop μ-loop
+sub-n c = search needs
+
+loop-less : tie.Need-loop-less Inv-loop μ-loop
+loop-less c = search needs
+
+loop-again : tie.Need-loop-again Inv-loop μ-loop
+unfolding entryAt entryOf
+loop-again c = (search needs, rw (c .link-at .ensures .0) (c .before .before .before .before .before .before .loop .inv .1 ∙ seek-step _ _ _ (c .before .before .before .before .get .ensures) _ _ (c .before .before .before .before .before .loop-test .taken) (c .before .before .before .if1 .left) (rw (← c .before .before .entry-place .ensures) (ne-eqb _ _ (c .before .if2 .left)))))
+
+returns-3 : tie.Need-returns-3 Inv-loop μ-loop
+unfolding seek
+returns-3 c = let z : c .before .loop .n ≡ 0 = omega arith in (sym (c .before .loop .inv .1 ∙ rw z), search needs)
+
+pub seek-place-spec : {M : Type 1} → statement M
+seek-place-spec =
+    tie.close
+    (tie.spec
+    Inv-loop
+    μ-loop
+    loop-holds
+    get-requires
+    returns
+    entry-place-requires
+    returns-2
+    link-at-requires
+    sub-n
+    loop-less
+    loop-again
+    returns-3)

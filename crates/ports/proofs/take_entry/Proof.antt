@@ -1,0 +1,31 @@
+use mathlib.Core.Path.{_∙_}
+use borrow.Author.Tests.{lt-ltb, le-ltb}
+use borrow.Author.Needs.{needs}
+use Rattle.ports.specs.Slots.{unlink, taken}
+use Rattle.ports.proofs.take_entry.Statement.{statement}
+use Rattle.ports.proofs.take_entry.Tie as tie
+
+unlink-at-requires : tie.Need-unlink-at-requires
+unlink-at-requires c κs = search needs
+
+write-entry-requires : tie.Need-write-entry-requires
+write-entry-requires c κs = search needs
+
+same-length : tie.Need-same-length
+same-length c = search needs
+
+returns : tie.Need-returns
+unfolding taken
+returns c = (c .before .before .before .before .before .before .before .unlink-at .ensures .0, rw (c .before .before .write-entry .ensures, c .before .before .before .before .before .before .before .unlink-at .ensures .1, ← c .before .before .before .before .before .before .before .unlink-at .ensures .0, lt-ltb _ _ (c .before .before .before .before .if1 .taken)))
+
+same-length-2 : tie.Need-same-length-2
+same-length-2 c = search needs
+
+returns-2 : tie.Need-returns-2
+unfolding taken unlink
+returns-2 c = (c .before .before .before .unlink-at .ensures .0, c .before .before .before .unlink-at .ensures .1 ∙ rw (← c .before .before .before .unlink-at .ensures .0, le-ltb _ _ (c .if1 .left)))
+
+pub take-entry-spec : {M : Type 1} → statement M
+take-entry-spec =
+    tie.close
+    (tie.spec unlink-at-requires write-entry-requires same-length returns same-length-2 returns-2)

@@ -1,0 +1,44 @@
+use borrow.Author.Tests.{lt-ltb, le-ltb}
+use borrow.Author.Needs.{needs}
+use Rattle.ports.specs.Slots.{unlink}
+use Rattle.ports.proofs.unlink_at.Statement.{statement}
+use Rattle.ports.proofs.unlink_at.Tie as tie
+
+get-requires : tie.Need-get-requires
+get-requires c κs = search needs
+
+link-at-requires : tie.Need-link-at-requires
+link-at-requires c κs = search needs
+
+get-requires-2 : tie.Need-get-requires-2
+get-requires-2 c κs = search needs
+
+put-requires : tie.Need-put-requires
+put-requires c κs = search needs
+
+same-length : tie.Need-same-length
+same-length c = search needs
+
+returns : tie.Need-returns
+unfolding unlink
+returns c = (c .before .before .before .before .before .before .before .before .get .ensures, rw (c .before .before .put .ensures, c .before .before .before .before .get2 .ensures, c .before .before .before .before .before .link-at .ensures .0, ← c .before .before .before .before .before .before .before .before .get .ensures, lt-ltb _ _ (c .before .before .before .before .before .before .before .if1 .taken)))
+
+same-length-2 : tie.Need-same-length-2
+same-length-2 c = search needs
+
+returns-2 : tie.Need-returns-2
+unfolding unlink
+returns-2 c = (c .before .get .ensures, rw (← c .before .get .ensures, le-ltb _ _ (c .if1 .left)))
+
+pub unlink-at-spec : {M : Type 1} → statement M
+unlink-at-spec =
+    tie.close
+    (tie.spec
+    get-requires
+    link-at-requires
+    get-requires-2
+    put-requires
+    same-length
+    returns
+    same-length-2
+    returns-2)

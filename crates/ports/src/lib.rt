@@ -1,0 +1,145 @@
+// The 82 lists of the segment. A slot is the number of a word that holds an entry's number or nil: a list's head, or an entry's link; the first
+// of a list is its head, whose number is the list's. Slots are below 1362, where the rows begin.
+// Whatever is not below 128 ends a walk, and no walk goes on for more than 128 links: no memory can lead one out of the segment or round a ring.
+ghost use mathlib.Core.Path.{_≡_};
+ghost use Prim.Native.Nat.{_<_};
+ghost use lib.ListN.{length};
+ghost use Rattle.rules.specs.Limits.{entries};
+ghost use Rattle.segment.specs.Layout.{freeList, segmentBytes};
+ghost use Rattle.segment.specs.Table.{nth};
+ghost use Rattle.segment.specs.Fields.{entryWords};
+ghost use Rattle.ports.specs.Slots.{endSlot, seek, has, over, insert, unlink, append, taken, released};
+use segment::Entry;
+use segment::layout;
+
+// The slot at the end of the list at slot l.
+fn end_slot(s: &[u8], l: usize) -> usize
+    requires { ⌜ length (now s) ≡ segmentBytes ⌝ }
+    requires { ⌜ l < 1362 ⌝ }
+    ensures { λ r. ⌜ (r ≡ endSlot (now (s .entry)) l entries) × (r < 1362) ⌝ }
+{
+    let mut p = l;
+    let mut n = layout::ENTRIES;
+    while 0 < n {
+        let e = segment::get(s, p);
+        if layout::ENTRIES <= e {
+            return p;
+        }
+        p = segment::link_at(e);
+        n -= 1;
+    }
+    p
+}
+
+// The first slot of the list at slot l whose entry is of the place, or the list's end.
+pub fn seek_place(s: &[u8], l: usize, place: u16) -> usize
+    requires { ⌜ length (now s) ≡ segmentBytes ⌝ }
+    requires { ⌜ l < 1362 ⌝ }
+    ensures { λ r. ⌜ (r ≡ seek (has 0 place) (now (s .entry)) l entries) × (r < 1362) ⌝ }
+{
+    let mut p = l;
+    let mut n = layout::ENTRIES;
+    while 0 < n {
+        let e = segment::get(s, p);
+        if layout::ENTRIES <= e {
+            return p;
+        }
+        if segment::entry_place(s, e) == place {
+            return p;
+        }
+        p = segment::link_at(e);
+        n -= 1;
+    }
+    p
+}
+
+// The first slot of the list at slot l whose entry has more seconds, or the list's end: a timer of as many goes in there, behind its equals.
+pub fn seek_over(s: &[u8], l: usize, seconds: u16) -> usize
+    requires { ⌜ length (now s) ≡ segmentBytes ⌝ }
+    requires { ⌜ l < 1362 ⌝ }
+    ensures { λ r. ⌜ (r ≡ seek (over 7 seconds) (now (s .entry)) l entries) × (r < 1362) ⌝ }
+{
+    let mut p = l;
+    let mut n = layout::ENTRIES;
+    while 0 < n {
+        let e = segment::get(s, p);
+        if layout::ENTRIES <= e {
+            return p;
+        }
+        if seconds < segment::entry_seconds(s, e) {
+            return p;
+        }
+        p = segment::link_at(e);
+        n -= 1;
+    }
+    p
+}
+
+// Entry e is put in at slot p: in front of the list where p is its head.
+pub fn insert_at(s: &mut [u8], p: usize, e: u16)
+    requires { ⌜ length (now s) ≡ segmentBytes ⌝ }
+    requires { ⌜ p < 1362 ⌝ }
+    requires { ⌜ e < entries ⌝ }
+    ensures { λ _. ⌜ now (s .exit) ≡ insert (now (s .entry)) p e ⌝ }
+{
+    let next = segment::get(s, p);
+    segment::put(s, segment::link_at(e), next);
+    segment::put(s, p, e);
+}
+
+// What slot p holds is taken out and handed back: the first of the list where p is its head. At the end of a list nothing changes.
+pub fn unlink_at(s: &mut [u8], p: usize) -> u16
+    requires { ⌜ length (now s) ≡ segmentBytes ⌝ }
+    requires { ⌜ p < 1362 ⌝ }
+    ensures { λ r. ⌜ (r ≡ nth (now (s .entry)) p) × (now (s .exit) ≡ unlink (now (s .entry)) p) ⌝ }
+{
+    let e = segment::get(s, p);
+    if e < layout::ENTRIES {
+        let next = segment::get(s, segment::link_at(e));
+        segment::put(s, p, next);
+    }
+    e
+}
+
+// Entry e is put in at the end of the list at slot l.
+pub fn append_to(s: &mut [u8], l: usize, e: u16)
+    requires { ⌜ length (now s) ≡ segmentBytes ⌝ }
+    requires { ⌜ l < 1362 ⌝ }
+    requires { ⌜ e < entries ⌝ }
+    ensures { λ _. ⌜ now (s .exit) ≡ append (now (s .entry)) l e ⌝ }
+{
+    let p = end_slot(s, l);
+    insert_at(s, p, e);
+}
+
+// The first free entry is taken and filled, and its number handed back; 128 or more, and nothing changes, where none is free.
+pub fn take_entry(s: &mut [u8], m: Entry) -> u16
+    requires { ⌜ length (now s) ≡ segmentBytes ⌝ }
+    ensures { λ r. ⌜ (r ≡ nth (now (s .entry)) freeList) × (now (s .exit) ≡ taken (now (s .entry)) (entryWords m)) ⌝ }
+{
+    let e = unlink_at(s, layout::FREE_LIST);
+    if e < layout::ENTRIES {
+        segment::write_entry(s, e, m);
+    }
+    e
+}
+
+// Entry e is zeroed and goes to the front of the free list.
+pub fn release_entry(s: &mut [u8], e: u16)
+    requires { ⌜ length (now s) ≡ segmentBytes ⌝ }
+    requires { ⌜ e < entries ⌝ }
+    ensures { λ _. ⌜ now (s .exit) ≡ released (now (s .entry)) e ⌝ }
+{
+    let blank = Entry {
+        place: 0,
+        unit: 0,
+        limit: 0,
+        keep: 0,
+        status: 0,
+        log: 0,
+        size: 0,
+        seconds: 0,
+    };
+    segment::write_entry(s, e, blank);
+    insert_at(s, layout::FREE_LIST, e);
+}

@@ -1,0 +1,63 @@
+use Prim.Native.Nat.{_+_, _-_, _≤_}
+use mathlib.Core.Path.{_≡_, refl, _∙_}
+use native.Mathlib.Omega.{arith}
+use lib.ListN.{length, drop, drop-of-length-le}
+use borrow.Author.Needs.{needs}
+use Rattle.segment.specs.Table.{fill}
+use Rattle.segment.proofs.Rows.{fill-turn}
+use Rattle.segment.proofs.put_row.Statement.{statement}
+use Rattle.segment.proofs.put_row.Tie as tie
+
+abbrev Inv-loop : tie.InvT-loop
+Inv-loop s₀ k vs i₀ s i = (i ≤ length vs) × (fill s (k + i) (drop i vs) ≡ fill s₀ k vs) × (length s ≡ length s₀)
+
+abbrev μ-loop : tie.MeasureT-loop
+μ-loop s₀ k vs i₀ s i = length vs - i
+
+loop-holds : tie.Need-loop-holds Inv-loop μ-loop
+loop-holds c = let e : c .before .before .args .k + 0 ≡ c .before .before .args .k = omega arith in (omega arith, rw e, refl)
+
+add-put : tie.Need-add-put Inv-loop μ-loop
+add-put c = search needs
+
+mul-put : tie.Need-mul-put Inv-loop μ-loop
+mul-put c = search needs
+
+shared-slice-read-put : tie.Need-shared-slice-read-put Inv-loop μ-loop
+shared-slice-read-put c = search needs
+
+put-requires : tie.Need-put-requires Inv-loop μ-loop
+put-requires c κs = search needs
+
+add-i : tie.Need-add-i Inv-loop μ-loop
+add-i c = search needs
+
+loop-less : tie.Need-loop-less Inv-loop μ-loop
+loop-less c = search needs
+
+loop-again : tie.Need-loop-again Inv-loop μ-loop
+loop-again c = (search needs, rw (c .before .before .put .ensures) (fill-turn _ _ _ _ (c .before .before .before .before .before .loop-test .taken)) ∙ c .before .before .before .before .before .before .loop .inv .1, search needs)
+
+same-length : tie.Need-same-length Inv-loop μ-loop
+same-length c = search needs
+
+returns : tie.Need-returns Inv-loop μ-loop
+unfolding fill
+returns c = rw (drop-of-length-le _ (c .loop-test .left)) at (c .before .loop .inv .1)
+
+pub put-row-spec : {M : Type 1} → statement M
+put-row-spec =
+    tie.close
+    (tie.spec
+    Inv-loop
+    μ-loop
+    loop-holds
+    add-put
+    mul-put
+    shared-slice-read-put
+    put-requires
+    add-i
+    loop-less
+    loop-again
+    same-length
+    returns)

@@ -1,0 +1,71 @@
+-- What the words of an entry and of a row are, in their order.
+use Prim.Native.Nat.{ℕ}
+use mathlib.Core.List.{List, [], _∷_}
+use lib.ListN.{getD}
+use Rattle.segment.specs.declared.Entry.{Entry}
+use Rattle.segment.specs.declared.FileRow.{FileRow}
+use Rattle.segment.specs.declared.PlaceRow.{PlaceRow}
+use Rattle.segment.specs.Layout.{fileRow, placeRow, rowAt, rowWords}
+use Rattle.segment.specs.Table.{row, dataOf}
+
+-- an entry's data, with one word to spare
+unfoldable pub entryWords : Entry → List ℕ
+entryWords m = m .place ∷ m .unit ∷ m .limit ∷ m .keep ∷ m .status ∷ m .log ∷ m .size ∷ m .seconds ∷ 0 ∷ []
+
+-- a file's row: all zero where it is not built, since R is 1 at least
+unfoldable pub fileWords : FileRow → List ℕ
+fileWords r = r .words ∷ r .factor ∷ r .blocks ∷ r .block ∷ r .spent ∷ r .held ∷ 0 ∷ 0 ∷ []
+
+-- a place's row: all zero where no accessor is open there, since a reader's side is 1 and a writer's 2
+unfoldable pub placeWords : PlaceRow → List ℕ
+placeWords r = r .side ∷ r .id ∷ r .share ∷ r .timeout ∷ r .extended ∷ r .typed ∷ r .keep ∷ r .first ∷ []
+
+-- and back: what has these words
+
+unfoldable pub entryOf : List ℕ → Entry
+entryOf m =
+    record {
+      place = getD m 0 0;
+      unit = getD m 1 0;
+      limit = getD m 2 0;
+      keep = getD m 3 0;
+      status = getD m 4 0;
+      log = getD m 5 0;
+      size = getD m 6 0;
+      seconds = getD m 7 0;
+    }
+
+unfoldable pub fileRowOf : List ℕ → FileRow
+fileRowOf r =
+    record {
+      words = getD r 0 0;
+      factor = getD r 1 0;
+      blocks = getD r 2 0;
+      block = getD r 3 0;
+      spent = getD r 4 0;
+      held = getD r 5 0;
+    }
+
+unfoldable pub placeRowOf : List ℕ → PlaceRow
+placeRowOf r =
+    record {
+      side = getD r 0 0;
+      id = getD r 1 0;
+      share = getD r 2 0;
+      timeout = getD r 3 0;
+      extended = getD r 4 0;
+      typed = getD r 5 0;
+      keep = getD r 6 0;
+      first = getD r 7 0;
+    }
+
+-- entry e, the row of file f, the row of place i, as they stand in the segment
+
+unfoldable pub entryAt : List ℕ → ℕ → Entry
+entryAt s e = entryOf (dataOf s e)
+
+unfoldable pub fileAt : List ℕ → ℕ → FileRow
+fileAt s f = fileRowOf (row s (rowAt (fileRow f)) rowWords)
+
+unfoldable pub placeAt : List ℕ → ℕ → PlaceRow
+placeAt s i = placeRowOf (row s (rowAt (placeRow i)) rowWords)

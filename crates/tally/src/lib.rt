@@ -1,0 +1,1 @@
+// No code: counting numbers in lists. specs/ has what is counted, proofs/ the laws.

@@ -1,0 +1,54 @@
+-- Laws of a part of a memory: one that was lent and is back, and the parts beside it.
+use Prim.Native.Nat.{ℕ, suc, _+_, _-_, _*_, _≤_, _<_}
+use mathlib.Core.Path.{_≡_, sym, ap, _∙_}
+use mathlib.Core.List.{List, _++_, append-assoc}
+use mathlib.Core.Logic.{_⊎_, inl, inr}
+use native.Mathlib.Omega.{arith}
+use native.Mathlib.Nat.{mul-suc, mul-le-mul-left}
+use lib.ListN.{length, getD, take, drop, length-take, length-drop}
+use lib.Seq.{sets, sets-eq, length-sets, take-all, drop-drop, getD-take, getD-drop, ext-getD}
+use Rattle.words.specs.Word.{part}
+use Rattle.words.proofs.Stands.{getD-sets, same, part-read}
+
+-- the part from a on, k bytes long, comes back as ys
+pub part-back : (xs ys : List ℕ) (a k : ℕ) → length ys ≡ k → a + k ≤ length xs → take a xs ++ (ys ++ drop k (drop a xs)) ≡ sets xs a ys
+part-back xs ys a k e h =
+    rw (drop-drop k a xs, ← e, ← append-assoc (take a xs) ys (drop (a + length ys) xs)) (sym (sets-eq ys xs a (omega arith)))
+
+-- it is what was stored there
+pub part-same : (xs ys : List ℕ) (a k : ℕ) → length ys ≡ k → a + k ≤ length xs → take k (drop a (sets xs a ys)) ≡ ys
+part-same xs ys a k e h =
+    let f : a + length ys ≤ length (sets xs a ys) = rw length-sets (omega arith) in
+    rw (← e) (part-read ys (sets xs a ys) a f (same ys xs a (omega arith)))
+
+-- and all beside it stays
+pub part-beside : (xs ys : List ℕ) (a b k : ℕ) → (b + k ≤ a) ⊎ (a + length ys ≤ b) → take k (drop b (sets xs a ys)) ≡ take k (drop b xs)
+part-beside xs ys a b k d =
+    let n : length (take k (drop b (sets xs a ys))) ≡ length (take k (drop b xs)) = simp (length-take, length-drop, length-sets) in
+    ext-getD 0 (take k (drop b (sets xs a ys))) (take k (drop b xs)) n (λ i h. each i (omega (arith, length-take k (drop b (sets xs a ys)))))
+  where
+    away : (i : ℕ) → i < k → (b + k ≤ a) ⊎ (a + length ys ≤ b) → (b + i < a) ⊎ (a + length ys ≤ b + i)
+    away i h (inl e) = inl (omega arith)
+    away i h (inr e) = inr (omega arith)
+
+    each : (i : ℕ) → i < k → getD (take k (drop b (sets xs a ys))) i 0 ≡ getD (take k (drop b xs)) i 0
+    each i h = rw (getD-take k (drop b (sets xs a ys)) i 0 h, getD-take k (drop b xs) i 0 h, getD-drop b (sets xs a ys) i 0, getD-drop b xs i 0) (getD-sets ys xs a (b + i) (away i h d))
+
+-- of the parts of a memory, k bytes each, those before and behind the i-th
+pub part-other : (xs ys : List ℕ) (k i j : ℕ) → length ys ≡ k → (i < j) ⊎ (j < i) → part k j (sets xs (k * i) ys) ≡ part k j xs
+part-other xs ys k i j e (inl h) =
+    let l : k * suc i ≤ k * j = mul-le-mul-left k h in
+    part-beside xs ys (k * i) (k * j) k (inr (omega (arith, mul-suc k i)))
+part-other xs ys k i j e (inr h) =
+    let l : k * suc j ≤ k * i = mul-le-mul-left k h in
+    part-beside xs ys (k * i) (k * j) k (inl (omega (arith, mul-suc k j)))
+
+-- the whole of it
+pub sets-whole : (xs ys : List ℕ) → length ys ≡ length xs → sets xs 0 ys ≡ ys
+sets-whole xs ys e =
+    let l : length (sets xs 0 ys) ≤ length xs = omega (arith, length-sets xs 0 ys) in
+    sym (take-all (length xs) (sets xs 0 ys) l) ∙ part-same xs ys 0 (length xs) e (omega arith)
+
+-- how long a part is, from its two ends
+pub span : (a n : ℕ) → a + n - a ≡ n
+span a n = omega arith
