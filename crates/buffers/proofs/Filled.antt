@@ -1,5 +1,5 @@
 -- Laws of the bytes of a buffer: how they are written, how they are tested, and that they are the rules'.
-use Prim.Native.Nat.{ℕ, _+_, _-_, _*_, _≤_, _<_}
+use Prim.Native.Nat.{ℕ, _+_, _-_, _≤_}
 use mathlib.Core.Bool.{true}
 use mathlib.Core.Path.{_≡_, refl, sym, ap, _∙_}
 use mathlib.Core.List.{List, [], _++_}
@@ -11,11 +11,11 @@ use Rattle.words.specs.Word.{zeros, quiet}
 use Rattle.words.proofs.Runs.{length-zeros, sets-at}
 use Rattle.words.proofs.Stands.{Stands, right, same, part-read}
 use Rattle.words.proofs.Zeros.{quiet-stands, quiet-true}
-use Rattle.words.proofs.Parts.{sets-whole, part-back}
+use Rattle.words.proofs.Parts.{sets-whole}
 use Rattle.rules.specs.Limits.{bufferBytes}
 use Rattle.rules.specs.State.{Acc}
 use Rattle.rules.specs.Memories.{lies, buffer}
-use Rattle.buffers.specs.Buffer.{bufferCount, buffersBytes, filled}
+use Rattle.buffers.specs.Buffer.{filled}
 
 pub length-filled : (d : List ℕ) → length d ≤ bufferBytes → length (filled d) ≡ bufferBytes
 unfolding filled
@@ -35,11 +35,6 @@ fill-written x₀ x₁ x₂ d n h e₁ e₂ =
 
 pub clear-written : (x₀ x₁ : List ℕ) → length x₀ ≡ bufferBytes → x₁ ≡ sets x₀ 0 (zeros bufferBytes) → x₁ ≡ zeros bufferBytes
 clear-written x₀ x₁ n e = e ∙ sets-whole x₀ (zeros bufferBytes) (length-zeros bufferBytes ∙ sym n)
-
--- a buffer that was lent from the whole memory, and is back with the bytes bs
-pub back : (xs ys bs : List ℕ) (i : ℕ) → length xs ≡ buffersBytes → i < bufferCount → length bs ≡ bufferBytes → ys ≡ bs
-    → take (bufferBytes * i) xs ++ (ys ++ drop bufferBytes (drop (bufferBytes * i) xs)) ≡ sets xs (bufferBytes * i) bs
-back xs ys bs i n h l e = rw e (part-back xs bs (bufferBytes * i) bufferBytes l (omega arith))
 
 -- The test says that what stands there are data and zeros, and each such buffer passes.
 

@@ -1,5 +1,10 @@
 // The limits of document 01 in the code, each by its name; the rules have them under the same names, in Limits.
 
+// "Eight files, 0 to 7, each with eight accessor places, 0 to 7."
+pub const FILES: usize = 8;
+
+pub const PLACES: usize = 8;
+
 pub const MOST_WORDS: u16 = 128;
 
 pub const MOST_FACTOR: u16 = 16;
@@ -21,3 +26,5 @@ pub const MOST_READ_BYTES: u32 = 260;
 
 // The event program's lines.
 pub const LINE_BYTES: usize = 261;
+
+pub const MOST_TYPE: u16 = 2;

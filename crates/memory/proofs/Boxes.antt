@@ -18,18 +18,18 @@ use Rattle.memory.specs.Covers.{Covers, Once}
 -- a list of values g 0, g 1, ..
 
 module _ {A : Type 0} (g : ℕ → A) where
-  length-up : (n k : ℕ) → length (map g (upFrom k n)) ≡ n
+  pub length-up : (n k : ℕ) → length (map g (upFrom k n)) ≡ n
   unfolding upFrom
   length-up zero k = refl
   length-up (suc n) k = ap suc (length-up n (suc k))
 
-  getD-up : (n k l : ℕ) (a : A) → l < n → getD (map g (upFrom k n)) l a ≡ g (k + l)
+  pub getD-up : (n k l : ℕ) (a : A) → l < n → getD (map g (upFrom k n)) l a ≡ g (k + l)
   unfolding upFrom
   getD-up zero k l a h = absurd (omega arith)
   getD-up (suc n) k zero a h = let e : k ≡ k + 0 = omega arith in ap g e
   getD-up (suc n) k (suc l) a h = let e : suc k + l ≡ k + suc l = omega arith in getD-up n (suc k) l a (omega arith) ∙ ap g e
 
-  getD-all : (n l : ℕ) (a : A) → l < n → getD (map g (upFrom 0 n)) l a ≡ g l
+  pub getD-all : (n l : ℕ) (a : A) → l < n → getD (map g (upFrom 0 n)) l a ≡ g l
   getD-all n l a h = let e : 0 + l ≡ l = omega arith in getD-up n 0 l a h ∙ ap g e
 
 module _ (d : Desk) (s : Alloc) where

@@ -12,10 +12,10 @@ use lib.ListN.{length, getD}
 use borrow.Author.Tests.{eq-eqb, ne-eqb}
 use Rattle.tally.specs.Count.{bit, count}
 use Rattle.tally.proofs.Counts.{count-append}
-use Rattle.rules.specs.Limits.{files, places}
+use Rattle.rules.specs.Limits.{places}
 use Rattle.rules.specs.State.{Req, idle, reading, writing, readDone, writeDone, Acc, Timer}
 use Rattle.rules.specs.Allocation.{Held, nothing, own, timed, Alloc, placeOf, heldAt, ownEntry, timerEntry, portOf}
-use Rattle.laws.specs.Outstanding.{waitsRead, waitsWrite, uncollected, awaits, outstanding}
+use Rattle.laws.specs.Outstanding.{waitsRead, waitsWrite, uncollected, outstanding}
 use Rattle.laws.specs.Outstanding as laws
 use Rattle.laws.specs.Counts.{placesOf, countT}
 use Rattle.laws.specs.Entries.{entriesOf, taken, size, local, sieve}

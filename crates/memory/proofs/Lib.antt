@@ -10,3 +10,4 @@ pub mod Determined
 pub mod Sums
 pub mod Held
 pub mod Once
+pub mod Reached

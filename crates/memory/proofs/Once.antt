@@ -1,16 +1,16 @@
 -- "each ten-word entry is always on exactly one list": what the places hold is what stands on the queues, the reply ports and the timer list.
 use Prim.Native.Nat.{ℕ, zero, suc, _+_, _*_, _/_, _%_, _≤_, _<_}
 use mathlib.Core.Path.{_≡_, refl, sym, ap, ap₂, _∙_}
-use mathlib.Core.List.{List, map}
+use mathlib.Core.List.{List}
 use mathlib.Core.Option.{Option, none}
 use native.Mathlib.Omega.{arith}
 use native.Mathlib.Nat.{zero-mul, add-mul}
-use lib.Dec.{ltb, eqb}
+use lib.Dec.{eqb}
 use lib.ListN.{length, getD, replicate, List·getD-eq-default}
 use Rattle.tally.specs.Count.{bit, count, total}
 use Rattle.segment.specs.Layout.{listCount, readQueue, writeQueue, replyPort}
 use Rattle.segment.specs.Layout as layout
-use Rattle.rules.specs.Limits.{files, places, entries}
+use Rattle.rules.specs.Limits.{files, places}
 use Rattle.rules.specs.State.{Req, idle, Acc, Built, File, unbuilt, built}
 use Rattle.rules.specs.Requests.{accAt}
 use Rattle.rules.specs.Desk.{Desk, fileOf}
@@ -18,7 +18,7 @@ use Rattle.rules.specs.Allocation.{Alloc, placeOf, heldAt, ownEntry, timerEntry
 use Rattle.laws.specs.Runs.{OnFile}
 use Rattle.laws.specs.Outstanding.{waitsRead, waitsWrite, uncollected, outstanding}
 use Rattle.laws.specs.Counts.{placesOf, countT}
-use Rattle.laws.specs.Entries.{entriesOf, taken, size, accsOf, timersOf, Agreed}
+use Rattle.laws.specs.Entries.{entriesOf, taken, size, accsOf, timersOf, Agrees, Agreed}
 use Rattle.laws.specs.Queues.{Agree}
 use Rattle.memory.specs.Image.{accOf, reqOf, placeAcc, listOf, listsOf}
 use Rattle.memory.specs.Covers.{Covers, Once}
@@ -62,7 +62,7 @@ agree-writes unbuilt a = tt
 agree-writes (built b) a = λ p. a p .writes ∙ ap waitsWrite (req-same (accAt b p))
 
 -- the accessor at a place
-acc-at : (y : File) (p : ℕ) → getD (accsOf y) p none ≡ accOf y p
+pub acc-at : (y : File) (p : ℕ) → getD (accsOf y) p none ≡ accOf y p
 unfolding accsOf accOf accAt
 acc-at unbuilt p = go places p
   where
@@ -72,7 +72,9 @@ acc-at unbuilt p = go places p
     go (suc n) (suc q) = go n q
 acc-at (built b) p = refl
 
-module _ (d : Desk) (s : Alloc) (A : Agreed d s) (Q : (f : ℕ) → f < files → OnFile Agree (fileOf d f)) (x : ℕ) where
+-- an allocation that agrees with the files, but for the rule itself
+module _ (d : Desk) (s : Alloc) (long : length (s .held) ≡ files * places) (within : (i : ℕ) → files * places ≤ i → countT i (s .clock) ≡ 0)
+    (agrees : (f : ℕ) → f < files → Agrees f s (accsOf (fileOf d f)) (timersOf (fileOf d f))) (Q : (f : ℕ) → f < files → OnFile Agree (fileOf d f)) (x : ℕ) where
   -- whether x is the entry of place i's request, or of its timer
   B : ℕ → ℕ
   B i = bit (eqb (ownEntry (heldAt s i)) x)
@@ -108,7 +110,7 @@ module _ (d : Desk) (s : Alloc) (A : Agreed d s) (Q : (f : ℕ) → f < files �
     unfolding all by placeOf
     queues-count h =
         sum-same files _ _
-        (λ f k. queue-count f (fileOf d f) (A .agrees f k .eight) (h f k)
+        (λ f k. queue-count f (fileOf d f) (agrees f k .eight) (h f k)
         ∙ sum-same places _ _ (λ p j. ap (λ o. w (reqOf o) * B (8 * f + p)) (sym (placeAcc-at d f p j))))
         ∙ sym (sum-rows files (by w))
 
@@ -130,7 +132,7 @@ module _ (d : Desk) (s : Alloc) (A : Agreed d s) (Q : (f : ℕ) → f < files �
   unfolding all ticks timerList C countT
   timers-count =
       ap (count x) (listOf-timers d s ∙ sym (map-place (λ i. timerEntry (heldAt s i)) (s .clock)))
-      ∙ count-map x (files * places) (λ i. timerEntry (heldAt s i)) (placesOf (s .clock)) (λ i h. A .clock .within i h)
+      ∙ count-map x (files * places) (λ i. timerEntry (heldAt s i)) (placesOf (s .clock)) (λ i h. within i h)
 
   -- what one place holds, and what all do
 
@@ -146,15 +148,15 @@ module _ (d : Desk) (s : Alloc) (A : Agreed d s) (Q : (f : ℕ) → f < files �
       o = getD (accsOf (fileOf d f)) p none
 
       times : countT (placeOf f p) (s .clock) ≡ countT p (timersOf (fileOf d f))
-      times = sieve-at f p k (s .clock) ∙ ap (countT p) (A .agrees f h .clock)
+      times = sieve-at f p k (s .clock) ∙ ap (countT p) (agrees f h .clock)
 
       holds : size (heldAt s (placeOf f p)) ≡ outstanding q + countT (placeOf f p) (s .clock)
       holds =
-          A .agrees f h .holds p k
+          agrees f h .holds p k
           ∙ ap₂ {C = ℕ} (λ a b. a + b) (ap outstanding (req-same o ∙ ap reqOf (acc-at (fileOf d f) p))) (sym times)
 
       few : countT (placeOf f p) (s .clock) ≤ outstanding q
-      few = omega (arith, times, A .agrees f h .timed p, ap outstanding (req-same o ∙ ap reqOf (acc-at (fileOf d f) p)))
+      few = omega (arith, times, agrees f h .timed p, ap outstanding (req-same o ∙ ap reqOf (acc-at (fileOf d f) p)))
 
   held-at : (i : ℕ) → i < files * places → count x (entriesOf (heldAt s i)) ≡ by waitsRead i + by waitsWrite i + by uncollected i + ticks i
   unfolding by placeAcc placeOf
@@ -167,25 +169,26 @@ module _ (d : Desk) (s : Alloc) (A : Agreed d s) (Q : (f : ℕ) → f < files �
   held-all : count x (taken (s .held)) ≡ all (by waitsRead) + all (by waitsWrite) + all (by uncollected) + all ticks
   unfolding all heldAt
   held-all =
-      taken-count x (s .held) ∙ rw (A .whole .long)
+      taken-count x (s .held) ∙ rw (long)
       (sum-same (files * places) _ _ held-at
       ∙ sum-plus (files * places) (λ i. by waitsRead i + by waitsWrite i + by uncollected i) ticks
       ∙ ap (λ n. n + all ticks)
       (sum-plus (files * places) (λ i. by waitsRead i + by waitsWrite i) (by uncollected)
       ∙ ap (λ n. n + all (by uncollected)) (sum-plus (files * places) (by waitsRead) (by waitsWrite))))
 
-  once-at : total x (listsOf d s) ≡ bit (ltb x entries)
+  -- what stands on the lists is free or held
+  pub lists-taken : total x (listsOf d s) ≡ count x (s .free) + count x (taken (s .held))
   unfolding listsOf
-  once-at =
+  lists-taken =
       total-up x (listOf d s) listCount 0
       ∙ sum-same listCount _ (λ l. count x (listOf d s l)) (λ l _. let e : 0 + l ≡ l = omega arith in ap (λ l. count x (listOf d s l)) e)
       ∙ sum-lists (λ l. count x (listOf d s l))
-      ∙ omega (arith, ap (count x) (listOf-free d s), reads-count, writes-count, ports-count, timers-count, held-all, A .whole .once x)
+      ∙ omega (arith, ap (count x) (listOf-free d s), reads-count, writes-count, ports-count, timers-count, held-all)
 
 -- of a desk and an allocation that agree, as they do after every run
 module _ (d : Desk) (s : Alloc) (A : Agreed d s) (Q : (f : ℕ) → f < files → OnFile Agree (fileOf d f)) where
   pub agreed-once : Once d s
-  agreed-once x = once-at d s A Q x
+  agreed-once x = lists-taken d s (A .whole .long) (A .clock .within) (A .agrees) Q x ∙ A .whole .once x
 
   pub agreed-covers : Covers d s
   agreed-covers = once-covers d s agreed-once

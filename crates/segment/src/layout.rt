@@ -73,3 +73,6 @@ pub const PLACE_TYPED: usize = 5;
 pub const PLACE_KEEP: usize = 6;
 
 pub const PLACE_FIRST: usize = 7;
+
+// The whole, in bytes.
+pub const SEGMENT_BYTES: usize = 3876;

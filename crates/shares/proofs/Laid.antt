@@ -55,7 +55,7 @@ or-equal a b c d h = go (or-true (eqb a b) (eqb c d) h)
     go (inl e) = inl (eqb-true a b e)
     go (inr e) = inr (eqb-true c d e)
 
-fair-says : (words : ℕ) (xs : List ℕ) (e p : ℕ) → fair words xs e p ≡ true → Fair words xs e p
+pub fair-says : (words : ℕ) (xs : List ℕ) (e p : ℕ) → fair words xs e p ≡ true → Fair words xs e p
 unfolding fair
 fair-says words xs e p h =
     let q₇ = and-true _ (eqb (wordAt xs p % 2) 0 || eqb (getD xs (p + 2 + wordAt xs p) 0) 0) h in
@@ -166,25 +166,45 @@ pad-zero : (xs : List ℕ) (p n : ℕ) → (n % 2 ≡ 0 → ⊥) → Stands xs p
 unfolding pad Stands
 pad-zero xs p n f h = let s : Stands xs p (0 ∷ []) = rw (ne-eqb (n % 2) 0 f) at h in s .0
 
+equal-or : (a b c d : ℕ) → (a ≡ b) ⊎ (c ≡ d) → eqb a b || eqb c d ≡ true
+equal-or a b c d (inl e) = true-or (eqb a b) (eqb c d) (λ q. absurd (eqb-false a b q e))
+equal-or a b c d (inr e) = true-or (eqb a b) (eqb c d) (λ q. eq-eqb c d e)
+
+pub fair-made : (words : ℕ) (xs : List ℕ) (e p : ℕ) → Fair words xs e p → fair words xs e p ≡ true
+unfolding fair
+fair-made words xs e p f =
+    true-and _ _ (true-and _ _ (true-and _ _ (true-and _ _ (true-and _ _ (true-and _ _ (true-and _ _
+    (le-leb (p + 6) e (f .room))
+    (le-leb 4 (wordAt xs p) (f .low)))
+    (le-leb (wordAt xs p) (4 + 2 * words) (f .high)))
+    (le-leb (next xs p) e (f .inside)))
+    (le-leb (wordAt xs (p + 2)) mostType (f .kind)))
+    (le-leb 1 (wordAt xs (p + 4)) (f .from)))
+    (equal-or (wordAt xs (p + 2)) 0 (wordAt xs p) 4 (f .bare)))
+    (equal-or (wordAt xs p % 2) 0 (getD xs (p + 2 + wordAt xs p) 0) 0 (f .even))
+
 fair-true : (words : ℕ) (xs : List ℕ) (e p : ℕ) (r : Rec) → Stands xs p (recordBytes r) → p + 2 * recordWords r ≤ e → recordWords r ≤ words + 3
     → GoodRec r
     → fair words xs e p ≡ true
-unfolding fair recordWords
+unfolding recordWords
 fair-true words xs e p r h k w t =
     let f = fields xs p r h in
     let n = length (r .body) in
     let i : p + 2 + wordAt xs p ≡ p + 6 + n = omega (arith, f .size) in
-    true-and _ _ (true-and _ _ (true-and _ _ (true-and _ _ (true-and _ _ (true-and _ _ (true-and _ _
-    (le-leb (p + 6) e (omega arith))
-    (le-leb 4 (wordAt xs p) (omega (arith, f .size))))
-    (le-leb (wordAt xs p) (4 + 2 * words) (omega (arith, f .size))))
-    (le-leb (next xs p) e (omega (arith, next-stands xs p r h))))
-    (le-leb (wordAt xs (p + 2)) mostType (omega (arith, f .kind, t .kind))))
-    (le-leb 1 (wordAt xs (p + 4)) (omega (arith, f .from, t .from))))
-    (true-or (eqb (wordAt xs (p + 2)) 0) (eqb (wordAt xs p) 4)
-    (λ q. eq-eqb (wordAt xs p) 4 (omega (arith, f .size, ap length (t .bare (λ z. eqb-false (wordAt xs (p + 2)) 0 q (f .kind ∙ z))))))))
-    (true-or (eqb (wordAt xs p % 2) 0) (eqb (getD xs (p + 2 + wordAt xs p) 0) 0)
-    (λ q. eq-eqb (getD xs (p + 2 + wordAt xs p) 0) 0 (rw i (pad-zero xs (p + 6 + n) n (λ z. eqb-false (wordAt xs p % 2) 0 q (omega (arith, f .size))) (f .rest)))))
+    fair-made words xs e p (record {
+      room = omega arith;
+      low = omega (arith, f .size);
+      high = omega (arith, f .size);
+      inside = omega (arith, next-stands xs p r h);
+      kind = omega (arith, f .kind, t .kind);
+      from = omega (arith, f .from, t .from);
+      bare = by-cases (eqb (wordAt xs (p + 2)) 0)
+          (λ q. inl (eqb-true (wordAt xs (p + 2)) 0 q))
+          (λ q. inr (omega (arith, f .size, ap length (t .bare (λ z. eqb-false (wordAt xs (p + 2)) 0 q (f .kind ∙ z))))));
+      even = by-cases (eqb (wordAt xs p % 2) 0)
+          (λ q. inl (eqb-true (wordAt xs p % 2) 0 q))
+          (λ q. inr (rw i (pad-zero xs (p + 6 + n) n (λ z. eqb-false (wordAt xs p % 2) 0 q (omega (arith, f .size))) (f .rest))));
+    })
 
 walk-true : (words : ℕ) (xs : List ℕ) (e end : ℕ) (rs : List Rec) (p : ℕ) → Stands xs p (bytesOf rs) → Small (words + 3) rs → All GoodRec rs
     → p + 2 * wordsOf rs ≡ end → end ≤ e → Stands xs end (zeros (e - end))

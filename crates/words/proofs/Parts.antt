@@ -1,12 +1,12 @@
 -- Laws of a part of a memory: one that was lent and is back, and the parts beside it.
 use Prim.Native.Nat.{ℕ, suc, _+_, _-_, _*_, _≤_, _<_}
-use mathlib.Core.Path.{_≡_, sym, ap, _∙_}
+use mathlib.Core.Path.{_≡_, sym, _∙_}
 use mathlib.Core.List.{List, _++_, append-assoc}
 use mathlib.Core.Logic.{_⊎_, inl, inr}
 use native.Mathlib.Omega.{arith}
 use native.Mathlib.Nat.{mul-suc, mul-le-mul-left}
 use lib.ListN.{length, getD, take, drop, length-take, length-drop}
-use lib.Seq.{sets, sets-eq, length-sets, take-all, drop-drop, getD-take, getD-drop, ext-getD}
+use lib.Seq.{sets, sets-eq, length-sets, length-take-le, take-all, drop-drop, getD-take, getD-drop, ext-getD}
 use Rattle.words.specs.Word.{part}
 use Rattle.words.proofs.Stands.{getD-sets, same, part-read}
 
@@ -34,14 +34,26 @@ part-beside xs ys a b k d =
     each : (i : ℕ) → i < k → getD (take k (drop b (sets xs a ys))) i 0 ≡ getD (take k (drop b xs)) i 0
     each i h = rw (getD-take k (drop b (sets xs a ys)) i 0 h, getD-take k (drop b xs) i 0 h, getD-drop b (sets xs a ys) i 0, getD-drop b xs i 0) (getD-sets ys xs a (b + i) (away i h d))
 
--- of the parts of a memory, k bytes each, those before and behind the i-th
+-- Of the m parts of a memory, k bytes each.
+
+part-fits : (k m i : ℕ) → i < m → k * i + k ≤ k * m
+part-fits k m i h = let l : k * suc i ≤ k * m = mul-le-mul-left k h in omega (arith, mul-suc k i)
+
+pub length-part : (xs : List ℕ) (k m i : ℕ) → length xs ≡ k * m → i < m → length (part k i xs) ≡ k
+length-part xs k m i n h = length-take-le k (drop (k * i) xs) (rw length-drop (omega (arith, part-fits k m i h)))
+
+-- the i-th was lent, and is back as ys
+pub part-lent : (xs ys zs : List ℕ) (k m i : ℕ) → length xs ≡ k * m → i < m → length zs ≡ k → ys ≡ zs
+    → take (k * i) xs ++ (ys ++ drop k (drop (k * i) xs)) ≡ sets xs (k * i) zs
+part-lent xs ys zs k m i n h l e = rw e (part-back xs zs (k * i) k l (omega (arith, part-fits k m i h)))
+
+pub part-own : (xs zs : List ℕ) (k m i : ℕ) → length xs ≡ k * m → i < m → length zs ≡ k → part k i (sets xs (k * i) zs) ≡ zs
+part-own xs zs k m i n h l = part-same xs zs (k * i) k l (omega (arith, part-fits k m i h))
+
+-- those before and behind the i-th stay
 pub part-other : (xs ys : List ℕ) (k i j : ℕ) → length ys ≡ k → (i < j) ⊎ (j < i) → part k j (sets xs (k * i) ys) ≡ part k j xs
-part-other xs ys k i j e (inl h) =
-    let l : k * suc i ≤ k * j = mul-le-mul-left k h in
-    part-beside xs ys (k * i) (k * j) k (inr (omega (arith, mul-suc k i)))
-part-other xs ys k i j e (inr h) =
-    let l : k * suc j ≤ k * i = mul-le-mul-left k h in
-    part-beside xs ys (k * i) (k * j) k (inl (omega (arith, mul-suc k j)))
+part-other xs ys k i j e (inl h) = part-beside xs ys (k * i) (k * j) k (inr (omega (arith, part-fits k j i h)))
+part-other xs ys k i j e (inr h) = part-beside xs ys (k * i) (k * j) k (inl (part-fits k i j h))
 
 -- the whole of it
 pub sets-whole : (xs ys : List ℕ) → length ys ≡ length xs → sets xs 0 ys ≡ ys

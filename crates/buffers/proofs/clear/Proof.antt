@@ -6,15 +6,12 @@ use Rattle.buffers.proofs.clear.Reads as reads
 use Rattle.buffers.proofs.clear.Lts as lts
 use Rattle.words.proofs.zero.Reads as zero-reads
 
--- src/lib.rt:28:5
 zero-requires : tie.Need-zero-requires
 zero-requires c κs = search needs
 
--- src/lib.rt:24:1
 same-length : tie.Need-same-length
 same-length c = search needs
 
--- src/lib.rt:24:1
 returns : tie.Need-returns
 returns c = clear-written _ _ (c .before .before .before .before .before .pre) (c .before .before .zero .ensures)
 

@@ -7,23 +7,18 @@ use Rattle.buffers.proofs.fill.Lts as lts
 use Rattle.words.proofs.copy.Reads as copy-reads
 use Rattle.words.proofs.zero.Reads as zero-reads
 
--- src/lib.rt:19:5
 copy-requires : tie.Need-copy-requires
 copy-requires c κs = search needs
 
--- src/lib.rt:20:28
 sub-zero : tie.Need-sub-zero
 sub-zero c = search needs
 
--- src/lib.rt:20:5
 zero-requires : tie.Need-zero-requires
 zero-requires c κs = search needs
 
--- src/lib.rt:14:1
 same-length : tie.Need-same-length
 same-length c = search needs
 
--- src/lib.rt:14:1
 returns : tie.Need-returns
 returns c = fill-written _ _ _ _ (c .before .before .before .before .before .before .before .before .before .before .pre .0) (c .before .before .before .before .before .before .before .before .before .before .pre .1) (c .before .before .before .before .before .before .copy .ensures) (c .before .before .zero .ensures)
 

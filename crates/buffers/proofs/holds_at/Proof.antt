@@ -6,31 +6,24 @@ use Rattle.buffers.proofs.holds_at.Reads as reads
 use Rattle.buffers.proofs.holds_at.Lts as lts
 use Rattle.buffers.proofs.holds.Reads as holds-reads
 
--- src/lib.rt:63:13
 mul-a : tie.Need-mul-a
 mul-a c = search needs
 
--- src/lib.rt:64:13
 add-e : tie.Need-add-e
 add-e c = search needs
 
--- src/lib.rt:65:11
 sub-holds : tie.Need-sub-holds
 sub-holds c = search needs
 
--- src/lib.rt:65:11
 part-holds-start : tie.Need-part-holds-start
 part-holds-start c = search needs
 
--- src/lib.rt:65:11
 part-holds-end : tie.Need-part-holds-end
 part-holds-end c = search needs
 
--- src/lib.rt:65:5
 holds-requires : tie.Need-holds-requires
 holds-requires c κs = search needs
 
--- src/lib.rt:59:1
 returns : tie.Need-returns
 returns c = rw span at (c .holds .ensures)
 

@@ -1,4 +1,3 @@
-use native.Mathlib.Omega.{arith}
 use lib.Seq.{take-take}
 use Rattle.words.proofs.Parts.{span}
 use borrow.Author.Needs.{needs}
@@ -7,27 +6,21 @@ use Rattle.buffers.proofs.lies.Tie as tie
 use Rattle.buffers.proofs.lies.Reads as reads
 use Rattle.buffers.proofs.lies.Lts as lts
 
--- src/lib.rt:73:13
 mul-a : tie.Need-mul-a
 mul-a c = search needs
 
--- src/lib.rt:74:13
 add-e : tie.Need-add-e
 add-e c = search needs
 
--- src/lib.rt:75:5
 sub-result : tie.Need-sub-result
 sub-result c = search needs
 
--- src/lib.rt:75:5
 part-result-start : tie.Need-part-result-start
 part-result-start c = search needs
 
--- src/lib.rt:75:5
 part-result-end : tie.Need-part-result-end
 part-result-end c = search needs
 
--- src/lib.rt:69:1
 returns : tie.Need-returns
 returns c = rw (span, take-take _ 260 _ (c .before .pre .2))
 

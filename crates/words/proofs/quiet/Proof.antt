@@ -15,35 +15,27 @@ Inv-loop s at n p₀ left₀ p left = (quiet s at n ≡ quiet s p left) × (p + 
 abbrev μ-loop : tie.MeasureT-loop
 μ-loop s at n p₀ left₀ p left = left
 
--- src/lib.rt:56:5
 loop-holds : tie.Need-loop-holds Inv-loop μ-loop
 loop-holds c = (refl, refl)
 
--- src/lib.rt:57:12
 shared-slice-read-if1 : tie.Need-shared-slice-read-if1 Inv-loop μ-loop
 shared-slice-read-if1 c = search needs
 
--- src/lib.rt:58:13
 returns : tie.Need-returns Inv-loop μ-loop
 returns c = sym (c .before .before .before .loop .inv .0 ∙ quiet-bad _ _ _ (c .before .before .loop-test .taken) (c .if1 .taken))
 
--- src/lib.rt:60:9
 add-p : tie.Need-add-p Inv-loop μ-loop
 add-p c = search needs
 
--- src/lib.rt:61:9
 sub-left : tie.Need-sub-left Inv-loop μ-loop
 sub-left c = search needs
 
--- src/lib.rt:56:5
 loop-less : tie.Need-loop-less Inv-loop μ-loop
 loop-less c = search needs
 
--- src/lib.rt:56:5
 loop-again : tie.Need-loop-again Inv-loop μ-loop
 loop-again c = (c .before .before .before .loop .inv .0 ∙ quiet-step _ _ _ (c .before .before .loop-test .taken) (c .if1 .left), omega arith)
 
--- src/lib.rt:50:1
 returns-2 : tie.Need-returns-2 Inv-loop μ-loop
 returns-2 c = sym (c .before .loop .inv .0 ∙ quiet-end _ _ _ (c .loop-test .left))
 

@@ -1,0 +1,102 @@
+use Prim.Native.Nat.{_+_, _≤_, _<_}
+use mathlib.Core.Path.{_≡_, refl, sym, _∙_}
+use native.Mathlib.Omega.{arith}
+use borrow.Author.Tests.{not-true, not-false}
+use Rattle.shares.specs.Sound.{sweep}
+use Rattle.blocks.specs.Ring.{geo}
+use Rattle.blocks.proofs.ring.Laws.{wrapped-less}
+use Rattle.blocks.proofs.check.Laws.{sweep-done, sweep-end, sweep-bad, sweep-step}
+use borrow.Author.Needs.{needs}
+use Rattle.blocks.proofs.check.sweep.Statement.{statement}
+use Rattle.blocks.proofs.check.sweep.Tie as tie
+use Rattle.blocks.proofs.check.sweep.Reads as reads
+use Rattle.blocks.proofs.check.sweep.Lts as lts
+use Rattle.blocks.proofs.check.holds.Reads as holds-reads
+use Rattle.blocks.proofs.check.least.Reads as least-reads
+use Rattle.blocks.proofs.layout.block_span.Reads as block-span-reads
+use Rattle.blocks.proofs.ring.wrapped.Reads as wrapped-reads
+
+abbrev Inv-loop : tie.InvT-loop
+Inv-loop share ring words block₀ n₀ left₀ block n left = (sweep (geo words ring) share (ring .block) (ring .blocks) (ring .spent + ring .held) ≡ sweep (geo words ring) share block n left) × (block < ring .blocks) × (left ≤ ring .spent + ring .held)
+
+abbrev μ-loop : tie.MeasureT-loop
+μ-loop share ring words block₀ n₀ left₀ block n left = n
+
+cast-left : tie.Need-cast-left Inv-loop μ-loop
+cast-left c = search needs
+
+cast-left-2 : tie.Need-cast-left-2 Inv-loop μ-loop
+cast-left-2 c = search needs
+
+add-left : tie.Need-add-left Inv-loop μ-loop
+add-left c = search needs
+
+loop-holds : tie.Need-loop-holds Inv-loop μ-loop
+loop-holds c = (refl, search needs, search needs)
+
+returns : tie.Need-returns Inv-loop μ-loop
+returns c = sym (c .before .before .loop .inv .0 ∙ sweep-done _ _ _ _ _ (c .if1 .taken))
+
+least-requires : tie.Need-least-requires Inv-loop μ-loop
+least-requires c κs = search needs
+
+block-span-requires : tie.Need-block-span-requires Inv-loop μ-loop
+block-span-requires c κs = search needs
+
+holds-requires : tie.Need-holds-requires Inv-loop μ-loop
+holds-requires c κs = search needs
+
+returns-2 : tie.Need-returns-2 Inv-loop μ-loop
+returns-2 c = sym (c .before .before .before .before .before .before .loop .inv .0 ∙ sweep-bad _ _ _ _ _ _ _ (c .before .before .before .before .before .loop-test .taken) (c .before .before .before .before .if1 .left) (c .before .before .before .before .before .before .loop .inv .1) (c .before .before .block-span .ensures .0) (c .before .before .before .least .ensures) (sym (c .before .holds .ensures) ∙ not-true _ (c .if2 .taken)))
+
+add-wrapped : tie.Need-add-wrapped Inv-loop μ-loop
+add-wrapped c = search needs
+
+wrapped-requires : tie.Need-wrapped-requires Inv-loop μ-loop
+wrapped-requires c κs = search needs
+
+cast-left-3 : tie.Need-cast-left-3 Inv-loop μ-loop
+cast-left-3 c = search needs
+
+sub-left : tie.Need-sub-left Inv-loop μ-loop
+sub-left c = search needs
+
+sub-n : tie.Need-sub-n Inv-loop μ-loop
+sub-n c = search needs
+
+loop-less : tie.Need-loop-less Inv-loop μ-loop
+loop-less c = search needs
+
+loop-again : tie.Need-loop-again Inv-loop μ-loop
+loop-again c = (
+  c .before .before .before .before .before .before .before .loop .inv .0 ∙ sweep-step _ _ _ _ _ _ _ (c .before .before .before .before .before .before .loop-test .taken) (c .before .before .before .before .before .if1 .left) (c .before .before .before .before .before .before .before .loop .inv .1) (c .before .before .before .block-span .ensures .0) (c .before .before .before .before .least .ensures) _ (c .wrapped .ensures) (sym (c .before .before .holds .ensures) ∙ not-false _ (c .before .if2 .left)),
+  rw (c .wrapped .ensures) (wrapped-less _ _ (omega arith)),
+  omega arith,
+)
+
+returns-3 : tie.Need-returns-3 Inv-loop μ-loop
+returns-3 c = sym (c .before .loop .inv .0 ∙ sweep-end _ _ _ _ _ (c .loop-test .left))
+
+pub sweep-spec : {M : Type 1} → statement M
+sweep-spec =
+    tie.close
+    (tie.spec
+    Inv-loop
+    μ-loop
+    cast-left
+    cast-left-2
+    add-left
+    loop-holds
+    returns
+    least-requires
+    block-span-requires
+    holds-requires
+    returns-2
+    add-wrapped
+    wrapped-requires
+    cast-left-3
+    sub-left
+    sub-n
+    loop-less
+    loop-again
+    returns-3)

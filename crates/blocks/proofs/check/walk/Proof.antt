@@ -1,0 +1,73 @@
+use Prim.Native.Nat.{_≤_}
+use mathlib.Core.Path.{_≡_, refl, sym, _∙_}
+use borrow.Author.Tests.{not-true, not-false}
+use Rattle.shares.specs.Laid.{walk}
+use Rattle.shares.proofs.Laid.{fair-says}
+use Rattle.blocks.proofs.check.Laws.{walk-step, walk-bad, walk-off, walk-end}
+use borrow.Author.Needs.{needs}
+use Rattle.blocks.proofs.check.walk.Statement.{statement}
+use Rattle.blocks.proofs.check.walk.Tie as tie
+use Rattle.blocks.proofs.check.walk.Reads as reads
+use Rattle.blocks.proofs.check.walk.Lts as lts
+use Rattle.blocks.proofs.check.fair.Reads as fair-reads
+use Rattle.blocks.proofs.reading.next.Reads as next-reads
+use Rattle.words.proofs.quiet.Reads as quiet-reads
+
+abbrev Inv-loop : tie.InvT-loop
+Inv-loop share words e end at n p₀ left₀ p left = (walk words share e end at n ≡ walk words share e end p left) × (p ≤ e)
+
+abbrev μ-loop : tie.MeasureT-loop
+μ-loop share words e end at n p₀ left₀ p left = left
+
+loop-holds : tie.Need-loop-holds Inv-loop μ-loop
+loop-holds c = (refl, search needs)
+
+fair-requires : tie.Need-fair-requires Inv-loop μ-loop
+fair-requires c κs = search needs
+
+returns : tie.Need-returns Inv-loop μ-loop
+returns c = sym (c .before .before .before .loop .inv .0 ∙ walk-bad _ _ _ _ _ _ (c .before .before .loop-test .taken) (sym (c .before .fair .ensures) ∙ not-true _ (c .if1 .taken)))
+
+next-requires : tie.Need-next-requires Inv-loop μ-loop
+next-requires c κs = let f = fair-says _ _ _ _ (sym (c .before .fair .ensures) ∙ not-false _ (c .if1 .left)) in search needs
+
+sub-left : tie.Need-sub-left Inv-loop μ-loop
+sub-left c = search needs
+
+loop-less : tie.Need-loop-less Inv-loop μ-loop
+loop-less c = search needs
+
+loop-again : tie.Need-loop-again Inv-loop μ-loop
+loop-again c =
+    let t = sym (c .before .before .fair .ensures) ∙ not-false _ (c .before .if1 .left) in
+    (c .before .before .before .before .loop .inv .0 ∙ walk-step _ _ _ _ _ _ _ (c .before .before .before .loop-test .taken) t (c .next .ensures .0), rw (c .next .ensures .0) (fair-says _ _ _ _ t .inside))
+
+returns-2 : tie.Need-returns-2 Inv-loop μ-loop
+returns-2 c = sym (c .before .before .loop .inv .0 ∙ walk-off _ _ _ _ _ _ (c .before .loop-test .left) (c .if2 .taken))
+
+sub-quiet : tie.Need-sub-quiet Inv-loop μ-loop
+sub-quiet c = search needs
+
+quiet-requires : tie.Need-quiet-requires Inv-loop μ-loop
+quiet-requires c κs = search needs
+
+returns-3 : tie.Need-returns-3 Inv-loop μ-loop
+returns-3 c = c .quiet .ensures ∙ sym (c .before .before .before .loop .inv .0 ∙ walk-end _ _ _ _ _ _ (c .before .before .loop-test .left) (c .before .if2 .left))
+
+pub walk-spec : {M : Type 1} → statement M
+walk-spec =
+    tie.close
+    (tie.spec
+    Inv-loop
+    μ-loop
+    loop-holds
+    fair-requires
+    returns
+    next-requires
+    sub-left
+    loop-less
+    loop-again
+    returns-2
+    sub-quiet
+    quiet-requires
+    returns-3)

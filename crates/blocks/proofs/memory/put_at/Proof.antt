@@ -1,0 +1,41 @@
+use mathlib.Core.Path.{_∙_}
+use Rattle.words.proofs.Parts.{span, length-part, part-lent}
+use Rattle.blocks.proofs.memory.Laws.{length-inscribed}
+use borrow.Author.Needs.{needs}
+use Rattle.blocks.proofs.memory.put_at.Statement.{statement}
+use Rattle.blocks.proofs.memory.put_at.Tie as tie
+use Rattle.blocks.proofs.memory.put_at.Reads as reads
+use Rattle.blocks.proofs.memory.put_at.Lts as lts
+use Rattle.blocks.proofs.writing.put.Reads as put-reads
+
+mul-a : tie.Need-mul-a
+mul-a c = search needs
+
+add-e : tie.Need-add-e
+add-e c = search needs
+
+sub-put : tie.Need-sub-put
+sub-put c = search needs
+
+part-put-start : tie.Need-part-put-start
+part-put-start c = search needs
+
+part-put-end : tie.Need-part-put-end
+part-put-end c = search needs
+
+put-requires : tie.Need-put-requires
+put-requires c κs = (search needs, rw span (c .before .before .before .pre .1))
+
+same-length : tie.Need-same-length
+same-length c = search needs
+
+returns : tie.Need-returns
+returns c = (
+  c .before .before .put .ensures .0,
+  rw span (part-lent _ _ _ _ 8 _ (c .before .before .before .before .before .before .pre .0 .0) (c .before .before .before .before .before .before .pre .0 .1) (length-inscribed _ _ _ _ ∙ length-part _ _ 8 _ (c .before .before .before .before .before .before .pre .0 .0) (c .before .before .before .before .before .before .pre .0 .1)) (rw span at (c .before .before .put .ensures .1))),
+)
+
+pub put-at-spec : {M : Type 1} → statement M
+put-at-spec =
+    tie.close
+    (tie.spec mul-a add-e sub-put part-put-start part-put-end put-requires same-length returns)

@@ -1,0 +1,27 @@
+use Rattle.words.proofs.Parts.{span}
+use borrow.Author.Needs.{needs}
+use Rattle.blocks.proofs.memory.share.Statement.{statement}
+use Rattle.blocks.proofs.memory.share.Tie as tie
+use Rattle.blocks.proofs.memory.share.Reads as reads
+use Rattle.blocks.proofs.memory.share.Lts as lts
+
+mul-a : tie.Need-mul-a
+mul-a c = search needs
+
+add-e : tie.Need-add-e
+add-e c = search needs
+
+sub-result : tie.Need-sub-result
+sub-result c = search needs
+
+part-result-start : tie.Need-part-result-start
+part-result-start c = search needs
+
+part-result-end : tie.Need-part-result-end
+part-result-end c = search needs
+
+returns : tie.Need-returns
+returns c = rw span
+
+pub share-spec : {M : Type 1} → statement M
+share-spec = tie.close (tie.spec mul-a add-e sub-result part-result-start part-result-end returns)

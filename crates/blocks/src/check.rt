@@ -1,0 +1,151 @@
+// Whether a share holds a file's records: one walk over the blocks that hold any. Nothing is changed.
+use crate::layout::BLOCK_HEAD;
+use crate::layout::DATA;
+use crate::layout::FOLLOW;
+use crate::layout::ID;
+use crate::layout::RECORD_HEAD;
+use crate::layout::Span;
+use crate::layout::TYPE;
+use crate::layout::USED;
+use crate::layout::block_span;
+use crate::reading::next;
+use crate::ring::Ring;
+use crate::ring::wrapped;
+use kinds::limits::MOST_TYPE;
+ghost use mathlib.Core.Path.{_≡_};
+ghost use mathlib.Core.Bool.{_&&_, _||_};
+ghost use Prim.Native.Nat.{_+_, _*_, _≤_, _<_, min};
+ghost use lib.Dec.{ltb, eqb};
+ghost use lib.ListN.{length};
+ghost use Rattle.words.specs.Word.{wordAt};
+ghost use Rattle.rules.specs.Limits.{mostWords, shareBytes};
+ghost use Rattle.shares.specs.Laid.{fair, walk};
+ghost use Rattle.shares.specs.Sound.{sweep, sound};
+ghost use Rattle.blocks.specs.Ring.{geo, Fitted};
+ghost use Rattle.blocks.specs.Check.{laidAt};
+
+// Whether a proper record with at most `words` words of data stands at p, whole before e.
+fn fair(share: &[u8], words: u16, e: usize, p: usize) -> bool
+    requires { ⌜ (length (now share) ≡ shareBytes) × (e ≤ shareBytes) × (p ≤ shareBytes) × (words ≤ mostWords) ⌝ }
+    ensures { λ r. ⌜ r ≡ fair words (now (share .entry)) e p ⌝ }
+{
+    if p + RECORD_HEAD > e {
+        return false;
+    }
+    let follow = words::get(share, p);
+    if follow < FOLLOW {
+        return false;
+    }
+    if follow > FOLLOW + 2 * words {
+        return false;
+    }
+    if next(share, p) > e {
+        return false;
+    }
+    let typ = words::get(share, p + TYPE);
+    if typ > MOST_TYPE {
+        return false;
+    }
+    if words::get(share, p + ID) < 1 {
+        return false;
+    }
+    if typ != DATA {
+        return follow == FOLLOW;
+    }
+    if follow % 2 == 0 {
+        return true;
+    }
+    share[p + 2 + follow as usize] == 0
+}
+
+// Whether n such records stand from `at` on, the last ends at `end`, and all is zero from there to e.
+fn walk(share: &[u8], words: u16, e: usize, end: usize, at: usize, n: u16) -> bool
+    requires { ⌜ (length (now share) ≡ shareBytes) × (e ≤ shareBytes) × (at ≤ e) × (words ≤ mostWords) ⌝ }
+    ensures { λ r. ⌜ r ≡ walk words (now (share .entry)) e end at n ⌝ }
+{
+    let mut p = at;
+    let mut left = n;
+    while left > 0 {
+        if !fair(share, words, e, p) {
+            return false;
+        }
+        p = next(share, p);
+        left -= 1;
+    }
+    if p != end {
+        return false;
+    }
+    words::quiet(share, p, e - p)
+}
+
+// Whether the block's bytes are laid out, with so many records.
+fn holds(share: &[u8], words: u16, block: Span, count: u16) -> bool
+    requires { ⌜ (length (now share) ≡ shareBytes) × (4 ≤ block .size) × (block .at + block .size ≤ shareBytes) × (words ≤ mostWords) ⌝ }
+    ensures { λ r. ⌜ r ≡ laidAt words (now (share .entry)) block && eqb (wordAt (now (share .entry)) (block .at)) count ⌝ }
+{
+    let at = block.at;
+    let n = words::get(share, at);
+    if n != count {
+        return false;
+    }
+    let end = at + 2 * words::get(share, at + USED) as usize;
+    walk(share, words, at + block.size, end, at + BLOCK_HEAD, n)
+}
+
+// The records of a block of which `left` are still to be found.
+fn least(left: u32, factor: u16) -> u16
+    ensures { λ r. ⌜ r ≡ min left factor ⌝ }
+{
+    if left < factor as u32 {
+        left as u16
+    } else {
+        factor
+    }
+}
+
+// Whether the records used stand in the blocks from the oldest on, each block full but the last.
+fn sweep(share: &[u8], ring: Ring, words: u16) -> bool
+    requires { ⌜ (length (now share) ≡ shareBytes) × Fitted words ring × (ring .block < ring .blocks) ⌝ }
+    ensures { λ r. ⌜ r ≡ sweep (geo words ring) (now (share .entry)) (ring .block) (ring .blocks) (ring .spent + ring .held) ⌝ }
+{
+    let mut block = ring.block;
+    let mut n = ring.blocks;
+    let mut left = ring.spent as u32 + ring.held as u32;
+    while n > 0 {
+        if left == 0 {
+            return true;
+        }
+        let count = least(left, ring.factor);
+        if !holds(share, words, block_span(ring, words, block), count) {
+            return false;
+        }
+        block = wrapped(ring.blocks, block + 1);
+        left -= count as u32;
+        n -= 1;
+    }
+    left == 0
+}
+
+// Whether records of the oldest block are spent only where more of it are held.
+fn begun(ring: Ring) -> bool
+    ensures { λ r. ⌜ r ≡ eqb (ring .spent) 0 || (ltb (ring .spent) (ring .factor) && ltb 0 (ring .held)) ⌝ }
+{
+    if ring.spent == 0 {
+        return true;
+    }
+    ring.spent < ring.factor && 0 < ring.held
+}
+
+// Whether the share holds the records that the ring says, and the ring's numbers go together.
+pub fn sound(share: &[u8], ring: Ring, words: u16) -> bool
+    requires { ⌜ (length (now share) ≡ shareBytes) × Fitted words ring ⌝ }
+    ensures { λ r. ⌜ r ≡ sound (geo words ring) (now (share .entry)) (ring .block) (ring .spent) (ring .held) ⌝ }
+{
+    if ring.block >= ring.blocks {
+        return false;
+    }
+    if !begun(ring) {
+        return false;
+    }
+    sweep(share, ring, words)
+}

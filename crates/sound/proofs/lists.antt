@@ -1,0 +1,16 @@
+pub mod Flat
+pub mod Marks
+pub mod Entries
+pub mod Stage
+pub mod Sweep
+pub mod Walk
+pub mod Walkers
+pub mod Means
+pub mod Stages
+pub mod Parts
+pub mod All
+pub mod Tallied
+pub mod Owners
+pub mod Stands
+pub mod Places
+pub mod Decides

@@ -1,0 +1,64 @@
+-- The rows of the segment: which are those of a file, built or not, and of its eight places.
+use Prim.Native.Nat.{ℕ, zero, suc, _+_, _*_}
+use mathlib.Core.Bool.{Bool, true, false, _&&_, _||_}
+use mathlib.Core.List.{List, [], _∷_}
+use lib.Dec.{leb, eqb}
+use lib.ListN.{getD}
+use Rattle.rules.specs.Limits.{places, mostWords, mostFactor, leastCapacity}
+use Rattle.rules.specs.Geometry.{capacity, fitsShare, within}
+use Rattle.rules.specs.State.{Geo}
+use Rattle.segment.specs.Layout.{rowAt, rowWords, fileRow, placeRow}
+use Rattle.segment.specs.Table.{nth, row}
+
+-- word j of file f's row, and of place i's
+unfoldable pub fileWord : List ℕ → ℕ → ℕ → ℕ
+fileWord s f j = nth s (rowAt (fileRow f) + j)
+
+unfoldable pub placeWord : List ℕ → ℕ → ℕ → ℕ
+placeWord s i j = nth s (rowAt (placeRow i) + j)
+
+-- n words from word k on are zero
+unfoldable pub zeroWords : List ℕ → ℕ → ℕ → Bool
+zeroWords s k zero = true
+zeroWords s k (suc n) = elim (eqb (nth s k) 0) [ true ↦ zeroWords s (suc k) n | false ↦ false ]
+
+-- R is 1 at least, so a file is built exactly when its R is not 0
+unfoldable pub builtAt : List ℕ → ℕ → Bool
+builtAt s f = leb 1 (fileWord s f 0)
+
+unfoldable pub geoAt : List ℕ → ℕ → Geo
+geoAt s f = record { words = fileWord s f 0; factor = fileWord s f 1; blocks = fileWord s f 2 }
+
+unfoldable pub goodGeo : Geo → Bool
+goodGeo g = within 1 mostWords (g .words) && within 1 mostFactor (g .factor) && leb leastCapacity (capacity (g .factor) (g .blocks)) && fitsShare (g .words) (g .factor) (g .blocks)
+
+-- the side of place i: 0 not open, 1 a reader, 2 a writer
+unfoldable pub sideAt : List ℕ → ℕ → ℕ
+sideAt s i = placeWord s i 0
+
+-- a reader's ID is 0 and a writer's is 1 at least; the settings are 0 or 1
+unfoldable pub goodPlace : List ℕ → ℕ → Bool
+goodPlace s i =
+    (eqb (sideAt s i) 1 && eqb (placeWord s i 1) 0 || eqb (sideAt s i) 2 && leb 1 (placeWord s i 1))
+    && leb (placeWord s i 4) 1
+    && leb (placeWord s i 5) 1
+    && leb (placeWord s i 6) 1
+    && leb (placeWord s i 7) 1
+
+-- a place of a built file: not open, or good
+unfoldable pub placeOk : List ℕ → ℕ → Bool
+placeOk s i = elim (eqb (sideAt s i) 0) [ true ↦ zeroWords s (rowAt (placeRow i)) rowWords | false ↦ goodPlace s i ]
+
+-- the n places from place i on
+unfoldable pub placesOk : List ℕ → ℕ → ℕ → Bool
+placesOk s i zero = true
+placesOk s i (suc n) = elim (placeOk s i) [ true ↦ placesOk s (suc i) n | false ↦ false ]
+
+-- how many of them are writers
+unfoldable pub writersAt : List ℕ → ℕ → ℕ → ℕ
+writersAt s i zero = 0
+writersAt s i (suc n) = elim (eqb (sideAt s i) 2) [ true ↦ suc (writersAt s (suc i) n) | false ↦ writersAt s (suc i) n ]
+
+-- all of a file that is not built is zero: its row and those of its places, which stand one behind the other
+unfoldable pub unbuiltOk : List ℕ → ℕ → Bool
+unbuiltOk s f = zeroWords s (rowAt (fileRow f)) rowWords && zeroWords s (rowAt (placeRow (places * f))) (places * rowWords)

@@ -1,0 +1,63 @@
+-- Which memories are sound: a test of their bytes.
+use Prim.Native.Nat.{ℕ, zero, suc, _+_, _*_}
+use mathlib.Core.Bool.{Bool, true, false, _&&_}
+use mathlib.Core.List.{List, []}
+use lib.Dec.{leb, eqb}
+use lib.ListN.{length, getD}
+use Rattle.rules.specs.Limits.{files, places, entries, shareBytes, bufferBytes}
+use Rattle.rules.specs.Geometry.{capacity}
+use Rattle.rules.specs.State.{Geo}
+use Rattle.segment.specs.Layout.{segmentBytes}
+use Rattle.shares.specs.Sound.{sound}
+use Rattle.memory.specs.Stands.{shareAt}
+use Rattle.sound.specs.Rows.{fileWord, builtAt, geoAt, goodGeo, placesOk, writersAt, unbuiltOk}
+use Rattle.sound.specs.Walks.{Walked, restZero, allWalks, allMet}
+
+-- a built file: geometry, places, the held blocks' layout, and "one place is kept for each close record"
+unfoldable pub builtOk : List ℕ → List ℕ → ℕ → Bool
+builtOk s blocks f =
+    let g : Geo = geoAt s f in
+    goodGeo g
+    && eqb (fileWord s f 6) 0
+    && eqb (fileWord s f 7) 0
+    && placesOk s (places * f) places
+    && leb (fileWord s f 4 + fileWord s f 5 + writersAt s (places * f) places) (capacity (g .factor) (g .blocks))
+    && leb (writersAt s (places * f) places + 1) (capacity (g .factor) (g .blocks))
+    && sound g (shareAt f blocks) (fileWord s f 3) (fileWord s f 4) (fileWord s f 5)
+
+unfoldable pub fileOk : List ℕ → List ℕ → ℕ → Bool
+fileOk s blocks f = elim (builtAt s f) [ true ↦ builtOk s blocks f | false ↦ unbuiltOk s f ]
+
+-- n files from file f on
+unfoldable pub filesOk : List ℕ → List ℕ → ℕ → ℕ → Bool
+filesOk s blocks f zero = true
+filesOk s blocks f (suc n) = elim (fileOk s blocks f) [ true ↦ filesOk s blocks (suc f) n | false ↦ false ]
+
+-- the buffers of n places of a built file, from place i on: those that no request uses are zero
+unfoldable pub idleZero : List ℕ → List ℕ → ℕ → ℕ → Bool
+idleZero bufs busy i zero = true
+idleZero bufs busy i (suc n) =
+    elim (eqb (getD busy i 0) 0) [
+      | false ↦ idleZero bufs busy (suc i) n
+      | true ↦ elim (restZero bufs i 0) [ true ↦ idleZero bufs busy (suc i) n | false ↦ false ]
+    ]
+
+unfoldable pub idlesZero : List ℕ → List ℕ → List ℕ → ℕ → ℕ → Bool
+idlesZero s bufs busy f zero = true
+idlesZero s bufs busy f (suc n) =
+    elim (builtAt s f) [
+      | false ↦ idlesZero s bufs busy (suc f) n
+      | true ↦ elim (idleZero bufs busy (places * f) places) [ true ↦ idlesZero s bufs busy (suc f) n | false ↦ false ]
+    ]
+
+-- the lists, with each entry on exactly one, and the buffers that no request of them uses
+unfoldable pub listsOk : List ℕ → List ℕ → Bool
+listsOk s bufs = let w : Walked = allWalks s bufs in w .ok && allMet (w .seen) entries && idlesZero s bufs (w .busy) 0 files
+
+unfoldable pub soundly : List ℕ → List ℕ → List ℕ → Bool
+soundly s blocks bufs =
+    eqb (length s) segmentBytes
+    && eqb (length blocks) (shareBytes * files)
+    && eqb (length bufs) (places * bufferBytes * files)
+    && filesOk s blocks 0 files
+    && listsOk s bufs

@@ -1,0 +1,161 @@
+-- The walk of each list: every entry is met once, holds what its list asks of it, and belongs to a place that has no other request.
+use Prim.Native.Nat.{ℕ, zero, suc, _+_, _-_, _*_, _/_}
+use mathlib.Core.Bool.{Bool, true, false, cond, _&&_}
+use mathlib.Core.List.{List, [], _∷_}
+use lib.Dec.{ltb, leb, eqb}
+use lib.ListN.{getD, set, replicate}
+use Rattle.rules.specs.Limits.{files, places, entries, bufferBytes, mostReadBytes}
+use Rattle.segment.specs.Layout.{nil, linkAt, dataAt, dataWords, freeList, readQueue, writeQueue, replyPort, timerList}
+use Rattle.segment.specs.Table.{nth}
+use Rattle.words.specs.Word.{quiet}
+use Rattle.sound.specs.Rows.{fileWord, sideAt, zeroWords}
+
+-- the marks: an entry that was met is 1; a place is 0 idle, 1 waiting, 2 completed, 3 waiting with a timer
+pub record Walked : Type 0 where
+  pub ok : Bool
+  pub seen : List ℕ
+  pub busy : List ℕ
+
+unfoldable pub walked : Bool → List ℕ → List ℕ → Walked
+walked ok seen busy = record { ok = ok; seen = seen; busy = busy }
+
+-- word j of entry e's data
+unfoldable pub entryWord : List ℕ → ℕ → ℕ → ℕ
+entryWord s e j = nth s (dataAt e + j)
+
+unfoldable pub placeIn : List ℕ → ℕ → ℕ
+placeIn s e = entryWord s e 0
+
+unfoldable pub sizeIn : List ℕ → ℕ → ℕ
+sizeIn s e = entryWord s e 6
+
+-- the buffer of place i is zero from its byte n on
+unfoldable pub restZero : List ℕ → ℕ → ℕ → Bool
+restZero bufs i n = quiet bufs (bufferBytes * i + n) (bufferBytes - n)
+
+-- "Freed entries are zeroed but for the link"
+unfoldable pub freeEntry : List ℕ → ℕ → Bool
+freeEntry s e = zeroWords s (dataAt e) dataWords
+
+-- a waiting read of file f: place, unit, limit, keep, and zeros
+unfoldable pub readEntry : List ℕ → List ℕ → List ℕ → ℕ → ℕ → Bool
+readEntry s bufs busy f e =
+    ltb (placeIn s e) (files * places)
+    && eqb (placeIn s e / places) f
+    && eqb (getD busy (placeIn s e) 0) 0
+    && eqb (sideAt s (placeIn s e)) 1
+    && leb (entryWord s e 1) 1
+    && leb (entryWord s e 2) mostReadBytes
+    && leb (entryWord s e 3) 1
+    && zeroWords s (dataAt e + 4) 5
+    && restZero bufs (placeIn s e) 0
+
+-- a waiting write of file f: place, unit, size, and zeros
+unfoldable pub writeEntry : List ℕ → List ℕ → List ℕ → ℕ → ℕ → Bool
+writeEntry s bufs busy f e =
+    ltb (placeIn s e) (files * places)
+    && eqb (placeIn s e / places) f
+    && eqb (getD busy (placeIn s e) 0) 0
+    && eqb (sideAt s (placeIn s e)) 2
+    && leb (entryWord s e 1) 1
+    && zeroWords s (dataAt e + 2) 4
+    && leb (sizeIn s e) (2 * fileWord s f 0)
+    && zeroWords s (dataAt e + 7) 2
+    && restZero bufs (placeIn s e) (sizeIn s e)
+
+-- a completed request of place i: place, status, log, for a read the size, and zeros
+unfoldable pub portEntry : List ℕ → List ℕ → List ℕ → ℕ → ℕ → Bool
+portEntry s bufs busy i e =
+    eqb (placeIn s e) i
+    && eqb (getD busy i 0) 0
+    && leb 1 (sideAt s i)
+    && zeroWords s (dataAt e + 1) 3
+    && leb (sizeIn s e) (cond (eqb (sideAt s i) 1) mostReadBytes 0)
+    && zeroWords s (dataAt e + 7) 2
+    && restZero bufs i (sizeIn s e)
+
+-- a timer of a waiting place, with as much left as the one before
+unfoldable pub timerEntry : List ℕ → List ℕ → ℕ → ℕ → Bool
+timerEntry s busy low e =
+    ltb (placeIn s e) (files * places)
+    && eqb (getD busy (placeIn s e) 0) 1
+    && zeroWords s (dataAt e + 1) 6
+    && leb low (entryWord s e 7)
+    && eqb (entryWord s e 8) 0
+
+-- the walks, from slot p on, with at most n steps: a list ends at nil, and nowhere else
+
+unfoldable pub freeWalk : List ℕ → ℕ → List ℕ → List ℕ → ℕ → Walked
+freeWalk s p seen busy zero = walked false seen busy
+freeWalk s p seen busy (suc n) =
+    elim (ltb (nth s p) entries) [
+      | false ↦ walked (eqb (nth s p) nil) seen busy
+      | true ↦ elim (eqb (getD seen (nth s p) 0) 0 && freeEntry s (nth s p)) [
+        | false ↦ walked false seen busy
+        | true ↦ freeWalk s (linkAt (nth s p)) (set seen (nth s p) 1) busy n
+      ]
+    ]
+
+-- of file f, `side` 1 for its read queue, 2 for its write queue
+unfoldable pub queueWalk : List ℕ → List ℕ → ℕ → ℕ → ℕ → List ℕ → List ℕ → ℕ → Walked
+queueWalk s bufs side f p seen busy zero = walked false seen busy
+queueWalk s bufs side f p seen busy (suc n) =
+    elim (ltb (nth s p) entries) [
+      | false ↦ walked (eqb (nth s p) nil) seen busy
+      | true ↦ elim (eqb (getD seen (nth s p) 0) 0 && cond (eqb side 1) (readEntry s bufs busy f (nth s p)) (writeEntry s bufs busy f (nth s p))) [
+        | false ↦ walked false seen busy
+        | true ↦ queueWalk s bufs side f (linkAt (nth s p)) (set seen (nth s p) 1) (set busy (placeIn s (nth s p)) 1) n
+      ]
+    ]
+
+unfoldable pub timerWalk : List ℕ → ℕ → ℕ → List ℕ → List ℕ → ℕ → Walked
+timerWalk s low p seen busy zero = walked false seen busy
+timerWalk s low p seen busy (suc n) =
+    elim (ltb (nth s p) entries) [
+      | false ↦ walked (eqb (nth s p) nil) seen busy
+      | true ↦ elim (eqb (getD seen (nth s p) 0) 0 && timerEntry s busy low (nth s p)) [
+        | false ↦ walked false seen busy
+        | true ↦ timerWalk s (entryWord s (nth s p) 7) (linkAt (nth s p)) (set seen (nth s p) 1) (set busy (placeIn s (nth s p)) 3) n
+      ]
+    ]
+
+-- the reply port of place i has one entry at most
+unfoldable pub portWalk : List ℕ → List ℕ → ℕ → List ℕ → List ℕ → Walked
+portWalk s bufs i seen busy =
+    let v : ℕ = nth s (replyPort i) in
+    elim (ltb v entries) [
+      | false ↦ walked (eqb v nil) seen busy
+      | true ↦ elim (eqb (getD seen v 0) 0 && portEntry s bufs busy i v && eqb (nth s (linkAt v)) nil) [
+        | false ↦ walked false seen busy
+        | true ↦ walked true (set seen v 1) (set busy i 2)
+      ]
+    ]
+
+-- one after another: the next only where all was well
+unfoldable pub andThen : Walked → (List ℕ → List ℕ → Walked) → Walked
+andThen w next = elim (w .ok) [ true ↦ next (w .seen) (w .busy) | false ↦ w ]
+
+-- the queues of n files from file f on, on one side
+unfoldable pub queueWalks : List ℕ → List ℕ → ℕ → ℕ → List ℕ → List ℕ → ℕ → Walked
+queueWalks s bufs side f seen busy zero = walked true seen busy
+queueWalks s bufs side f seen busy (suc n) =
+    andThen (queueWalk s bufs side f (cond (eqb side 1) (readQueue f) (writeQueue f)) seen busy (entries + 1)) (λ seen′ busy′. queueWalks s bufs side (suc f) seen′ busy′ n)
+
+-- the ports of n places from place i on
+unfoldable pub portWalks : List ℕ → List ℕ → ℕ → List ℕ → List ℕ → ℕ → Walked
+portWalks s bufs i seen busy zero = walked true seen busy
+portWalks s bufs i seen busy (suc n) = andThen (portWalk s bufs i seen busy) (λ seen′ busy′. portWalks s bufs (suc i) seen′ busy′ n)
+
+-- all 82 lists
+unfoldable pub allWalks : List ℕ → List ℕ → Walked
+allWalks s bufs =
+    andThen (freeWalk s freeList (replicate entries 0) (replicate (files * places) 0) (entries + 1)) (λ seen busy.
+    andThen (queueWalks s bufs 1 0 seen busy files) (λ seen′ busy′.
+    andThen (queueWalks s bufs 2 0 seen′ busy′ files) (λ seen″ busy″.
+    andThen (portWalks s bufs 0 seen″ busy″ (files * places)) (λ seen‴ busy‴.
+    timerWalk s 0 timerList seen‴ busy‴ (entries + 1)))))
+
+-- every one of n entries was met
+unfoldable pub allMet : List ℕ → ℕ → Bool
+allMet seen zero = true
+allMet seen (suc n) = elim (eqb (getD seen n 0) 1) [ true ↦ allMet seen n | false ↦ false ]

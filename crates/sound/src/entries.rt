@@ -1,0 +1,193 @@
+// What an entry holds on each kind of list. A place that is read may be any word: it is tested before it is used.
+use crate::READER;
+use crate::WAITING;
+use crate::WRITER;
+use crate::rows::file_word;
+use crate::rows::place_word;
+use crate::rows::zero_words;
+use kinds::limits::BUFFER_BYTES;
+use kinds::limits::FILES;
+use kinds::limits::PLACES;
+use segment::layout;
+ghost use mathlib.Core.Path.{_≡_};
+ghost use mathlib.Core.Bool.{cond};
+ghost use Prim.Native.Nat.{_*_, _<_};
+ghost use lib.Dec.{eqb};
+ghost use lib.ListN.{length};
+ghost use Rattle.rules.specs.Limits.{files, places, entries, bufferBytes, mostReadBytes};
+ghost use Rattle.segment.specs.Layout.{segmentBytes};
+ghost use Rattle.sound.specs.Parts.{owned};
+ghost use Rattle.sound.specs.Walks.{restZero, freeEntry, readEntry, writeEntry, portEntry, timerEntry};
+
+const MOST_READ_BYTES: u16 = 260;
+
+// The words of an entry's data, and how many of them are zero: of a read behind its keep, of a write between its unit and its size,
+// of a completed request before its status, and behind the size of both, and of a timer between its place and its seconds.
+const DATA_WORDS: usize = 9;
+
+const READ_REST: usize = 5;
+
+const WRITE_MIDDLE: usize = 4;
+
+const PORT_MIDDLE: usize = 3;
+
+const SIZE_REST: usize = 2;
+
+const TIMER_MIDDLE: usize = 6;
+
+const ENTRY_SPARE: usize = 8;
+
+// Whether the buffer of place i is zero from its byte n on.
+pub fn rest_zero(buffers: &[u8], i: usize, n: usize) -> bool
+    requires { ⌜ (length (now buffers) ≡ places * bufferBytes * files) × (i < files * places) ⌝ }
+    ensures { λ r. ⌜ r ≡ restZero (now (buffers .entry)) i n ⌝ }
+{
+    if n > BUFFER_BYTES {
+        return true;
+    }
+    words::quiet(buffers, BUFFER_BYTES * i + n, BUFFER_BYTES - n)
+}
+
+pub fn free_entry(s: &[u8], e: usize) -> bool
+    requires { ⌜ (length (now s) ≡ segmentBytes) × (e < entries) ⌝ }
+    ensures { λ r. ⌜ r ≡ freeEntry (now (s .entry)) e ⌝ }
+{
+    let at = layout::DATA + layout::ENTRY_WORDS * e;
+    zero_words(s, at, DATA_WORDS)
+}
+
+// Whether entry e belongs to an accessor of file f on that side, which has nothing outstanding yet.
+fn owned(s: &[u8], busy: &[u8; 64], side: u16, f: usize, e: usize) -> bool
+    requires { ⌜ (length (now s) ≡ segmentBytes) × (e < entries) ⌝ }
+    ensures { λ r. ⌜ r ≡ owned (now (s .entry)) (now (busy .entry)) side f e ⌝ }
+{
+    let at = layout::DATA + layout::ENTRY_WORDS * e;
+    let i = segment::get(s, at + layout::ENTRY_PLACE) as usize;
+    if i >= FILES * PLACES {
+        return false;
+    }
+    if i / PLACES != f {
+        return false;
+    }
+    if busy[i] != 0 {
+        return false;
+    }
+    place_word(s, i, layout::PLACE_SIDE) == side
+}
+
+fn read_entry(s: &[u8], buffers: &[u8], busy: &[u8; 64], f: usize, e: usize) -> bool
+    requires { ⌜ (length (now s) ≡ segmentBytes) × (length (now buffers) ≡ places * bufferBytes * files) × (e < entries) ⌝ }
+    ensures { λ r. ⌜ r ≡ readEntry (now (s .entry)) (now (buffers .entry)) (now (busy .entry)) f e ⌝ }
+{
+    if !owned(s, busy, READER, f, e) {
+        return false;
+    }
+    let at = layout::DATA + layout::ENTRY_WORDS * e;
+    if segment::get(s, at + layout::ENTRY_UNIT) > 1 {
+        return false;
+    }
+    if segment::get(s, at + layout::ENTRY_LIMIT) > MOST_READ_BYTES {
+        return false;
+    }
+    if segment::get(s, at + layout::ENTRY_KEEP) > 1 {
+        return false;
+    }
+    if !zero_words(s, at + layout::ENTRY_STATUS, READ_REST) {
+        return false;
+    }
+    let i = segment::get(s, at + layout::ENTRY_PLACE) as usize;
+    rest_zero(buffers, i, 0)
+}
+
+fn write_entry(s: &[u8], buffers: &[u8], busy: &[u8; 64], f: usize, e: usize) -> bool
+    requires { ⌜ (length (now s) ≡ segmentBytes) × (length (now buffers) ≡ places * bufferBytes * files) × (f < files) × (e < entries) ⌝ }
+    ensures { λ r. ⌜ r ≡ writeEntry (now (s .entry)) (now (buffers .entry)) (now (busy .entry)) f e ⌝ }
+{
+    if !owned(s, busy, WRITER, f, e) {
+        return false;
+    }
+    let at = layout::DATA + layout::ENTRY_WORDS * e;
+    if segment::get(s, at + layout::ENTRY_UNIT) > 1 {
+        return false;
+    }
+    if !zero_words(s, at + layout::ENTRY_LIMIT, WRITE_MIDDLE) {
+        return false;
+    }
+    let size = segment::get(s, at + layout::ENTRY_SIZE);
+    if size as u32 > 2 * file_word(s, f, layout::FILE_WORDS) as u32 {
+        return false;
+    }
+    if !zero_words(s, at + layout::ENTRY_SECONDS, SIZE_REST) {
+        return false;
+    }
+    let i = segment::get(s, at + layout::ENTRY_PLACE) as usize;
+    rest_zero(buffers, i, size as usize)
+}
+
+// Of the two queues of file f: what waits there on that side.
+pub fn queue_entry(s: &[u8], buffers: &[u8], busy: &[u8; 64], side: u16, f: usize, e: usize) -> bool
+    requires { ⌜ (length (now s) ≡ segmentBytes) × (length (now buffers) ≡ places * bufferBytes * files) × (f < files) × (e < entries) ⌝ }
+    ensures { λ r. ⌜ r ≡ cond (eqb side 1) (readEntry (now (s .entry)) (now (buffers .entry)) (now (busy .entry)) f e) (writeEntry (now (s .entry)) (now (buffers .entry)) (now (busy .entry)) f e) ⌝ }
+{
+    if side == READER {
+        return read_entry(s, buffers, busy, f, e);
+    }
+    write_entry(s, buffers, busy, f, e)
+}
+
+// How much a completed request may have in its buffer: a write has nothing.
+fn most_size(side: u16) -> u16
+    ensures { λ r. ⌜ r ≡ cond (eqb side 1) mostReadBytes 0 ⌝ }
+{
+    if side == READER { MOST_READ_BYTES } else { 0 }
+}
+
+pub fn port_entry(s: &[u8], buffers: &[u8], busy: &[u8; 64], i: usize, e: usize) -> bool
+    requires { ⌜ (length (now s) ≡ segmentBytes) × (length (now buffers) ≡ places * bufferBytes * files) × (i < files * places) × (e < entries) ⌝ }
+    ensures { λ r. ⌜ r ≡ portEntry (now (s .entry)) (now (buffers .entry)) (now (busy .entry)) i e ⌝ }
+{
+    let at = layout::DATA + layout::ENTRY_WORDS * e;
+    if segment::get(s, at + layout::ENTRY_PLACE) as usize != i {
+        return false;
+    }
+    if busy[i] != 0 {
+        return false;
+    }
+    let side = place_word(s, i, layout::PLACE_SIDE);
+    if side < 1 {
+        return false;
+    }
+    if !zero_words(s, at + layout::ENTRY_UNIT, PORT_MIDDLE) {
+        return false;
+    }
+    let size = segment::get(s, at + layout::ENTRY_SIZE);
+    if size > most_size(side) {
+        return false;
+    }
+    if !zero_words(s, at + layout::ENTRY_SECONDS, SIZE_REST) {
+        return false;
+    }
+    rest_zero(buffers, i, size as usize)
+}
+
+// A timer has as many seconds left as the one before it, `low`, at least.
+pub fn timer_entry(s: &[u8], busy: &[u8; 64], low: u16, e: usize) -> bool
+    requires { ⌜ (length (now s) ≡ segmentBytes) × (e < entries) ⌝ }
+    ensures { λ r. ⌜ r ≡ timerEntry (now (s .entry)) (now (busy .entry)) low e ⌝ }
+{
+    let at = layout::DATA + layout::ENTRY_WORDS * e;
+    let i = segment::get(s, at + layout::ENTRY_PLACE) as usize;
+    if i >= FILES * PLACES {
+        return false;
+    }
+    if busy[i] != WAITING {
+        return false;
+    }
+    if !zero_words(s, at + layout::ENTRY_UNIT, TIMER_MIDDLE) {
+        return false;
+    }
+    if segment::get(s, at + layout::ENTRY_SECONDS) < low {
+        return false;
+    }
+    segment::get(s, at + ENTRY_SPARE) == 0
+}

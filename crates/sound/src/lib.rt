@@ -1,0 +1,72 @@
+// Whether the lent memories are sound: the rows and blocks of each file, one walk of each list, and the buffers that no request uses.
+// It is in the way of every call. Nothing is copied, and of files that are not built only rows and list heads are read.
+mod entries;
+mod files;
+mod idle;
+mod rows;
+mod walks;
+
+use files::files_ok;
+use idle::files_idle;
+use kinds::limits::BUFFER_BYTES;
+use kinds::limits::FILES;
+use kinds::limits::PLACES;
+use kinds::limits::SHARE_BYTES;
+use segment::layout;
+use walks::all_met;
+use walks::all_walks;
+ghost use mathlib.Core.Path.{_≡_};
+ghost use Prim.Native.Nat.{_*_};
+ghost use lib.ListN.{length};
+ghost use Rattle.rules.specs.Limits.{files, places, bufferBytes};
+ghost use Rattle.segment.specs.Layout.{segmentBytes};
+ghost use Rattle.sound.specs.Sound.{listsOk, soundly};
+
+// The sides of a place that is open.
+const READER: u16 = 1;
+
+const WRITER: u16 = 2;
+
+// The marks: an entry that was met; a place whose request waits, is completed, or waits with a timer.
+const MET: u8 = 1;
+
+const WAITING: u8 = 1;
+
+const COMPLETED: u8 = 2;
+
+const TIMED: u8 = 3;
+
+// Whether the lists are in order, and the buffers that no request of them uses.
+fn lists_ok(s: &[u8], buffers: &[u8]) -> bool
+    requires { ⌜ (length (now s) ≡ segmentBytes) × (length (now buffers) ≡ places * bufferBytes * files) ⌝ }
+    ensures { λ r. ⌜ r ≡ listsOk (now (s .entry)) (now (buffers .entry)) ⌝ }
+{
+    let mut seen = [0u8; 128];
+    let mut busy = [0u8; 64];
+    if !all_walks(s, buffers, &mut seen, &mut busy) {
+        return false;
+    }
+    if !all_met(&seen) {
+        return false;
+    }
+    files_idle(s, buffers, &busy)
+}
+
+// Whether the memories stand for a desk of the rules. The files first: theirs is the work that is skipped where none is built.
+pub fn sound(s: &[u8], blocks: &[u8], buffers: &[u8]) -> bool
+    ensures { λ r. ⌜ r ≡ soundly (now (s .entry)) (now (blocks .entry)) (now (buffers .entry)) ⌝ }
+{
+    if s.len() != layout::SEGMENT_BYTES {
+        return false;
+    }
+    if blocks.len() != FILES * SHARE_BYTES {
+        return false;
+    }
+    if buffers.len() != FILES * PLACES * BUFFER_BYTES {
+        return false;
+    }
+    if !files_ok(s, blocks) {
+        return false;
+    }
+    lists_ok(s, buffers)
+}

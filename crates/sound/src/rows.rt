@@ -1,0 +1,167 @@
+// The rows of the segment: those of a file, built or not, and of its places. A place's rows stand behind all the files'.
+use crate::READER;
+use crate::WRITER;
+use kinds::limits::FILES;
+use kinds::limits::MOST_FACTOR;
+use kinds::limits::MOST_WORDS;
+use kinds::limits::PLACES;
+use segment::layout;
+ghost use mathlib.Core.Path.{_≡_};
+ghost use mathlib.Core.Bool.{_&&_, _||_};
+ghost use Prim.Native.Nat.{_+_, _*_, _≤_, _<_};
+ghost use lib.Dec.{leb, eqb};
+ghost use lib.ListN.{length};
+ghost use Rattle.rules.specs.Limits.{files, places};
+ghost use Rattle.segment.specs.Layout.{rowWords, segmentWords, segmentBytes};
+ghost use Rattle.sound.specs.Rows.{fileWord, placeWord, zeroWords, goodGeo, goodPlace, placeOk, placesOk, writersAt, unbuiltOk};
+
+// "C ≥ 3"
+const LEAST_CAPACITY: u32 = 3;
+
+// Whether n words from word k on are zero.
+pub fn zero_words(s: &[u8], k: usize, n: usize) -> bool
+    requires { ⌜ (length (now s) ≡ segmentBytes) × (k + n ≤ segmentWords) ⌝ }
+    ensures { λ r. ⌜ r ≡ zeroWords (now (s .entry)) k n ⌝ }
+{
+    let mut p = k;
+    let mut left = n;
+    while left > 0 {
+        if segment::get(s, p) != 0 {
+            return false;
+        }
+        p += 1;
+        left -= 1;
+    }
+    true
+}
+
+// Word j of file f's row, and of place i's.
+
+pub fn file_word(s: &[u8], f: usize, j: usize) -> u16
+    requires { ⌜ (length (now s) ≡ segmentBytes) × (f < files) × (j < rowWords) ⌝ }
+    ensures { λ r. ⌜ r ≡ fileWord (now (s .entry)) f j ⌝ }
+{
+    segment::get(s, layout::FILE_ROWS + layout::ROW_WORDS * f + j)
+}
+
+pub fn place_word(s: &[u8], i: usize, j: usize) -> u16
+    requires { ⌜ (length (now s) ≡ segmentBytes) × (i < files * places) × (j < rowWords) ⌝ }
+    ensures { λ r. ⌜ r ≡ placeWord (now (s .entry)) i j ⌝ }
+{
+    segment::get(s, layout::FILE_ROWS + layout::ROW_WORDS * (FILES + i) + j)
+}
+
+// "C = B × D" is counted at 32 bits: D may be any word yet.
+pub fn good_geometry(words: u16, factor: u16, blocks: u16) -> bool
+    ensures { λ r. ⌜ r ≡ goodGeo (record { words = words; factor = factor; blocks = blocks }) ⌝ }
+{
+    if words < 1 {
+        return false;
+    }
+    if words > MOST_WORDS {
+        return false;
+    }
+    if factor < 1 {
+        return false;
+    }
+    if factor > MOST_FACTOR {
+        return false;
+    }
+    if factor as u32 * (blocks as u32) < LEAST_CAPACITY {
+        return false;
+    }
+    geometry::fits_share(words, factor as u8, blocks)
+}
+
+// A reader's ID is 0, a writer's is 1 at least.
+fn good_side(side: u16, id: u16) -> bool
+    ensures { λ r. ⌜ r ≡ (eqb side 1 && eqb id 0 || eqb side 2 && leb 1 id) ⌝ }
+{
+    if side == READER {
+        return id == 0;
+    }
+    if side == WRITER {
+        return 1 <= id;
+    }
+    false
+}
+
+fn good_place(s: &[u8], i: usize) -> bool
+    requires { ⌜ (length (now s) ≡ segmentBytes) × (i < files * places) ⌝ }
+    ensures { λ r. ⌜ r ≡ goodPlace (now (s .entry)) i ⌝ }
+{
+    let side = place_word(s, i, layout::PLACE_SIDE);
+    let id = place_word(s, i, layout::PLACE_ID);
+    if !good_side(side, id) {
+        return false;
+    }
+    if place_word(s, i, layout::PLACE_EXTENDED) > 1 {
+        return false;
+    }
+    if place_word(s, i, layout::PLACE_TYPED) > 1 {
+        return false;
+    }
+    if place_word(s, i, layout::PLACE_KEEP) > 1 {
+        return false;
+    }
+    place_word(s, i, layout::PLACE_FIRST) <= 1
+}
+
+fn place_ok(s: &[u8], i: usize) -> bool
+    requires { ⌜ (length (now s) ≡ segmentBytes) × (i < files * places) ⌝ }
+    ensures { λ r. ⌜ r ≡ placeOk (now (s .entry)) i ⌝ }
+{
+    if place_word(s, i, layout::PLACE_SIDE) == 0 {
+        let at = layout::FILE_ROWS + layout::ROW_WORDS * (FILES + i);
+        return zero_words(s, at, layout::ROW_WORDS);
+    }
+    good_place(s, i)
+}
+
+// The n places from place i on.
+pub fn places_ok(s: &[u8], i: usize, n: usize) -> bool
+    requires { ⌜ (length (now s) ≡ segmentBytes) × (i + n ≤ files * places) ⌝ }
+    ensures { λ r. ⌜ r ≡ placesOk (now (s .entry)) i n ⌝ }
+{
+    let mut p = i;
+    let mut left = n;
+    while left > 0 {
+        if !place_ok(s, p) {
+            return false;
+        }
+        p += 1;
+        left -= 1;
+    }
+    true
+}
+
+// How many of them are writers.
+pub fn writers_at(s: &[u8], i: usize, n: usize) -> usize
+    requires { ⌜ (length (now s) ≡ segmentBytes) × (i + n ≤ files * places) ⌝ }
+    ensures { λ r. ⌜ (r ≡ writersAt (now (s .entry)) i n) × (r ≤ n) ⌝ }
+{
+    let mut p = i;
+    let mut left = n;
+    let mut writers = 0;
+    while left > 0 {
+        if place_word(s, p, layout::PLACE_SIDE) == WRITER {
+            writers += 1;
+        }
+        p += 1;
+        left -= 1;
+    }
+    writers
+}
+
+// All of a file that is not built is zero.
+pub fn unbuilt_ok(s: &[u8], f: usize) -> bool
+    requires { ⌜ (length (now s) ≡ segmentBytes) × (f < files) ⌝ }
+    ensures { λ r. ⌜ r ≡ unbuiltOk (now (s .entry)) f ⌝ }
+{
+    let row = layout::FILE_ROWS + layout::ROW_WORDS * f;
+    if !zero_words(s, row, layout::ROW_WORDS) {
+        return false;
+    }
+    let at = layout::FILE_ROWS + layout::ROW_WORDS * (FILES + PLACES * f);
+    zero_words(s, at, PLACES * layout::ROW_WORDS)
+}

@@ -1,0 +1,228 @@
+// The walk of each list: every entry is met once, and marks the place that it belongs to. A list ends at NIL and nowhere else;
+// one turn more than there are entries is enough, since none is met twice.
+use crate::COMPLETED;
+use crate::MET;
+use crate::READER;
+use crate::TIMED;
+use crate::WAITING;
+use crate::WRITER;
+use crate::entries::free_entry;
+use crate::entries::port_entry;
+use crate::entries::queue_entry;
+use crate::entries::timer_entry;
+use kinds::limits::FILES;
+use kinds::limits::PLACES;
+use segment::layout;
+ghost use mathlib.Core.Path.{_≡_};
+ghost use mathlib.Core.Bool.{cond};
+ghost use mathlib.Core.List.{List};
+ghost use Prim.Native.Nat.{ℕ, _+_, _*_, _<_};
+ghost use lib.Dec.{eqb};
+ghost use lib.ListN.{length, replicate};
+ghost use Rattle.rules.specs.Limits.{files, places, entries, bufferBytes};
+ghost use Rattle.segment.specs.Layout.{readQueue, writeQueue, segmentBytes};
+ghost use Rattle.sound.specs.Walks.{walked, freeWalk, queueWalk, timerWalk, portWalk, queueWalks, portWalks, allWalks, allMet};
+
+const TURNS: usize = 129;
+
+const ENTRY_COUNT: usize = 128;
+
+// The marks on places stay as they are.
+fn free_walk(s: &[u8], head: usize, seen: &mut [u8; 128]) -> bool
+    requires { ⌜ (length (now s) ≡ segmentBytes) × (head < 1362) ⌝ }
+    ensures { λ r. ⌜ ((busy : List ℕ) → walked r (now (seen .exit)) busy ≡ freeWalk (now (s .entry)) head (now (seen .entry)) busy (entries + 1)) ⌝ }
+{
+    let mut p = head;
+    let mut left = TURNS;
+    while left > 0 {
+        let v = segment::get(s, p);
+        if layout::ENTRIES <= v {
+            return v == layout::NIL;
+        }
+        let e = v as usize;
+        if seen[e] != 0 {
+            return false;
+        }
+        if !free_entry(s, e) {
+            return false;
+        }
+        seen[e] = MET;
+        p = layout::LINKS + layout::ENTRY_WORDS * e;
+        left -= 1;
+    }
+    false
+}
+
+// The queue of file f on that side.
+fn queue_walk(
+    s: &[u8],
+    buffers: &[u8],
+    side: u16,
+    f: usize,
+    head: usize,
+    seen: &mut [u8; 128],
+    busy: &mut [u8; 64],
+) -> bool
+    requires { ⌜ (length (now s) ≡ segmentBytes) × (length (now buffers) ≡ places * bufferBytes * files) × (f < files) × (head < 1362) ⌝ }
+    ensures { λ r. ⌜ walked r (now (seen .exit)) (now (busy .exit)) ≡ queueWalk (now (s .entry)) (now (buffers .entry)) side f head (now (seen .entry)) (now (busy .entry)) (entries + 1) ⌝ }
+{
+    let mut p = head;
+    let mut left = TURNS;
+    while left > 0 {
+        let v = segment::get(s, p);
+        if layout::ENTRIES <= v {
+            return v == layout::NIL;
+        }
+        let e = v as usize;
+        if seen[e] != 0 {
+            return false;
+        }
+        if !queue_entry(s, buffers, busy, side, f, e) {
+            return false;
+        }
+        let at = layout::DATA + layout::ENTRY_WORDS * e;
+        let i = segment::get(s, at + layout::ENTRY_PLACE) as usize;
+        seen[e] = MET;
+        busy[i] = WAITING;
+        p = layout::LINKS + layout::ENTRY_WORDS * e;
+        left -= 1;
+    }
+    false
+}
+
+fn timer_walk(s: &[u8], head: usize, seen: &mut [u8; 128], busy: &mut [u8; 64]) -> bool
+    requires { ⌜ (length (now s) ≡ segmentBytes) × (head < 1362) ⌝ }
+    ensures { λ r. ⌜ walked r (now (seen .exit)) (now (busy .exit)) ≡ timerWalk (now (s .entry)) 0 head (now (seen .entry)) (now (busy .entry)) (entries + 1) ⌝ }
+{
+    let mut p = head;
+    let mut low: u16 = 0;
+    let mut left = TURNS;
+    while left > 0 {
+        let v = segment::get(s, p);
+        if layout::ENTRIES <= v {
+            return v == layout::NIL;
+        }
+        let e = v as usize;
+        if seen[e] != 0 {
+            return false;
+        }
+        if !timer_entry(s, busy, low, e) {
+            return false;
+        }
+        let at = layout::DATA + layout::ENTRY_WORDS * e;
+        let i = segment::get(s, at + layout::ENTRY_PLACE) as usize;
+        low = segment::get(s, at + layout::ENTRY_SECONDS);
+        seen[e] = MET;
+        busy[i] = TIMED;
+        p = layout::LINKS + layout::ENTRY_WORDS * e;
+        left -= 1;
+    }
+    false
+}
+
+// A reply port has one entry at most.
+fn port_walk(s: &[u8], buffers: &[u8], i: usize, seen: &mut [u8; 128], busy: &mut [u8; 64]) -> bool
+    requires { ⌜ (length (now s) ≡ segmentBytes) × (length (now buffers) ≡ places * bufferBytes * files) × (i < files * places) ⌝ }
+    ensures { λ r. ⌜ walked r (now (seen .exit)) (now (busy .exit)) ≡ portWalk (now (s .entry)) (now (buffers .entry)) i (now (seen .entry)) (now (busy .entry)) ⌝ }
+{
+    let v = segment::get(s, layout::REPLY_PORTS + i);
+    if layout::ENTRIES <= v {
+        return v == layout::NIL;
+    }
+    let e = v as usize;
+    if seen[e] != 0 {
+        return false;
+    }
+    if !port_entry(s, buffers, busy, i, e) {
+        return false;
+    }
+    if segment::get(s, layout::LINKS + layout::ENTRY_WORDS * e) != layout::NIL {
+        return false;
+    }
+    seen[e] = MET;
+    busy[i] = COMPLETED;
+    true
+}
+
+fn queue_head(side: u16, f: usize) -> usize
+    requires { ⌜ f < files ⌝ }
+    ensures { λ r. ⌜ (r ≡ cond (eqb side 1) (readQueue f) (writeQueue f)) × (r < 1362) ⌝ }
+{
+    if side == READER {
+        layout::READ_QUEUES + f
+    } else {
+        layout::WRITE_QUEUES + f
+    }
+}
+
+// The queues of all files on that side.
+fn queue_walks(
+    s: &[u8],
+    buffers: &[u8],
+    side: u16,
+    seen: &mut [u8; 128],
+    busy: &mut [u8; 64],
+) -> bool
+    requires { ⌜ (length (now s) ≡ segmentBytes) × (length (now buffers) ≡ places * bufferBytes * files) ⌝ }
+    ensures { λ r. ⌜ walked r (now (seen .exit)) (now (busy .exit)) ≡ queueWalks (now (s .entry)) (now (buffers .entry)) side 0 (now (seen .entry)) (now (busy .entry)) files ⌝ }
+{
+    let mut f = 0;
+    while f < FILES {
+        let head = queue_head(side, f);
+        if !queue_walk(s, buffers, side, f, head, seen, busy) {
+            return false;
+        }
+        f += 1;
+    }
+    true
+}
+
+// The ports of all places.
+fn port_walks(s: &[u8], buffers: &[u8], seen: &mut [u8; 128], busy: &mut [u8; 64]) -> bool
+    requires { ⌜ (length (now s) ≡ segmentBytes) × (length (now buffers) ≡ places * bufferBytes * files) ⌝ }
+    ensures { λ r. ⌜ walked r (now (seen .exit)) (now (busy .exit)) ≡ portWalks (now (s .entry)) (now (buffers .entry)) 0 (now (seen .entry)) (now (busy .entry)) (files * places) ⌝ }
+{
+    let mut i = 0;
+    while i < FILES * PLACES {
+        if !port_walk(s, buffers, i, seen, busy) {
+            return false;
+        }
+        i += 1;
+    }
+    true
+}
+
+// All 82 lists, with no mark set yet.
+pub fn all_walks(s: &[u8], buffers: &[u8], seen: &mut [u8; 128], busy: &mut [u8; 64]) -> bool
+    requires { ⌜ (length (now s) ≡ segmentBytes) × (length (now buffers) ≡ places * bufferBytes * files) ⌝ }
+    requires { ⌜ (now seen ≡ replicate entries 0) × (now busy ≡ replicate (files * places) 0) ⌝ }
+    ensures { λ r. ⌜ walked r (now (seen .exit)) (now (busy .exit)) ≡ allWalks (now (s .entry)) (now (buffers .entry)) ⌝ }
+{
+    if !free_walk(s, layout::FREE_LIST, seen) {
+        return false;
+    }
+    if !queue_walks(s, buffers, READER, seen, busy) {
+        return false;
+    }
+    if !queue_walks(s, buffers, WRITER, seen, busy) {
+        return false;
+    }
+    if !port_walks(s, buffers, seen, busy) {
+        return false;
+    }
+    timer_walk(s, layout::TIMER_LIST, seen, busy)
+}
+
+// Whether every entry was met.
+pub fn all_met(seen: &[u8; 128]) -> bool
+    ensures { λ r. ⌜ r ≡ allMet (now (seen .entry)) entries ⌝ }
+{
+    let mut n = ENTRY_COUNT;
+    while n > 0 {
+        n -= 1;
+        if seen[n] != MET {
+            return false;
+        }
+    }
+    true
+}
