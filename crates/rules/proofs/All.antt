@@ -22,5 +22,5 @@ use Rattle.rules.specs.Memories as memories-
 use Rattle.rules.specs.Allocation as allocation-
 
 unfoldable pub All : ℕ
-unfolding word-.zeros geometry-.upTo geometry-.dataBlocks geometry-.capacity geometry-.blockSize geometry-.within geometry-.inRange geometry-.fitsShare store-.used store-.emptyStore store-.pad store-.recordBytes store-.recordWords store-.blockBytes store-.zeroed store-.added store-.tail store-.inscribed store-.put store-.putAll store-.advance store-.discardFrom store-.discard store-.dropped store-.purge store-.takeHead store-.fetch count-.inWords count-.countBytes count-.readable count-.logOf line-.digitOf line-.valueOf line-.digitsOf line-.allDigits line-.bytesOf line-.isLine line-.lineFrame line-.lineOf frames-.controlFrame frames-.sized frames-.frameOf answers-.answerBytes requests-.countAcc requests-.isWriter requests-.isReader requests-.anyAcc requests-.writers requests-.readers requests-.opened requests-.accAt requests-.room requests-.fits requests-.withStore requests-.withAccs requests-.withQueues requests-.withTimers requests-.say requests-.alter requests-.alterAcc requests-.putRec requests-.behind requests-.isIdle requests-.withReq requests-.begun requests-.without requests-.withoutTimer requests-.armIn requests-.requeue requests-.leave requests-.finish requests-.cancel requests-.failReq requests-.fail requests-.arm requests-.wait requests-.freed settle-.handed settle-.readResult settle-.dataRec settle-.still settle-.onward settle-.serveReader settle-.serveWriter settle-.atHead settle-.turn settle-.settleFor settle-.settle reply-.hushed reply-.leaves reply-.done reply-.status reply-.unmade open-.newFile open-.geoOf open-.build open-.shareOf open-.otherShare open-.crowded open-.firstFree open-.holdsId open-.freeIdFrom open-.freeId open-.newAcc open-.enter open-.openRec open-.purged open-.openReader open-.openWriter open-.roomToOpen open-.open′ transfer-.mayWait transfer-.readOn transfer-.read transfer-.isNil transfer-.writeOn transfer-.write transfer-.collected transfer-.collect controls-.setTimeout controls-.setExtended controls-.setTyped controls-.setKeep controls-.unchanged controls-.switched controls-.ofReader controls-.abort controls-.whileIdle controls-.control close-.closeRec close-.endReaders close-.lastGone close-.vacate close-.closed close-.close close-.due close-.failAll close-.minus close-.lessen close-.lapse close-.timePasses sheet-.headFrame sheet-.recFrame sheet-.recLines sheet-.sheet sheet-.linesFrom sheet-.linesOf sheet-.allLines sheet-.goodHead sheet-.goodRec sheet-.goodRecs sheet-.recOf sheet-.framesSheet sheet-.readSheet sheet-.loaded sheet-.load sheet-.save look-.oldest look-.lookFile look-.lookReq look-.look look-.dataCount look-.counts calls-.refusal calls-.onAcc calls-.askBuilt calls-.askUnbuilt calls-.ask desk-.frameAsks desk-.asked desk-.freshDesk desk-.fileOf desk-.fileTime desk-.answered desk-.respond desk-.replies desk-.after desk-.happens desk-.history desk-.replyBytes desk-.inputLines desk-.answerLines desk-.program memories-.shareOf memories-.blocks memories-.lies memories-.buffer memories-.fileBuffers memories-.buffersOf memories-.buffers allocation-.placeOf allocation-.upFrom allocation-.freshAlloc allocation-.heldAt allocation-.front allocation-.holds allocation-.withClock allocation-.takeOwn allocation-.takeTimer allocation-.freeTimer allocation-.freeOwn allocation-.endsAt allocation-.goesAt allocation-.allot allocation-.allotAll allocation-.endAll allocation-.allocTime allocation-.allocAsked allocation-.allocAfter allocation-.ownEntry allocation-.timerEntry allocation-.queueOf allocation-.portOf allocation-.timerList
+unfolding word-.zeros word-.quiet geometry-.upTo geometry-.dataBlocks geometry-.capacity geometry-.blockSize geometry-.within geometry-.inRange geometry-.fitsShare store-.used store-.emptyStore store-.pad store-.recordBytes store-.recordWords store-.blockBytes store-.zeroed store-.added store-.tail store-.inscribed store-.put store-.putAll store-.advance store-.discardFrom store-.discard store-.dropped store-.purge store-.takeHead store-.fetch count-.inWords count-.countBytes count-.readable count-.logOf line-.digitOf line-.valueOf line-.digitsOf line-.allDigits line-.bytesOf line-.isLine line-.lineFrame line-.lineOf frames-.controlFrame frames-.sized frames-.frameOf answers-.answerBytes requests-.countAcc requests-.isWriter requests-.isReader requests-.anyAcc requests-.writers requests-.readers requests-.opened requests-.accAt requests-.room requests-.fits requests-.withStore requests-.withAccs requests-.withQueues requests-.withTimers requests-.say requests-.alter requests-.alterAcc requests-.putRec requests-.behind requests-.isIdle requests-.withReq requests-.begun requests-.without requests-.withoutTimer requests-.armIn requests-.requeue requests-.leave requests-.finish requests-.cancel requests-.failReq requests-.fail requests-.arm requests-.wait requests-.freed settle-.handed settle-.readResult settle-.dataRec settle-.still settle-.onward settle-.serveReader settle-.serveWriter settle-.atHead settle-.turn settle-.settleFor settle-.settle reply-.hushed reply-.leaves reply-.done reply-.status reply-.unmade open-.newFile open-.geoOf open-.build open-.shareOf open-.otherShare open-.crowded open-.firstFree open-.holdsId open-.freeIdFrom open-.freeId open-.newAcc open-.enter open-.openRec open-.purged open-.openReader open-.openWriter open-.roomToOpen open-.open′ transfer-.mayWait transfer-.readOn transfer-.read transfer-.isNil transfer-.writeOn transfer-.write transfer-.collected transfer-.collect controls-.setTimeout controls-.setExtended controls-.setTyped controls-.setKeep controls-.unchanged controls-.switched controls-.ofReader controls-.abort controls-.whileIdle controls-.control close-.closeRec close-.endReaders close-.lastGone close-.vacate close-.closed close-.close close-.due close-.failAll close-.minus close-.lessen close-.lapse close-.timePasses sheet-.headFrame sheet-.recFrame sheet-.recLines sheet-.sheet sheet-.linesFrom sheet-.linesOf sheet-.allLines sheet-.goodHead sheet-.goodRec sheet-.goodRecs sheet-.recOf sheet-.framesSheet sheet-.readSheet sheet-.loaded sheet-.load sheet-.save look-.oldest look-.lookFile look-.lookReq look-.look look-.dataCount look-.counts calls-.refusal calls-.onAcc calls-.askBuilt calls-.askUnbuilt calls-.ask desk-.frameAsks desk-.asked desk-.freshDesk desk-.fileOf desk-.fileTime desk-.answered desk-.respond desk-.replies desk-.after desk-.happens desk-.history desk-.replyBytes desk-.inputLines desk-.answerLines desk-.program memories-.shareOf memories-.blocks memories-.lies memories-.buffer memories-.fileBuffers memories-.buffersOf memories-.buffers allocation-.placeOf allocation-.upFrom allocation-.freshAlloc allocation-.heldAt allocation-.front allocation-.holds allocation-.withClock allocation-.takeOwn allocation-.takeTimer allocation-.freeTimer allocation-.freeOwn allocation-.endsAt allocation-.goesAt allocation-.allot allocation-.allotAll allocation-.endAll allocation-.allocTime allocation-.allocAsked allocation-.allocAfter allocation-.ownEntry allocation-.timerEntry allocation-.queueOf allocation-.portOf allocation-.timerList
 All = 0
