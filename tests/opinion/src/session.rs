@@ -1,0 +1,154 @@
+//! Sessions as text: a line for each call with its answer, then the memories it leaves.
+//!
+//!   E FRAME ANSWER              an event
+//!   L FILE READER STATUS BYTES  look
+//!   S FILE ROOM STATUS SHEET    save
+//!   D FILE TEXT STATUS          load
+//!   B FILE BYTES                the share of a built file
+//!   U PLACE BYTES               record buffer 8 x file + place, if not zero
+//!   F ENTRIES                   the free list
+//!   Q LIST ENTRIES              list 1 to 81, if not empty: read queues, write queues, reply
+//!                               ports, timers
+//!
+//! Bytes are hexadecimal, - for none; shares and buffers are cut behind the last non-zero byte.
+
+use crate::generator::{Call, Generator};
+use crate::model::desk::Desk;
+use crate::model::limits::{BUFFER_BYTES, FILES, PLACES, SHARE_BYTES};
+use crate::model::line::{digits, frame_of_line};
+use crate::model::status::DONE;
+
+/// A session of n calls and the memories it leaves.
+pub fn session_text(seed: u64, n: u64) -> String {
+    let mut desk = Desk::fresh();
+    let mut generator = Generator::new(seed);
+    let mut text = String::new();
+    for _ in 0..n {
+        let call = next_call(&desk, &mut generator);
+        text.push_str(&make_call(&mut desk, &call).0);
+        text.push('\n');
+    }
+    text.push_str(&memories_text(&desk));
+    text
+}
+
+/// The calls of a session's text, answered anew.
+pub fn replay_text(session: &str) -> String {
+    let mut desk = Desk::fresh();
+    let mut text = String::new();
+    for call in session.lines().filter_map(call_of_line) {
+        text.push_str(&make_call(&mut desk, &call).0);
+        text.push('\n');
+    }
+    text.push_str(&memories_text(&desk));
+    text
+}
+
+/// The generator's next call; a sheet it will see saved is remembered.
+pub fn next_call(desk: &Desk, generator: &mut Generator) -> Call {
+    let call = generator.next_call(desk);
+    if let Call::Save(file, room) = call {
+        let (status, sheet) = desk.save(file, room);
+        if status == DONE {
+            generator.saw_sheet(&sheet);
+        }
+    }
+    call
+}
+
+/// Makes a call and gives its line and its status.
+pub fn make_call(desk: &mut Desk, call: &Call) -> (String, u8) {
+    match call {
+        Call::Event(frame) => {
+            let answer = desk.event(frame);
+            (format!("E {} {}", hex(frame), hex(&answer)), answer[1])
+        }
+        Call::Look(file, reader) => {
+            let (status, shown) = desk.look(*file, *reader);
+            (format!("L {file} {reader} {status} {}", hex(&shown)), status)
+        }
+        Call::Save(file, room) => {
+            let (status, sheet) = desk.save(*file, *room);
+            if status == DONE {
+                check_sheet(&sheet);
+            }
+            (format!("S {file} {room} {status} {}", hex(&sheet)), status)
+        }
+        Call::Load(file, text) => {
+            let status = desk.load(*file, text);
+            (format!("D {file} {} {status}", hex(text)), status)
+        }
+    }
+}
+
+/// In a debug build: a saved sheet loads, and saves again as itself.
+fn check_sheet(sheet: &[u8]) {
+    if cfg!(debug_assertions) {
+        let mut other = Desk::fresh();
+        assert!(other.load(0, sheet) == DONE, "a saved sheet is refused");
+        assert!(other.save(0, sheet.len()).1 == sheet, "a sheet does not come back");
+    }
+}
+
+/// The call of a session's line, its recorded answer left aside; None for the memories.
+fn call_of_line(line: &str) -> Option<Call> {
+    let fields: Vec<&str> = line.split(' ').collect();
+    let byte = |text: &str| text.parse::<u8>().ok();
+    match fields[..] {
+        ["E", frame, ..] => Some(Call::Event(bytes_of(frame)?)),
+        ["L", file, reader, ..] => Some(Call::Look(byte(file)?, byte(reader)?)),
+        ["S", file, room, ..] => Some(Call::Save(byte(file)?, room.parse().ok()?)),
+        ["D", file, text, ..] => Some(Call::Load(byte(file)?, bytes_of(text)?)),
+        _ => None,
+    }
+}
+
+fn memories_text(desk: &Desk) -> String {
+    let mut text = String::new();
+    let blocks = desk.blocks();
+    for file in 0..FILES {
+        if desk.files[file].is_some() {
+            let share = &blocks[file * SHARE_BYTES..(file + 1) * SHARE_BYTES];
+            text.push_str(&format!("B {file} {}\n", hex(cut(share))));
+        }
+    }
+    let buffers = desk.buffers();
+    for place in 0..FILES * PLACES {
+        let held = cut(&buffers[place * BUFFER_BYTES..(place + 1) * BUFFER_BYTES]);
+        if !held.is_empty() {
+            text.push_str(&format!("U {place} {}\n", hex(held)));
+        }
+    }
+    for (index, list) in desk.lists().iter().enumerate() {
+        let entries: String = list.iter().map(|entry| format!(" {entry}")).collect();
+        if index == 0 {
+            text.push_str(&format!("F{entries}\n"));
+        } else if !list.is_empty() {
+            text.push_str(&format!("Q {index}{entries}\n"));
+        }
+    }
+    text
+}
+
+/// Hexadecimal, or - for no bytes.
+fn hex(bytes: &[u8]) -> String {
+    if bytes.is_empty() {
+        return "-".to_string();
+    }
+    String::from_utf8_lossy(&digits(bytes)).into_owned()
+}
+
+/// Any number of bytes in digits, or - for none.
+fn bytes_of(text: &str) -> Option<Vec<u8>> {
+    if text == "-" {
+        return Some(Vec::new());
+    }
+    let bytes: Option<Vec<_>> = text.as_bytes().chunks(2).map(frame_of_line).collect();
+    bytes.map(|all| all.concat())
+}
+
+/// Cut behind the last non-zero byte.
+fn cut(bytes: &[u8]) -> &[u8] {
+    let length = bytes.iter().rposition(|b| *b != 0).map_or(0, |at| at + 1);
+    &bytes[..length]
+}

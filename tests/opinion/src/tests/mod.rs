@@ -1,0 +1,51 @@
+//! Cases worked out by hand from document 01, and random sessions with every check on.
+
+mod reading;
+mod refusals;
+mod room;
+mod sessions;
+mod sheets;
+mod waiting;
+mod worked;
+
+use crate::model::desk::Desk;
+use crate::model::status::DONE;
+
+/// Sends lines and expects an answer each, both in digits.
+fn talk(desk: &mut Desk, pairs: &[(&str, &str)]) {
+    for (index, (line, expected)) in pairs.iter().enumerate() {
+        let answer = String::from_utf8(desk.line(line.as_bytes())).unwrap();
+        assert_eq!(&answer, expected, "line {index}: {line}");
+    }
+}
+
+fn after(lines: &[(&str, &str)]) -> Desk {
+    let mut desk = Desk::fresh();
+    talk(&mut desk, lines);
+    desk
+}
+
+fn free_front(desk: &Desk, n: usize) -> Vec<u16> {
+    desk.lists()[0][..n].to_vec()
+}
+
+fn saved(desk: &Desk, file: u8) -> String {
+    let (status, text) = desk.save(file, 100_000);
+    assert_eq!(status, DONE);
+    String::from_utf8(text).unwrap()
+}
+
+const WORKED: [(&str, &str); 12] = [
+    ("0100000401000101", "01000003"),
+    ("0200030100", "0200000001"),
+    ("040000000241424344", "04000002"),
+    ("040000FFFD454647", "0402"),
+    ("0200000100", "0200010000"),
+    ("040000FFFD454647", "0401"),
+    ("0300010004", "0300000241424344"),
+    ("030001FFF8", "03000003454647"),
+    ("060000", "06000003"),
+    ("070000", "0700"),
+    ("0300010004", "0302"),
+    ("0300", "001E"),
+];
