@@ -83,11 +83,11 @@ passes d s e A = record {
   calm = λ g b. rw (answered-time d g e) (ages-calm e (fileOf d g));
 }
 
-happens-here : (f : ℕ) (d : Desk) (q : Ask) → happens f d (on f q) ≡ ask (fileOf d f) q .haps
+pub happens-here : (f : ℕ) (d : Desk) (q : Ask) → happens f d (on f q) ≡ ask (fileOf d f) q .haps
 unfolding happens
 happens-here f d q = rw (eq-eqb f f refl, happens)
 
-answers : (d : Desk) (s : Alloc) (a : Asked) → ProperAsked a → Agreed d s → Agreed (answered d a .desk) (allocAsked d a s)
+pub answers : (d : Desk) (s : Alloc) (a : Asked) → ProperAsked a → Agreed d s → Agreed (answered d a .desk) (allocAsked d a s)
 unfolding allocAsked ProperAsked
 answers d s (on f q) k A = go (ltb f files) refl
   where

@@ -1,4 +1,4 @@
--- What a request holds fits its buffer, after any run from a fresh desk; so each of the 64 buffers has its 260 bytes.
+-- What a request holds is within its bounds, after any run from a fresh desk; so each of the 64 buffers has its 260 bytes.
 use mathlib.Core.Path.{_≡_, refl, ap, subst, _∙_}
 use mathlib.Core.Bool.{true, false}
 use mathlib.Core.List.{List}
@@ -28,8 +28,8 @@ use Rattle.laws.proofs.Lift.{lifted}
 
 bounded-ends : (words st : ℕ) (r q : Req) → Ends st r q → Bounded words r → Bounded words q
 unfolding Bounded
-bounded-ends words st r q (readEnds h) k = omega (arith, h, k)
-bounded-ends words st r q writeEnds k = tt
+bounded-ends words st r q (readEnds h n) k = (omega (arith, h, k), n)
+bounded-ends words st r q (writeEnds n) k = n
 
 -- what a file's request at p holds
 pub bounds-at : (p : ℕ) (a : Acc) (r : Req) (b : Built) → accAt b p ≡ some a → a .req ≡ r → Bounds b → Bounded (b .geo .words) r
@@ -90,7 +90,7 @@ unfolding lies Bounded
 length-lies words idle h k = omega arith
 length-lies words (reading w l kp) h k = omega arith
 length-lies words (writing w d) h k = omega arith
-length-lies words (readDone st g d) h k = k
+length-lies words (readDone st g d) h k = k .0
 length-lies words (writeDone st g) h k = omega arith
 
 pub length-buffer : (words : ℕ) (o : Option Acc) → words ≤ mostWords → Bounded words (reqOf o) → length (buffer o) ≡ bufferBytes

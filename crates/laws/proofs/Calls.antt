@@ -58,7 +58,7 @@ readable-bytes n = by-cases (inWords n)
     (λ t. rw t (λ e. omega (arith, leb-true n mostReadWords e)))
     (λ t. rw t (λ e. leb-true _ _ e))
 
-free-id : (k n : ℕ) (l : List (Option Acc)) → n ≤ freeIdFrom k n l
+pub free-id : (k n : ℕ) (l : List (Option Acc)) → n ≤ freeIdFrom k n l
 unfolding freeIdFrom
 free-id zero n l = omega arith
 free-id (suc k) n l = both (λ (m : ℕ). n ≤ m) (eqb (countAcc (holdsId n) l) 0) (λ _. omega arith) (λ _. omega (arith, free-id k (n + 1) l))

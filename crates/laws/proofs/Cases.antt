@@ -3,9 +3,10 @@ use mathlib.Core.Path.{_≡_, refl, ap, _∙_}
 use mathlib.Core.Bool.{Bool, true, false}
 use mathlib.Core.List.{List, [], _∷_}
 use mathlib.Core.Option.{none, some}
-use Prim.Native.Nat.{ℕ}
+use Prim.Native.Nat.{ℕ, _<_}
 use native.Mathlib.Omega.{arith}
 use lib.ListN.{length}
+use Rattle.rules.specs.Limits.{leastRefusal}
 use Rattle.rules.specs.State.{Rec, Req, idle, reading, writing, readDone, writeDone, Acc, Built}
 use Rattle.rules.specs.Store.{fetch}
 use Rattle.rules.specs.Count.{logOf}
@@ -65,13 +66,13 @@ turn-still b r w = turn-writer b (ap (λ (m : Turn). m .moved) r) ∙ ap (λ (m 
 
 -- no request waits; one does, and ends with a status and brings nothing
 pub fail-cases : (P : Built → Type 0) (p st : ℕ) (b : Built) → (awaits (reqAt (b .accs) p) ≡ 0 → P b)
-    → ((q : Req) (a : Acc) (r : Req) → accAt b p ≡ some a → a .req ≡ r → Ends st r q → P (finish p st q b)) → P (fail p st b)
+    → ((q : Req) (a : Acc) (r : Req) → accAt b p ≡ some a → a .req ≡ r → Ends st r q → P (finish p st q b)) → st < leastRefusal → P (fail p st b)
 unfolding fail accAt reqOf waitsRead waitsWrite
-fail-cases P p st b i f = opt P (accAt b p) (λ e. i (ap awaits (ap reqOf e))) (λ a e. go a e (a .req) refl)
+fail-cases P p st b i f n = opt P (accAt b p) (λ e. i (ap awaits (ap reqOf e))) (λ a e. go a e (a .req) refl)
   where
     go : (a : Acc) → accAt b p ≡ some a → (q : Req) → a .req ≡ q → P (failReq p st q b)
     go a e idle r = unfold failReq in i (ap awaits (ap reqOf e ∙ r))
-    go a e (reading w l k) r = unfold failReq in f _ a _ e r (readEnds (omega arith))
-    go a e (writing w d) r = unfold failReq in f _ a _ e r writeEnds
+    go a e (reading w l k) r = unfold failReq in f _ a _ e r (readEnds (omega arith) n)
+    go a e (writing w d) r = unfold failReq in f _ a _ e r (writeEnds n)
     go a e (readDone s l d) r = unfold failReq in i (ap awaits (ap reqOf e ∙ r))
     go a e (writeDone s l) r = unfold failReq in i (ap awaits (ap reqOf e ∙ r))

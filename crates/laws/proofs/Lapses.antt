@@ -6,7 +6,7 @@ use Prim.Native.Nat.{ℕ, _+_, _*_, _/_, _%_, _≤_, _<_}
 use native.Mathlib.Omega.{arith}
 use native.Mathlib.Decide.{ℕ-discrete, decLt}
 use lib.ListN.{length, List·getD-eq-default}
-use Rattle.rules.specs.Limits.{files, places}
+use Rattle.rules.specs.Limits.{files, places, leastRefusal}
 use Rattle.rules.specs.State.{Acc, Timer, ends, Built, File, unbuilt, built}
 use Rattle.rules.specs.Requests.{accAt, withAccs, withQueues, withTimers, alterAcc, say, requeue, leave, finish, fail}
 use Rattle.rules.specs.Reply.{hushed, leaves, done, unmade}
@@ -34,7 +34,7 @@ unfolding heldAt entriesOf
 far i t h = rw (List·getD-eq-default (t .held) nothing h) (omega arith)
 
 -- a timer of another file
-others : (f i : ℕ) (t : Alloc) (l : List (Option Acc)) (ts : List Timer) → (i / places ≡ f → ⊥) → Matches f t t l ts → Matches f (endsAt i t) (endsAt i t) l ts
+pub others : (f i : ℕ) (t : Alloc) (l : List (Option Acc)) (ts : List Timer) → (i / places ≡ f → ⊥) → Matches f t t l ts → Matches f (endsAt i t) (endsAt i t) l ts
 others f i t l ts d M = go (decLt i (files * places))
   where
     go : Dec (i < files * places) → Matches f (endsAt i t) (endsAt i t) l ts
@@ -51,22 +51,22 @@ others f i t l ts d M = go (decLt i (files * places))
         (c .whole) (clock-ends-either Clock i t (M .clock) (clock-withoutTimer i (t .clock) (M .clock)))
 
 -- one of the file: the request at p fails, and where none waits nothing changes
-fails-one : (f p st : ℕ) (t : Alloc) (b : Built) → f < files → p < places → Matches f t t (b .accs) (b .timers)
+pub fails-one : (f p st : ℕ) (t : Alloc) (b : Built) → f < files → p < places → Matches f t t (b .accs) (b .timers) → st < leastRefusal
     → Matches f (endsAt (placeOf f p) t) (endsAt (placeOf f p) t) (fail p st b .accs) (fail p st b .timers)
 unfolding accAt allot finish say leave withTimers requeue alterAcc withAccs withQueues
-fails-one f p st t b hf hp M =
+fails-one f p st t b hf hp M n =
     let i : ℕ = placeOf f p in
     fail-cases (λ c. Matches f (endsAt i t) (endsAt i t) (c .accs) (c .timers)) p st b
     (λ z. rw (endsAt-still i t (omega (arith, M .agrees .holds p hp, M .agrees .timed p, outstanding-most (reqAt (b .accs) p)))) M)
     (λ q a r e h w. let N = matches-ends f p hf t t (b .accs) (b .timers) M a e q st r h w in
-    matches-now f (endsAt i t) _ _ (N .agrees) (N .whole) (N .clock))
+    matches-now f (endsAt i t) _ _ (N .agrees) (N .whole) (N .clock)) n
 
 -- all that are due
-fails-due : (f : ℕ) (hf : f < files) (st : ℕ) (is : List ℕ) (t : Alloc) (b : Built) → Matches f t t (b .accs) (b .timers)
+fails-due : (f : ℕ) (hf : f < files) (st : ℕ) (is : List ℕ) (t : Alloc) (b : Built) → Matches f t t (b .accs) (b .timers) → st < leastRefusal
     → Matches f (endAll is t) (endAll is t) (failAll st (here f is) b .accs) (failAll st (here f is) b .timers)
 unfolding endAll failAll
-fails-due f hf st [] t b M = unfold here in M
-fails-due f hf st (j ∷ is) t b M = go (ℕ-discrete (j / places) f) (fails-due f hf st is (endsAt j t))
+fails-due f hf st [] t b M n = unfold here in M
+fails-due f hf st (j ∷ is) t b M n = go (ℕ-discrete (j / places) f) (λ c N. fails-due f hf st is (endsAt j t) c N n)
   where
     u : Alloc
     u = endAll is (endsAt j t)
@@ -75,7 +75,7 @@ fails-due f hf st (j ∷ is) t b M = go (ℕ-discrete (j / places) f) (fails-due
         → Matches f u u (failAll st (here f (j ∷ is)) b .accs) (failAll st (here f (j ∷ is)) b .timers)
     go (yes e) r =
         let k : placeOf f (j % places) ≡ j = unfold placeOf in omega arith in
-        rw (here-in f j is e) (r (fail (j % places) st b) (rw k at (fails-one f (j % places) st t b hf (omega arith) M)))
+        rw (here-in f j is e) (r (fail (j % places) st b) (rw k at (fails-one f (j % places) st t b hf (omega arith) M n)))
     go (no d) r = rw (here-out f j is d) (r b (others f j t (b .accs) (b .timers) d M))
 
 -- the others lose e
@@ -96,7 +96,7 @@ module _ (f : ℕ) (hf : f < files) (e : ℕ) (s : Alloc) where
   unfolding allocTime lapse lessen withTimers
   ages-built b M =
       let c : here f (due e (s .clock)) ≡ due e (b .timers) = here-due e f (s .clock) ∙ ap (due e) (M .agrees .clock) in
-      lessened f e _ _ _ (rw c at (fails-due f hf 22 (due e (s .clock)) s b M))
+      lessened f e _ _ _ (rw c at (fails-due f hf 22 (due e (s .clock)) s b M (omega arith)))
 
   -- a file that is not built has the places of a new one
   bare : Built
@@ -117,7 +117,7 @@ ages-calm e (built b) = refl
 pub ages-fed : (f e : ℕ) (s : Alloc) (x : File) → Calm x → Fed f (timePasses e x .haps) s
 unfolding OnFile timePasses done leaves unmade lapse lessen withTimers
 ages-fed f e s unbuilt c = unfold Fed in tt
-ages-fed f e s (built b) c = fails-all (λ d. Fed f (d .past) s) more 22 (due e (b .timers)) b (rw c (unfold Fed in tt))
+ages-fed f e s (built b) c = fails-all (λ d. Fed f (d .past) s) more 22 (due e (b .timers)) b (rw c (unfold Fed in tt)) (omega arith)
   where
     more : Finishes (λ d. Fed f (d .past) s)
     more p st q a r d _ _ _ h = unfold finish say leave withTimers requeue alterAcc withAccs withQueues in fed-append f (d .past) (ends p st ∷ []) s h (unfold Fed takes in (omega arith, tt))

@@ -15,29 +15,29 @@ use Rattle.laws.proofs.Made.{made}
 
 -- R is what holds of a settled file
 module _ (I R : Built → Type 0) (J : ℕ → Built → Type 0) (w : Walks I J) (ages : (e : ℕ) (b : Built) → I b → I (lapse e b)) (st : Settles I R) (new : Starts I) (calm : Starts R) (hush : (b : Built) → I b → R b → I (hushed b) × R (hushed b)) where
-  Good : File → Type 0
+  abbrev pub Good : File → Type 0
   Good x = OnFile (λ b. I b × R b) x
 
   left : (r : Reply) (b : Built) → I b → R b → Good (leaves r b .file)
-  unfolding Good OnFile leaves
+  unfolding OnFile leaves
   left r b s z = hush b s z
 
   none-left : (r : Reply) → Good (unmade r .file)
-  unfolding Good OnFile unmade
+  unfolding OnFile unmade
   none-left r = tt
 
-  asks : (x : File) (q : Ask) → Proper q → Good x → Good (ask x q .file)
+  pub asks : (x : File) (q : Ask) → Proper q → Good x → Good (ask x q .file)
   unfolding ask
   asks unbuilt q k s = made (λ o. Good (o .file)) none-left (λ r g k. left r _ (new .built g k) (calm .built g k)) (λ r t k. left r _ (new .loads t k) (calm .loads t k)) q
-  asks (built b) q k s = let h : I b × R b = unfold Good OnFile in s in walked I R J w st (λ o. Good (o .file)) left b q k (h .0) (h .1)
+  asks (built b) q k s = let h : I b × R b = unfold OnFile in s in walked I R J w st (λ o. Good (o .file)) left b q k (h .0) (h .1)
 
-  lasts : (e : ℕ) (x : File) → Good x → Good (fileTime e x)
+  pub lasts : (e : ℕ) (x : File) → Good x → Good (fileTime e x)
   unfolding fileTime
   lasts e unbuilt s = unfold timePasses in none-left _
-  lasts e (built b) s = let h : I b × R b = unfold Good OnFile in s in aged I R J w st (λ o. Good (o .file)) left e b (ages e b (h .0)) (h .1)
+  lasts e (built b) s = let h : I b × R b = unfold OnFile in s in aged I R J w st (λ o. Good (o .file)) left e b (ages e b (h .0)) (h .1)
 
   pub lifted-both : (f : ℕ) (cs : List Call) → OnFile (λ b. I b × R b) (fileOf (after freshDesk cs) f)
-  lifted-both f cs = unfold Good in always Good (unfold Good OnFile in tt) asks lasts f cs
+  lifted-both f cs = always Good (unfold OnFile in tt) asks lasts f cs
 
 -- where nothing is asked of a settled file
 
@@ -47,7 +47,7 @@ Any b = Unit {0}
 pub any : (I : Built → Type 0) → Settles I Any
 any I = record { rests = λ b _. tt; milds = λ p f b _ _. tt; finishes = λ p st q b _. tt; cancels = λ p b _. tt; frees = λ p b _. tt; lessens = λ e b _. tt }
 
-any-start : Starts Any
+pub any-start : Starts Any
 any-start = record { built = λ g _. tt; loads = λ s _. tt }
 
 module _ (I : Built → Type 0) (J : ℕ → Built → Type 0) (w : Walks I J) (ages : (e : ℕ) (b : Built) → I b → I (lapse e b)) (new : Starts I) (hush : (b : Built) → I b → I (hushed b)) where

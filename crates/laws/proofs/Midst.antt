@@ -120,7 +120,7 @@ module _ (f : ℕ) (hf : f < files) (s : Alloc) where
       now = rw y (reqs-same q a (b .accs) p e)
 
       -- and its timer's
-      mid-wait : Mid f s (arm p n c)
+      pub mid-wait : Mid f s (arm p n c)
       unfolding arm say withTimers takes
       mid-wait =
           both (Mid f s) (eqb n 0) (λ _. mid-waits)
@@ -129,7 +129,7 @@ module _ (f : ℕ) (hf : f < files) (s : Alloc) where
 
   -- records are put and go
 
-  mid-put : (r : Rec) (b : Built) → Mid f s b → Mid f s (putRec r b)
+  pub mid-put : (r : Rec) (b : Built) → Mid f s b → Mid f s (putRec r b)
   unfolding putRec say withStore takes allot
   mid-put r b m = one b (putRec r b) (puts r) m refl (omega arith) (m .matches)
 
@@ -137,7 +137,7 @@ module _ (f : ℕ) (hf : f < files) (s : Alloc) where
   unfolding behind say withStore
   mid-behind g b m = more b (behind g b) (map gone (g .went)) m refl (fed-quiet f gone (gone-quiet f) (g .went) (so b)) (rw (allotAll-quiet f gone (gone-quiet f) (g .went) (so b)) (m .matches))
 
-  mid-purged : (access : ℕ) (b : Built) → Mid f s b → Mid f s (purged access b)
+  pub mid-purged : (access : ℕ) (b : Built) → Mid f s b → Mid f s (purged access b)
   unfolding purged say withStore takes allot
   mid-purged access b m = both (Mid f s) (eqb access 1 && eqb (opened b) 0) (λ _. one b _ purges m refl (omega arith) (m .matches)) (λ _. m)
 

@@ -32,8 +32,8 @@ outstanding-idle q e = ap outstanding e
 -- a request that completes waits no more, and is still outstanding
 pub outstanding-ends : {st : ℕ} {r q : Req} → Ends st r q → (outstanding r ≡ 1) × (awaits q ≡ 0) × (outstanding q ≡ 1)
 unfolding waitsRead waitsWrite uncollected
-outstanding-ends (readEnds h) = (refl, refl, refl)
-outstanding-ends writeEnds = (refl, refl, refl)
+outstanding-ends (readEnds h n) = (refl, refl, refl)
+outstanding-ends (writeEnds n) = (refl, refl, refl)
 
 -- the accessors of a file
 

@@ -15,7 +15,7 @@ use Rattle.rules.specs.Requests.{writers, room, fits, accAt, withAccs, withQueu
 use Rattle.rules.specs.Settle.{dataRec}
 use Rattle.rules.specs.Reply.{hushed}
 use Rattle.rules.specs.Open.{newFile, newAcc, openRec, enter, purged, roomToOpen}
-use Rattle.rules.specs.Close.{closeRec, vacate, lessen}
+use Rattle.rules.specs.Close.{closeRec, vacate, lessen, lapse}
 use Rattle.rules.specs.Sheet.{loaded}
 use Rattle.rules.specs.Desk.{Call, freshDesk, fileOf, after}
 use Rattle.shares.specs.Groups.{All, Small}
@@ -75,13 +75,13 @@ records-join access n k b o e r s =
 
 -- with room, bounds and sides
 
-abbrev Whole : Built → Type 0
+abbrev pub Whole : Built → Type 0
 Whole b = Sound b × Sides b × Records b
 
-abbrev Parting : ℕ → Built → Type 0
+abbrev pub Parting : ℕ → Built → Type 0
 Parting n b = Owed n b × Sides b × Records b × (1 ≤ n)
 
-whole-walks : Walks Whole Parting
+pub whole-walks : Walks Whole Parting
 unfolding alterAcc withAccs withQueues withTimers withStore say requeue leave finish cancel freed behind enter vacate Bounded
 whole-walks = record {
   mild = λ p f b m s. (sound-walks .mild p f b m (s .0), sides-walks .mild p f b m (s .1), s .2);
@@ -127,7 +127,7 @@ good-list words (r ∷ rs) h = (h .0 .0, good-list words rs (h .1))
 records-empty : (g : Geo) → GoodGeo g → All GoodRec (usedRecs g emptyStore)
 records-empty g k = all-unspent GoodRec g (good-sized g k) emptyStore (holds-empty g (good-sized g k)) (unfold emptyStore in refl) (unfold emptyStore All in tt)
 
-whole-starts : Starts Whole
+pub whole-starts : Starts Whole
 unfolding newFile loaded say
 whole-starts = record {
   built = λ g k. (sound-starts .built g k, sides-starts .built g k, records-empty g k);
@@ -139,9 +139,13 @@ whole-starts = record {
   );
 }
 
+pub whole-lapse : (e : ℕ) (b : Built) → Whole b → Whole (lapse e b)
+whole-lapse =
+    lapsed Whole Parting whole-walks
+    (λ e b s. ((bounds-lessen e b (s .0 .0), unfold lessen withTimers writers in s .0 .1), unfold lessen withTimers accAt in s .1, unfold lessen withTimers in s .2))
+
+pub whole-hushed : (b : Built) → Whole b → Whole (hushed b)
+whole-hushed b s = ((bounds-hushed b (s .0 .0), unfold hushed writers in s .0 .1), unfold hushed accAt in s .1, unfold hushed in s .2)
+
 pub records : (f : ℕ) (cs : List Call) → OnFile Records (fileOf (after freshDesk cs) f)
-records f cs =
-    on-file Whole Records (λ b s. s .2) (fileOf (after freshDesk cs) f)
-    (lifted Whole Parting whole-walks
-    (lapsed Whole Parting whole-walks (λ e b s. ((bounds-lessen e b (s .0 .0), unfold lessen withTimers writers in s .0 .1), unfold lessen withTimers accAt in s .1, unfold lessen withTimers in s .2))) whole-starts
-    (λ b s. ((bounds-hushed b (s .0 .0), unfold hushed writers in s .0 .1), unfold hushed accAt in s .1, unfold hushed in s .2)) f cs)
+records f cs = on-file Whole Records (λ b s. s .2) (fileOf (after freshDesk cs) f) (lifted Whole Parting whole-walks whole-lapse whole-starts whole-hushed f cs)

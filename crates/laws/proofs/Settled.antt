@@ -19,12 +19,12 @@ use Rattle.laws.proofs.Counts.{length-without}
 use Rattle.laws.proofs.Cases.{reader-cases, writer-cases, head-cases, atHead-some, turn-reader, turn-writer, turn-still}
 
 -- how many requests wait
-abbrev many : Built → ℕ
+abbrev pub many : Built → ℕ
 many b = length (b .rq) + length (b .wq)
 
 -- a turn that moves serves one of them
 
-abbrev Shrunk : Built → Turn → Type 0
+abbrev pub Shrunk : Built → Turn → Type 0
 Shrunk b m = m .moved ≡ true → many (m .file) < many b
 
 shrunk-still : (b c : Built) → Shrunk b (still c)
@@ -60,10 +60,10 @@ reader-empty p a q b e =
     (λ w k l r _ g. absurd (Option·some-ne-none r (sym g ∙ ap (λ (f : Found). f .got) (fetch-empty (b .geo) (a .typed) k (b .store) e))))
 
 -- what the first reader's turn leaves
-record Stays (l : List ℕ) (b c : Built) : Type 0 where
-  rq : c .rq ≡ b .rq
-  wq : c .wq ≡ b .wq
-  again : atHead serveReader l c ≡ still c
+pub record Stays (l : List ℕ) (b c : Built) : Type 0 where
+  pub rq : c .rq ≡ b .rq
+  pub wq : c .wq ≡ b .wq
+  pub again : atHead serveReader l c ≡ still c
 
 reader-stays : (p : ℕ) (l : List ℕ) (a : Acc) (b : Built) → accAt b p ≡ some a → serveReader p a (a .req) b .moved ≡ false → Stays (p ∷ l) b (serveReader p a (a .req) b .file)
 reader-stays p l a b e = reader-cases (λ m. m .moved ≡ false → Stays (p ∷ l) b (m .file)) p a (a .req) b
@@ -75,7 +75,7 @@ reader-stays p l a b e = reader-cases (λ m. m .moved ≡ false → Stays (p ∷
     })
     (λ w k n r _ _ m. absurd (true≢false (unfold onward in m)))
 
-reader-head : (l : List ℕ) (b : Built) → atHead serveReader l b .moved ≡ false → Stays l b (atHead serveReader l b .file)
+pub reader-head : (l : List ℕ) (b : Built) → atHead serveReader l b .moved ≡ false → Stays l b (atHead serveReader l b .file)
 reader-head l b =
     head-cases (λ m. m .moved ≡ false → Stays l b (m .file)) serveReader l b (λ s _. unfold still in record { rq = refl; wq = refl; again = s })
     (λ p rest a q e m. rw q (reader-stays p rest a b e m))
@@ -85,7 +85,7 @@ writer-head l b =
     head-cases (λ m. m .moved ≡ false → m ≡ still b) serveWriter l b (λ _ _. refl)
     (λ p rest a _ _. writer-cases (λ m. m .moved ≡ false → m ≡ still b) p a (a .req) b (λ _ _. refl) (λ _ _. refl) (λ w d _ _ m. absurd (true≢false (unfold onward in m))))
 
-shrunk-turn : (b : Built) → Shrunk b (turn b)
+pub shrunk-turn : (b : Built) → Shrunk b (turn b)
 shrunk-turn b = by-cases (m .moved) (λ e. rw (turn-reader b e) first) (λ e. rw (turn-writer b e) (second e))
   where
     m : Turn
@@ -117,7 +117,7 @@ turn-again b e = by-cases (m .moved) (λ k. absurd (true≢false (sym k ∙ ap (
 
 -- settling
 
-idle-turn : (b : Built) → many b ≤ 0 → turn b ≡ still b
+pub idle-turn : (b : Built) → many b ≤ 0 → turn b ≡ still b
 idle-turn b h = turn-still b (nobody serveReader (b .rq) (omega arith)) (nobody serveWriter (b .wq) (omega arith))
   where
     nobody : (serve : ℕ → Acc → Req → Built → Turn) (l : List ℕ) → length l ≤ 0 → atHead serve l b ≡ still b

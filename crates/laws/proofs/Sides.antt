@@ -35,8 +35,8 @@ sided-withReq q a h s = record { request = h (s .request); reader = s .reader; w
 
 fitting-ends : {st : ℕ} {r q : Req} (w : Bool) → Ends st r q → Fitting w r → Fitting w q
 unfolding Fitting
-fitting-ends w (readEnds h) f = f
-fitting-ends w writeEnds f = f
+fitting-ends w (readEnds h n) f = f
+fitting-ends w (writeEnds n) f = f
 
 -- all of them
 

@@ -2,10 +2,11 @@
 use mathlib.Core.Path.{_≡_, refl, sym}
 use mathlib.Core.Bool.{Bool, true, false}
 use mathlib.Core.List.{List, [], _∷_, nil≢cons}
-use Prim.Native.Nat.{ℕ, _+_, _-_, _≤_}
+use Prim.Native.Nat.{ℕ, _+_, _-_, _≤_, _<_}
 use native.Mathlib.Omega.{arith}
 use lib.Dec.{leb, eqb}
 use borrow.Author.Tests.{leb-false, eqb-false}
+use Rattle.rules.specs.Limits.{leastRefusal}
 use Rattle.rules.specs.State.{Req, Timer, Built}
 use Rattle.rules.specs.Requests.{withAccs, withQueues, withTimers, withStore, alterAcc, say, putRec, behind, without, withoutTimer, requeue, leave, finish, cancel, fail, arm, wait, freed}
 use Rattle.rules.specs.Reply.{hushed}
@@ -47,25 +48,26 @@ due-withoutTimer e p (t ∷ ts) =
     by-cases (eqb (t .place) p) (λ k. by-cases (leb (t .left) e) (λ l. rw (k, l, k) ih) (λ l. rw (k, l) ih)) (λ k. by-cases (leb (t .left) e) (λ l. rw (k, l, k, ih)) (λ l. rw (k, l) ih))
 
 -- only who waits has a timer, so a request that fails takes its timer away, and where none waits there was none
-timers-fail : (p st : ℕ) (b : Built) → Agree b → fail p st b .timers ≡ withoutTimer p (b .timers)
+timers-fail : (p st : ℕ) (b : Built) → Agree b → st < leastRefusal → fail p st b .timers ≡ withoutTimer p (b .timers)
 unfolding finish say leave withTimers
-timers-fail p st b s =
-    fail-cases (λ c. c .timers ≡ withoutTimer p (b .timers)) p st b (λ z. sym (withoutTimer-absent p (b .timers) (omega (arith, s p .times)))) (λ q a r _ _ _. refl)
+timers-fail p st b s n =
+    fail-cases (λ c. c .timers ≡ withoutTimer p (b .timers)) p st b (λ z. sym (withoutTimer-absent p (b .timers) (omega (arith, s p .times)))) (λ q a r _ _ _. refl) n
 
 -- when all that are due have failed, none is
-none-due : (e st : ℕ) (l : List ℕ) (b : Built) → Agree b → ((x : ℕ) → 1 ≤ count x (due e (b .timers)) → 1 ≤ count x l) → due e (failAll st l b .timers) ≡ []
+none-due : (e st : ℕ) (l : List ℕ) (b : Built) → Agree b → ((x : ℕ) → 1 ≤ count x (due e (b .timers)) → 1 ≤ count x l) → st < leastRefusal
+    → due e (failAll st l b .timers) ≡ []
 unfolding failAll count
-none-due e st [] b s h = nobody (due e (b .timers)) h
+none-due e st [] b s h z = nobody (due e (b .timers)) h
   where
     nobody : (m : List ℕ) → ((x : ℕ) → 1 ≤ count x m → 1 ≤ 0) → m ≡ []
     nobody [] h = refl
     nobody (x ∷ m) h = absurd (omega (arith, h x (count-head x m)))
-none-due e st (p ∷ l) b s h =
-    none-due e st l (fail p st b) (fails Agree (agree-walks .finishes) p st b s)
-    (λ x. rw (timers-fail p st b s, due-withoutTimer e p (b .timers))
+none-due e st (p ∷ l) b s h z =
+    none-due e st l (fail p st b) (fails Agree (agree-walks .finishes) p st b s z)
+    (λ x. rw (timers-fail p st b s z, due-withoutTimer e p (b .timers))
     (at-or-else (λ y. 1 ≤ count y (without p (due e (b .timers))) → 1 ≤ count y l) p x
     (λ k. absurd (omega (arith, count-without-same p (due e (b .timers)))))
-    (λ n k. omega (arith, bit-ne p x n, h x (omega (arith, count-without-other p x (due e (b .timers)) n))))))
+    (λ n k. omega (arith, bit-ne p x n, h x (omega (arith, count-without-other p x (due e (b .timers)) n)))))) z
 
 -- the timers of a file
 
@@ -107,8 +109,8 @@ ticking-lapse : (e : ℕ) (b : Built) → Timed b → Ticking (lapse e b)
 unfolding lapse lessen withTimers
 ticking-lapse e b s =
     let c = failAll 22 (due e (b .timers)) b in
-    let k : Timed c = fails-all Timed (timed-walks .finishes) 22 (due e (b .timers)) b s in
-    let h : Sorted (e + 1) (c .timers) = sorted-late e (c .timers) (none-due e 22 (due e (b .timers)) b (s .0) (λ x h. h)) (k .1) in
+    let k : Timed c = fails-all Timed (timed-walks .finishes) 22 (due e (b .timers)) b s (omega arith) in
+    let h : Sorted (e + 1) (c .timers) = sorted-late e (c .timers) (none-due e 22 (due e (b .timers)) b (s .0) (λ x h. h) (omega arith)) (k .1) in
     sorted-lower 1 (e + 1 - e) _ (omega arith) (sorted-minus e (e + 1) (c .timers) h)
 
 timed-lapse : (e : ℕ) (b : Built) → Timed b → Timed (lapse e b)

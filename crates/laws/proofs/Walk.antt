@@ -3,11 +3,12 @@ use mathlib.Core.Path.{_≡_, refl, _∙_}
 use mathlib.Core.Bool.{Bool, cond}
 use mathlib.Core.List.{List, [], _∷_, _++_}
 use mathlib.Core.Option.{some}
-use Prim.Native.Nat.{ℕ, zero, suc, _≤_}
+use Prim.Native.Nat.{ℕ, zero, suc, _≤_, _<_}
 use native.Mathlib.Omega.{arith}
 use lib.Dec.{eqb}
 use lib.ListN.{length, length-take}
 use Rattle.words.specs.Word.{word}
+use Rattle.rules.specs.Limits.{leastRefusal}
 use Rattle.rules.specs.State.{Rec, Req, idle, Acc, Built}
 use Rattle.rules.specs.Store.{Found}
 use Rattle.rules.specs.Requests.{writers, accAt, withStore, say, putRec, behind, fail}
@@ -21,31 +22,31 @@ pub behind-at : (p : ℕ) (f : Found) (b : Built) → accAt (behind f b) p ≡ a
 unfolding accAt behind say withStore
 behind-at p f b = refl
 
-put-at : (p : ℕ) (r : Rec) (b : Built) → accAt (putRec r b) p ≡ accAt b p
+pub put-at : (p : ℕ) (r : Rec) (b : Built) → accAt (putRec r b) p ≡ accAt b p
 unfolding accAt putRec say withStore
 put-at p r b = refl
 
-length-handed : (typed : Bool) (limit : ℕ) (r : Rec) → length (handed typed limit r) ≤ limit
+pub length-handed : (typed : Bool) (limit : ℕ) (r : Rec) → length (handed typed limit r) ≤ limit
 unfolding handed
 length-handed typed limit r = omega (arith, length-take limit (cond typed (word (r .typ) ++ word (r .wid) ++ r .body) (r .body)))
 
 -- requests that end with a status and bring nothing
 
 module _ (K : Built → Type 0) (ends : Finishes K) where
-  pub fails : (p st : ℕ) (b : Built) → K b → K (fail p st b)
-  fails p st b s = fail-cases K p st b (λ _. s) (λ q a r e i h. ends p st q a r b e i h s)
+  pub fails : (p st : ℕ) (b : Built) → K b → st < leastRefusal → K (fail p st b)
+  fails p st b s n = fail-cases K p st b (λ _. s) (λ q a r e i h. ends p st q a r b e i h s) n
 
-  pub fails-all : (st : ℕ) (l : List ℕ) (b : Built) → K b → K (failAll st l b)
+  pub fails-all : (st : ℕ) (l : List ℕ) (b : Built) → K b → st < leastRefusal → K (failAll st l b)
   unfolding failAll
-  fails-all st [] b s = s
-  fails-all st (p ∷ l) b s = fails-all st l (fail p st b) (fails p st b s)
+  fails-all st [] b s n = s
+  fails-all st (p ∷ l) b s n = fails-all st l (fail p st b) (fails p st b s n) n
 
   ends-readers : (l : List ℕ) (b : Built) → K b → K (endReaders l b)
   unfolding endReaders
   ends-readers [] b s = s
   ends-readers (p ∷ l) b s =
       opt K (accAt b p) (λ _. ends-readers l b s)
-      (λ a _. both K (a .extended) (λ _. ends-readers l b s) (λ _. ends-readers l (fail p 2 b) (fails p 2 b s)))
+      (λ a _. both K (a .extended) (λ _. ends-readers l b s) (λ _. ends-readers l (fail p 2 b) (fails p 2 b s (omega arith))))
 
   last-gone : (b : Built) → K b → K (lastGone b)
   unfolding lastGone
@@ -54,13 +55,13 @@ module _ (K : Built → Type 0) (ends : Finishes K) where
 -- time, for what holds of a settled file
 pub lapses-rest : (I R : Built → Type 0) → Settles I R → (e : ℕ) (b : Built) → R b → R (lapse e b)
 unfolding lapse
-lapses-rest I R st e b z = st .lessens e _ (fails-all R (λ p s q a r c _ _ _. st .finishes p s q c) 22 (due e (b .timers)) b z)
+lapses-rest I R st e b z = st .lessens e _ (fails-all R (λ p s q a r c _ _ _. st .finishes p s q c) 22 (due e (b .timers)) b z (omega arith))
 
 module _ (I : Built → Type 0) (J : ℕ → Built → Type 0) (w : Walks I J) where
   -- and for I, which calls keep
   pub lapsed : ((e : ℕ) (b : Built) → I b → I (lessen e b)) → (e : ℕ) (b : Built) → I b → I (lapse e b)
   unfolding lapse
-  lapsed h e b s = h e _ (fails-all I (w .finishes) 22 (due e (b .timers)) b s)
+  lapsed h e b s = h e _ (fails-all I (w .finishes) 22 (due e (b .timers)) b s (omega arith))
 
   -- settling
 
@@ -68,12 +69,12 @@ module _ (I : Built → Type 0) (J : ℕ → Built → Type 0) (w : Walks I J) w
   unfolding still onward readResult
   serves-reader p a b e s = reader-cases (λ m. I (m .file)) p a (a .req) b (λ _ _. s)
       (λ _ keep _ _ _. w .fetches (a .typed) keep b s)
-      (λ _ keep limit h r _. w .finishes p 0 _ a _ _ (behind-at p _ b ∙ e) r (readEnds (length-handed (a .typed) limit h)) (w .fetches (a .typed) keep b s))
+      (λ _ keep limit h r _. w .finishes p 0 _ a _ _ (behind-at p _ b ∙ e) r (readEnds (length-handed (a .typed) limit h) (omega arith)) (w .fetches (a .typed) keep b s))
 
   serves-writer : (p : ℕ) (a : Acc) (b : Built) → accAt b p ≡ some a → I b → I (serveWriter p a (a .req) b .file)
   unfolding still onward
   serves-writer p a b e s = writer-cases (λ m. I (m .file)) p a (a .req) b (λ _. s) (λ _. s)
-      (λ wd d r t. w .finishes p 0 _ a _ _ (put-at p _ b ∙ e) r writeEnds (w .serves p a wd d b e r t s))
+      (λ wd d r t. w .finishes p 0 _ a _ _ (put-at p _ b ∙ e) r (writeEnds (omega arith)) (w .serves p a wd d b e r t s))
 
   serves-head : (serve : ℕ → Acc → Req → Built → Turn) (l : List ℕ) (b : Built) → ((p : ℕ) (a : Acc) → accAt b p ≡ some a → I (serve p a (a .req) b .file)) → I b → I (atHead serve l b .file)
   unfolding still

@@ -1,7 +1,7 @@
--- What a request holds fits its accessor's record buffer, and a waiting write's data its record.
-use Prim.Native.Nat.{ℕ, _*_, _≤_}
+-- What a request holds fits its accessor's record buffer, and a waiting write's data its record; what it completed with is no refusal's number.
+use Prim.Native.Nat.{ℕ, _*_, _≤_, _<_}
 use lib.ListN.{length}
-use Rattle.rules.specs.Limits.{mostReadBytes}
+use Rattle.rules.specs.Limits.{mostReadBytes, leastRefusal}
 use Rattle.rules.specs.State.{Req, idle, reading, writing, readDone, writeDone, Built}
 use Rattle.laws.specs.Outstanding.{reqAt}
 
@@ -9,8 +9,8 @@ unfoldable pub Bounded : ℕ → Req → Type 0
 Bounded words idle = Unit {0}
 Bounded words (reading w l k) = l ≤ mostReadBytes
 Bounded words (writing w d) = length d ≤ 2 * words
-Bounded words (readDone st g d) = length d ≤ mostReadBytes
-Bounded words (writeDone st g) = Unit {0}
+Bounded words (readDone st g d) = (length d ≤ mostReadBytes) × (st < leastRefusal)
+Bounded words (writeDone st g) = st < leastRefusal
 
 abbrev pub Bounds : Built → Type 0
 Bounds b = (x : ℕ) → Bounded (b .geo .words) (reqAt (b .accs) x)

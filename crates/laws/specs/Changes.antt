@@ -3,9 +3,9 @@ use mathlib.Core.Path.{_≡_}
 use mathlib.Core.Bool.{Bool, true, false}
 use mathlib.Core.List.{List}
 use mathlib.Core.Option.{some}
-use Prim.Native.Nat.{ℕ, _*_, _≤_}
+use Prim.Native.Nat.{ℕ, _*_, _≤_, _<_}
 use lib.ListN.{length}
-use Rattle.rules.specs.Limits.{mostWords, mostFactor, shareWords, mostReadBytes, leastCapacity}
+use Rattle.rules.specs.Limits.{mostWords, mostFactor, shareWords, mostReadBytes, leastCapacity, leastRefusal}
 use Rattle.rules.specs.Geometry.{capacity, blockSize}
 use Rattle.rules.specs.State.{Rec, Req, idle, reading, writing, readDone, writeDone, Acc, Geo, Built}
 use Rattle.rules.specs.Store.{emptyStore, fetch}
@@ -40,10 +40,10 @@ pub record GoodSheet (s : Sheet) : Type 0 where
 unfoldable pub Mild : (Acc → Acc) → Type 0
 Mild f = (a : Acc) → (isWriter (f a) ≡ isWriter a) × (f a .ident ≡ a .ident) × (f a .share ≡ a .share) × (f a .req ≡ a .req)
 
--- a waiting request, and what it may complete as, with a status
+-- a waiting request, and what it may complete as, with a status, which is no refusal's number
 pub data Ends (st : ℕ) : Req → Req → Type 0 where
-  readEnds : {w k : Bool} {l g : ℕ} {d : List ℕ} → length d ≤ l → Ends st (reading w l k) (readDone st g d)
-  writeEnds : {w : Bool} {g : ℕ} {d : List ℕ} → Ends st (writing w d) (writeDone st g)
+  readEnds : {w k : Bool} {l g : ℕ} {d : List ℕ} → length d ≤ l → st < leastRefusal → Ends st (reading w l k) (readDone st g d)
+  writeEnds : {w : Bool} {g : ℕ} {d : List ℕ} → st < leastRefusal → Ends st (writing w d) (writeDone st g)
 
 -- what a waiting request that completes keeps
 abbrev pub Finishes : (Built → Type 0) → Type 0

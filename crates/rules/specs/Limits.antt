@@ -61,3 +61,7 @@ leastCapacity = 3
 
 abbrev pub mostType : ℕ
 mostType = 2
+
+-- the numbers of refusals begin here; what a request completes with, 0, 2 or 22, is below
+abbrev pub leastRefusal : ℕ
+leastRefusal = 29

@@ -6,7 +6,7 @@ use mathlib.Core.List.{List, [], _∷_, _++_, map}
 use lib.Dec.{ltb, eqb}
 use lib.ListN.{length, getD}
 use Rattle.tally.specs.Count.{bit, count, total}
-use Rattle.rules.specs.Limits.{files, places, entries, mostReadBytes}
+use Rattle.rules.specs.Limits.{files, places, entries, mostReadBytes, leastRefusal}
 use Rattle.segment.specs.Layout.{listCount, dataAt, freeList, readQueue, writeQueue, replyPort, timerList}
 use Rattle.ports.specs.Lists.{Chain}
 use Rattle.sound.specs.Rows.{fileWord, sideAt, zeroWords}
@@ -41,6 +41,7 @@ pub record PortEntry (s bufs : List ℕ) (i e : ℕ) : Type 0 where
   pub place : placeIn s e ≡ i
   pub side : 1 ≤ sideAt s i
   pub middle : zeroWords s (dataAt e + 1) 3 ≡ true
+  pub status : entryWord s e 4 < leastRefusal
   pub size : sizeIn s e ≤ cond (eqb (sideAt s i) 1) mostReadBytes 0
   pub rest : zeroWords s (dataAt e + 7) 2 ≡ true
   pub buffer : restZero bufs i (sizeIn s e) ≡ true

@@ -4,7 +4,7 @@ use mathlib.Core.Bool.{Bool, true, false, cond, _&&_}
 use mathlib.Core.List.{List, [], _∷_}
 use lib.Dec.{ltb, leb, eqb}
 use lib.ListN.{getD, set, replicate}
-use Rattle.rules.specs.Limits.{files, places, entries, bufferBytes, mostReadBytes}
+use Rattle.rules.specs.Limits.{files, places, entries, bufferBytes, mostReadBytes, leastRefusal}
 use Rattle.segment.specs.Layout.{nil, linkAt, dataAt, dataWords, freeList, readQueue, writeQueue, replyPort, timerList}
 use Rattle.segment.specs.Table.{nth}
 use Rattle.words.specs.Word.{quiet}
@@ -63,13 +63,14 @@ writeEntry s bufs busy f e =
     && zeroWords s (dataAt e + 7) 2
     && restZero bufs (placeIn s e) (sizeIn s e)
 
--- a completed request of place i: place, status, log, for a read the size, and zeros
+-- a completed request of place i: place, status, which is no refusal's number, log, for a read the size, and zeros
 unfoldable pub portEntry : List ℕ → List ℕ → List ℕ → ℕ → ℕ → Bool
 portEntry s bufs busy i e =
     eqb (placeIn s e) i
     && eqb (getD busy i 0) 0
     && leb 1 (sideAt s i)
     && zeroWords s (dataAt e + 1) 3
+    && ltb (entryWord s e 4) leastRefusal
     && leb (sizeIn s e) (cond (eqb (sideAt s i) 1) mostReadBytes 0)
     && zeroWords s (dataAt e + 7) 2
     && restZero bufs i (sizeIn s e)

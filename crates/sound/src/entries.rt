@@ -21,6 +21,9 @@ ghost use Rattle.sound.specs.Walks.{restZero, freeEntry, readEntry, writ
 
 const MOST_READ_BYTES: u16 = 260;
 
+// A completed request's status is below the numbers of refusals.
+const LEAST_REFUSAL: u16 = 29;
+
 // The words of an entry's data, and how many of them are zero: of a read behind its keep, of a write between its unit and its size,
 // of a completed request before its status, and behind the size of both, and of a timer between its place and its seconds.
 const DATA_WORDS: usize = 9;
@@ -158,6 +161,9 @@ pub fn port_entry(s: &[u8], buffers: &[u8], busy: &[u8; 64], i: usize, e: usize)
         return false;
     }
     if !zero_words(s, at + layout::ENTRY_UNIT, PORT_MIDDLE) {
+        return false;
+    }
+    if segment::get(s, at + layout::ENTRY_STATUS) >= LEAST_REFUSAL {
         return false;
     }
     let size = segment::get(s, at + layout::ENTRY_SIZE);

@@ -11,7 +11,7 @@ use Rattle.words.specs.Word.{zeros}
 use Rattle.words.proofs.Runs.{length-zeros}
 use Rattle.tally.specs.Count.{bit}
 use Rattle.tally.proofs.Counts.{bit-le}
-use Rattle.rules.specs.Limits.{files, places, mostWords, bufferBytes, mostReadBytes}
+use Rattle.rules.specs.Limits.{files, places, mostWords, bufferBytes, mostReadBytes, leastRefusal}
 use Rattle.rules.specs.State.{Req, idle, reading, writing, readDone, writeDone, Acc, Timer}
 use Rattle.rules.specs.Memories.{lies, buffer}
 use Rattle.segment.specs.Layout.{dataAt, dataWords}
@@ -72,7 +72,7 @@ unfolding Bounded lies
 lies-short n idle h b = omega arith
 lies-short n (reading w l k) h b = omega arith
 lies-short n (writing w d) h b = omega arith
-lies-short n (readDone st g d) h b = b
+lies-short n (readDone st g d) h b = b .0
 lies-short n (writeDone st g) h b = omega arith
 
 pub buffer-size : (o : Option Acc) → length (lies (reqOf o)) ≤ bufferBytes → length (buffer o) ≡ bufferBytes
@@ -133,9 +133,9 @@ module _ (s bufs : List ℕ) (size : length bufs ≡ places * bufferBytes * file
         pl,
       )
 
-  pub read-done : (st log : ℕ) (d : List ℕ) → a .req ≡ readDone st log d → length d ≤ mostReadBytes → PortEntry s bufs i e
+  pub read-done : (st log : ℕ) (d : List ℕ) → a .req ≡ readDone st log d → length d ≤ mostReadBytes → st < leastRefusal → PortEntry s bufs i e
   unfolding reqWords Fitting lies
-  read-done st log d u b =
+  read-done st log d u b n =
       let q : dataOf s e ≡ i ∷ 0 ∷ 0 ∷ 0 ∷ st ∷ log ∷ length d ∷ 0 ∷ 0 ∷ [] = holds ∙ ap (reqWords i) u in
       let pl : placeIn s e ≡ i = place-in s e _ q in
       let sz : sizeIn s e ≡ length d = size-in s e _ q in
@@ -144,14 +144,15 @@ module _ (s bufs : List ℕ) (size : length bufs ≡ places * bufferBytes * file
         place = pl;
         side = omega (arith, sd);
         middle = zeros-in s e _ q 1 3 (omega arith) refl;
+        status = omega (arith, word-in s e _ q 4 (omega arith));
         size = rw (sd, sz) b;
         rest = zeros-in s e _ q 7 2 (omega arith) refl;
         buffer = rw sz (rw u at (rest (rw u b)));
       }
 
-  pub write-done : (st log : ℕ) → a .req ≡ writeDone st log → PortEntry s bufs i e
+  pub write-done : (st log : ℕ) → a .req ≡ writeDone st log → st < leastRefusal → PortEntry s bufs i e
   unfolding reqWords Fitting lies
-  write-done st log u =
+  write-done st log u n =
       let q : dataOf s e ≡ i ∷ 0 ∷ 0 ∷ 0 ∷ st ∷ log ∷ 0 ∷ 0 ∷ 0 ∷ [] = holds ∙ ap (reqWords i) u in
       let pl : placeIn s e ≡ i = place-in s e _ q in
       let sz : sizeIn s e ≡ 0 = size-in s e _ q in
@@ -160,6 +161,7 @@ module _ (s bufs : List ℕ) (size : length bufs ≡ places * bufferBytes * file
         place = pl;
         side = omega (arith, sd);
         middle = zeros-in s e _ q 1 3 (omega arith) refl;
+        status = omega (arith, word-in s e _ q 4 (omega arith));
         size = rw (sd, sz) (omega arith);
         rest = zeros-in s e _ q 7 2 (omega arith) refl;
         buffer = rw sz (rw u at (rest (rw u (omega arith))));

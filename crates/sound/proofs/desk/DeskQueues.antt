@@ -158,11 +158,12 @@ module _ (s blocks bufs : List ℕ) (a : Alloc) (f : ℕ) where
               let o : outstanding (readDone st g d) ≡ 1 = refl in
               read-done s bufs (F .size) (places * f + p) e (small (readDone st g d) u o) (busy (readDone st g d) u o .acc) (sided (readDone st g d) u o)
               (rowed (readDone st g d) u o) (body (readDone st g d) u o) (words (readDone st g d) u o) st g d (busy (readDone st g d) u o .req)
-              (bound (readDone st g d) u o)
+              (bound (readDone st g d) u o .0) (bound (readDone st g d) u o .1)
           go (writeDone st g) u h =
               let o : outstanding (writeDone st g) ≡ 1 = refl in
               write-done s bufs (F .size) (places * f + p) e (small (writeDone st g) u o) (busy (writeDone st g) u o .acc) (sided (writeDone st g) u o)
               (rowed (writeDone st g) u o) (body (writeDone st g) u o) (words (writeDone st g) u o) st g (busy (writeDone st g) u o .req)
+              (bound (writeDone st g) u o)
           go idle u h = absurd (omega arith)
           go (reading w l k) u h = absurd (omega arith)
           go (writing w d) u h = absurd (omega arith)

@@ -97,8 +97,8 @@ module _ (s bufs : List ℕ) (ls : List (List ℕ)) (i : ℕ) where
     bounded _ (idles e f g) = tt
     bounded _ (reads e f g r p) = r .limit
     bounded _ (writes e f g r p) = omega (arith, took (sizeIn s mine) (write-size r p .1), write-size r p .0)
-    bounded _ (readsDone e f g l r d) = omega (arith, took (sizeIn s mine) (read-size r d), read-size r d)
-    bounded _ (writesDone e f g l r d) = tt
+    bounded _ (readsDone e f g l r d) = (omega (arith, took (sizeIn s mine) (read-size r d), read-size r d), r .status)
+    bounded _ (writesDone e f g l r d) = r .status
 
     -- the record buffer
 

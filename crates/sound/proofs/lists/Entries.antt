@@ -6,7 +6,7 @@ use mathlib.Core.List.{List}
 use borrow.Author.Tests.{ltb-true, lt-ltb, leb-true, le-leb, eqb-true, eq-eqb}
 use lib.Dec.{eqb}
 use lib.ListN.{getD}
-use Rattle.rules.specs.Limits.{files, places, mostReadBytes}
+use Rattle.rules.specs.Limits.{files, places, mostReadBytes, leastRefusal}
 use Rattle.rules.proofs.Split.{and-true, true-and}
 use Rattle.sound.specs.Rows.{fileWord, sideAt}
 use Rattle.sound.specs.Walks.{entryWord, placeIn, sizeIn, readEntry, writeEntry, portEntry, timerEntry}
@@ -96,6 +96,7 @@ module _ (s bufs busy : List ℕ) (i e : ℕ) where
   pub port-true : portEntry s bufs busy i e ≡ true → PortEntry s bufs i e × (getD busy i 0 ≡ 0)
   unfolding portEntry
   port-true h =
+      let (h, t8) = and-true _ _ h in
       let (h, t7) = and-true _ _ h in
       let (h, t6) = and-true _ _ h in
       let (h, t5) = and-true _ _ h in
@@ -106,9 +107,10 @@ module _ (s bufs busy : List ℕ) (i e : ℕ) where
           place = eqb-true (placeIn s e) i t1;
           side = leb-true 1 (sideAt s i) t3;
           middle = t4;
-          size = leb-true (sizeIn s e) (cond (eqb (sideAt s i) 1) mostReadBytes 0) t5;
-          rest = t6;
-          buffer = t7;
+          status = ltb-true (entryWord s e 4) leastRefusal t5;
+          size = leb-true (sizeIn s e) (cond (eqb (sideAt s i) 1) mostReadBytes 0) t6;
+          rest = t7;
+          buffer = t8;
         },
         eqb-true (getD busy i 0) 0 t2,
       )
@@ -120,6 +122,7 @@ module _ (s bufs busy : List ℕ) (i e : ℕ) where
       & eq-eqb (getD busy i 0) 0 b
       & le-leb 1 (sideAt s i) (r .side)
       & r .middle
+      & lt-ltb (entryWord s e 4) leastRefusal (r .status)
       & le-leb (sizeIn s e) (cond (eqb (sideAt s i) 1) mostReadBytes 0) (r .size)
       & r .rest
       & r .buffer

@@ -7,6 +7,7 @@ use super::file::MessageFile;
 use super::limits::{BUFFER_BYTES, ENTRIES};
 use super::record::Record;
 use super::request::{Progress, Want};
+use super::status::LEAST_REFUSAL;
 use super::word::word_at;
 use std::collections::VecDeque;
 
@@ -125,12 +126,15 @@ fn check_share(f: &MessageFile) {
     assert!(rest.iter().all(|b| *b == 0), "the share's rest is not zero");
 }
 
-/// Same share, allowed numbers of each side, different writer's IDs, buffers in bounds.
+/// Same share, allowed numbers of each side, different writer's IDs, buffers and statuses in bounds.
 fn check_accessors(f: &MessageFile) {
     let open: Vec<&Accessor> = f.accessors.iter().flatten().collect();
     for a in &open {
         assert!(Some(a.share) == f.share_in_force(), "two shares together");
         assert!(a.in_buffer().len() <= BUFFER_BYTES, "a buffer overflows");
+        if let Some(Progress::Completed { status, .. }) = a.request.as_ref().map(|r| &r.progress) {
+            assert!(*status < LEAST_REFUSAL, "a request completed as if it were refused");
+        }
         let twins = open.iter().filter(|b| b.is_writer() && b.writer_id == a.writer_id).count();
         assert!(!a.is_writer() || twins == 1, "two writers hold one ID");
         assert!(a.share != 1 || (f.writers() <= 1 && f.readers() <= 1), "share 1 broken");

@@ -5,6 +5,8 @@ pub const WAITING: u8 = 1;
 pub const END_OF_FILE: u8 = 2;
 pub const TIMED_OUT: u8 = 22;
 
+/// The numbers of refusals begin here; this one, of memories, is none of the model's.
+pub const LEAST_REFUSAL: u8 = 29;
 pub const NOT_A_FRAME: u8 = 30;
 pub const NO_FILE: u8 = 31;
 pub const NOT_OPEN: u8 = 32;

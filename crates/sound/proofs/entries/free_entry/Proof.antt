@@ -6,19 +6,19 @@ use Rattle.sound.proofs.entries.free_entry.Reads as reads
 use Rattle.sound.proofs.entries.free_entry.Lts as lts
 use Rattle.sound.proofs.rows.zero_words.Reads as zero-words-reads
 
--- src/entries.rt:53:29
+-- src/entries.rt:56:29
 mul-at : tie.Need-mul-at
 mul-at c = search needs
 
--- src/entries.rt:53:14
+-- src/entries.rt:56:14
 add-at : tie.Need-add-at
 add-at c = search needs
 
--- src/entries.rt:54:5
+-- src/entries.rt:57:5
 zero-words-requires : tie.Need-zero-words-requires
 zero-words-requires c κs = search needs
 
--- src/entries.rt:49:1
+-- src/entries.rt:52:1
 returns : tie.Need-returns
 unfolding freeEntry
 returns c = c .zero-words .ensures

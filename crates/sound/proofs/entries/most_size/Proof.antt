@@ -4,11 +4,11 @@ use Rattle.sound.proofs.entries.most_size.Tie as tie
 use Rattle.sound.proofs.entries.most_size.Reads as reads
 use Rattle.sound.proofs.entries.most_size.Lts as lts
 
--- src/entries.rt:139:1
+-- src/entries.rt:142:1
 returns : tie.Need-returns
 returns c = rw (eq-eqb _ _ (c .if1 .taken))
 
--- src/entries.rt:139:1
+-- src/entries.rt:142:1
 returns-2 : tie.Need-returns-2
 returns-2 c = rw (ne-eqb _ _ (c .if1 .left))
 

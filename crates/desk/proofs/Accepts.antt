@@ -1,0 +1,79 @@
+-- What a frame asks of a file, and what is known of a call that no desk refuses.
+use Prim.Native.Nat.{ℕ, _≤_, _<_}
+use mathlib.Core.Path.{_≡_, refl, sym, ap, _∙_, subst}
+use mathlib.Core.List.{List, []}
+use mathlib.Core.Logic.{_⊎_, inl, inr}
+use native.Mathlib.Omega.{arith}
+use lib.ListN.{length, drop}
+use lib.Seq.{sets}
+use Rattle.kinds.specs.declared.Answer.{Answer}
+use Rattle.kinds.specs.declared.Event.{Event}
+use Rattle.kinds.specs.declared.Frame.{Frame}
+use Rattle.kinds.specs.declared.Frame.the-variants as frame
+use Rattle.rules.specs.Limits.{files, bufferBytes}
+use Rattle.rules.specs.State.{Built, File, unbuilt, built}
+use Rattle.rules.specs.Answers.{answerBytes}
+use Rattle.rules.specs.Reply.{Reply, answers, Out}
+use Rattle.rules.specs.Frames.{frameOf}
+use Rattle.rules.specs.Calls.{Ask, ask}
+use Rattle.rules.specs.Desk.{Desk, Call, event, Asked, on, asked, frameAsks, fileOf, Responded, answered, respond}
+use Rattle.rules.specs.Allocation.{Alloc}
+use Rattle.laws.specs.Runs.{Proper}
+use Rattle.memory.specs.Fine.{StandsFor}
+use Rattle.midst.specs.Outcome.{refusalOf, Outcome, Done, Gave}
+use Rattle.midst.specs.Outcome as outcome
+use Rattle.midst.proofs.Accepted.{accepted-file}
+use Rattle.desk.specs.Answered.{Acted, Four}
+use Rattle.desk.proofs.Stayed.{Built′, stays-built, respond-is, outcome-stays}
+
+module _ (fr : List ℕ) (e : Event) (q : Ask) (f : ℕ) (said : frameOf fr ≡ frame.Event e) (is : frameAsks (frame.Event e) (drop 5 fr) ≡ on f q) where
+  pub asked-is : asked (event fr) ≡ on f q
+  unfolding asked
+  asked-is = ap (λ (z : Frame). frameAsks z (drop 5 fr)) said ∙ is
+
+  answered-is : (d : Desk) → respond d (event fr) ≡ answered d (on f q)
+  unfolding respond
+  answered-is d = ap (answered d) asked-is
+
+  module _ {xs blocks buffers : List ℕ} (never : (d : Desk) (s : Alloc) → StandsFor xs blocks buffers d s → refusalOf (respond d (event fr) .reply) ≡ 0) where
+    pub accepts : outcome.Accepted f q xs blocks buffers
+    accepts d s S = ap (λ (r : Responded). refusalOf (r .reply)) (sym (answered-is d)) ∙ never d s S
+
+    module _ (d : Desk) (s : Alloc) (S : StandsFor xs blocks buffers d s) where
+      pub file-low : f < files
+      file-low = accepted-file d f q (accepts d s S)
+
+      reply-is : respond d (event fr) .reply ≡ ask (fileOf d f) q .reply
+      reply-is = ap (λ (r : Responded). r .reply) (respond-is d s (event fr) f q asked-is file-low)
+
+      -- answered with nothing behind
+      pub acted : (memory xs′ blocks′ buffers′ : List ℕ) (a : Answer) → Built′ (ask (fileOf d f) q) → Done f d s (ask (fileOf d f) q) blocks buffers xs′ blocks′ buffers′ a
+          → Acted d s (event fr) blocks buffers memory xs′ blocks′ buffers′ memory a 0
+      acted memory xs′ blocks′ buffers′ a B D = record {
+        stays = outcome-stays S (event fr) f q asked-is file-low B (D .outcome);
+        bytes = [];
+        reply = reply-is ∙ D .reply;
+        size = refl;
+        most = omega arith;
+        behind = refl;
+        four = inl refl;
+      }
+
+      -- answered with a record's data
+      pub acted-data : (memory xs′ blocks′ buffers′ memory′ : List ℕ) (a : Answer) (n : ℕ) → Built′ (ask (fileOf d f) q) → Four (ask (fileOf d f) q .reply)
+          → Gave f d s (ask (fileOf d f) q) blocks buffers memory xs′ blocks′ buffers′ memory′ a n → Acted d s (event fr) blocks buffers memory xs′ blocks′ buffers′ memory′ a n
+      unfolding Four
+      acted-data memory xs′ blocks′ buffers′ memory′ a n B F G = record {
+        stays = outcome-stays S (event fr) f q asked-is file-low B (G .outcome);
+        bytes = G .bytes;
+        reply = reply-is ∙ G .reply;
+        size = G .size;
+        most = G .most;
+        behind = G .behind;
+        four = subst Four (G .reply) F;
+      }
+
+-- a file that is built stays so
+pub built-stays : (d : Desk) (f : ℕ) (q : Ask) (b : Built) → Proper q → fileOf d f ≡ built b → Built′ (ask (fileOf d f) q)
+unfolding ask
+built-stays d f q b k e = rw (e, ask) (stays-built b q k)

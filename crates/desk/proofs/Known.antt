@@ -1,0 +1,127 @@
+-- Of each accepted event: the file is built behind it, and where a record's data follow the answer has four bytes.
+use Prim.Native.Nat.{ℕ, _<_}
+use mathlib.Core.Path.{_≡_, refl, sym, ap, _∙_, subst}
+use mathlib.Core.Bool.{true, false}
+use mathlib.Core.List.{List, []}
+use mathlib.Core.Logic.{inl, inr}
+use mathlib.Core.Option.{Option, none, some}
+use lib.Dec.{eqb}
+use lib.ListN.{length, set}
+use Rattle.kinds.specs.declared.Answer.{Answer}
+use Rattle.kinds.specs.declared.Control.{Control}
+use Rattle.rules.specs.Limits.{files}
+use Rattle.rules.specs.State.{Hap, Req, idle, reading, writing, readDone, writeDone, Acc, Built, unbuilt, built}
+use Rattle.rules.specs.Store.{fetch}
+use Rattle.rules.specs.Count.{countBytes}
+use Rattle.rules.specs.Requests.{writers}
+use Rattle.rules.specs.Answers.{answerBytes}
+use Rattle.rules.specs.Reply.{answers, Out, hushed, leaves, done, status}
+use Rattle.rules.specs.Transfer.{mayWait, readOn, collected, collect}
+use Rattle.rules.specs.Calls.{Ask, ask}
+use Rattle.rules.specs.Calls as calls
+use Rattle.rules.specs.Look as looking
+use Rattle.rules.specs.Desk.{Desk, on, fileOf, answered}
+use Rattle.rules.specs.Allocation.{Alloc, allotAll}
+use Rattle.rules.proofs.Split.{both, opt}
+use Rattle.laws.specs.Runs.{OnFile, Proper}
+use Rattle.laws.specs.Entries.{Calm}
+use lib.Seq.{set-getD}
+use Rattle.memory.specs.Fine.{StandsFor}
+use Rattle.midst.specs.Mid.{Apart}
+use Rattle.midst.specs.Outcome.{refusalOf, Outcome, Done}
+use Rattle.midst.proofs.Accepted.{accepted-build, accepted-open, accepted-read, accepted-write, accepted-control, accepted-collect, accepted-close, accepted-counts}
+use Rattle.desk.specs.Answered.{Four}
+use Rattle.desk.proofs.Stayed.{Built′}
+use Rattle.desk.proofs.Accepts.{built-stays}
+
+-- the file is built
+
+module _ (d : Desk) (f : ℕ) where
+  pub built-build : (r b n x : ℕ) → refusalOf (answered d (on f (calls.build r b n x)) .reply) ≡ 0 → Built′ (ask (fileOf d f) (calls.build r b n x))
+  unfolding done leaves
+  built-build r b n x e = let k = accepted-build d f r b n x e .known .out in record { file = _; is = ap (λ (o : Out). o .file) k }
+
+  pub built-open : (a s m : ℕ) → refusalOf (answered d (on f (calls.opens a s m)) .reply) ≡ 0 → Built′ (ask (fileOf d f) (calls.opens a s m))
+  unfolding Proper
+  built-open a s m e = let k = accepted-open d f a s m e in built-stays d f _ (k .b) tt (k .stands)
+
+  pub built-read : (p n : ℕ) → refusalOf (answered d (on f (calls.read p n)) .reply) ≡ 0 → Built′ (ask (fileOf d f) (calls.read p n))
+  unfolding Proper
+  built-read p n e = let k = accepted-read d f p n e in built-stays d f _ (k .b) tt (k .stands)
+
+  pub built-write : (p n : ℕ) (t : List ℕ) → length t ≡ countBytes n → refusalOf (answered d (on f (calls.write p n t)) .reply) ≡ 0 → Built′ (ask (fileOf d f) (calls.write p n t))
+  unfolding Proper
+  built-write p n t l e = let k = accepted-write d f p n t e in built-stays d f _ (k .b) l (k .stands)
+
+  pub built-control : (p : ℕ) (c : Option Control) → refusalOf (answered d (on f (calls.control p c)) .reply) ≡ 0 → Built′ (ask (fileOf d f) (calls.control p c))
+  unfolding Proper
+  built-control p c e = let k = accepted-control d f p c e in built-stays d f _ (k .b) tt (k .stands)
+
+  pub built-collect : (p : ℕ) → refusalOf (answered d (on f (calls.collect p)) .reply) ≡ 0 → Built′ (ask (fileOf d f) (calls.collect p))
+  unfolding Proper
+  built-collect p e = let k = accepted-collect d f p e in built-stays d f _ (k .b) tt (k .stands)
+
+  pub built-close : (p : ℕ) → refusalOf (answered d (on f (calls.close p)) .reply) ≡ 0 → Built′ (ask (fileOf d f) (calls.close p))
+  unfolding Proper
+  built-close p e = let k = accepted-close d f p e in built-stays d f _ (k .b) tt (k .stands)
+
+  pub built-counts : refusalOf (answered d (on f calls.counts) .reply) ≡ 0 → Built′ (ask (fileOf d f) calls.counts)
+  unfolding Proper
+  built-counts e = let k = accepted-counts d f e in built-stays d f _ (k .b) tt (k .stands)
+
+-- where the data begin
+
+four-status : (op st : ℕ) (b : Built) → Four (status op st b .reply)
+unfolding Four status done leaves
+four-status op st b = inl refl
+
+four-on : (p : ℕ) (a : Acc) (n : ℕ) (b : Built) → Four (readOn p a n b .reply)
+unfolding readOn
+four-on p a n b =
+    opt (λ (o : Out). Four (o .reply)) (fetch (b .geo) (a .typed) (a .keep) (b .store) .got)
+    (λ _. both (λ (o : Out). Four (o .reply)) (mayWait (writers b) a) (λ _. four-status 3 1 _) (λ _. four-status 3 2 _))
+    (λ r _. unfold Four leaves answerBytes in inr refl)
+
+four-collected : (st log : ℕ) (d : List ℕ) (p : ℕ) (b : Built) → Four (collected st log d p b .reply)
+unfolding collected
+four-collected st log d p b = both (λ (o : Out). Four (o .reply)) (eqb st 0) (λ _. unfold Four leaves answerBytes in inr refl) (λ _. four-status 6 st _)
+
+four-collects : (p : ℕ) (q : Req) (b : Built) → Four (collect p q b .reply)
+unfolding collect
+four-collects p idle b = four-status 6 39 b
+four-collects p (reading w l k) b = four-status 6 1 b
+four-collects p (writing w d) b = four-status 6 1 b
+four-collects p (readDone st log d) b = four-collected st log d p b
+four-collects p (writeDone st log) b = four-collected st log [] p b
+
+pub four-read : (d : Desk) (f p n : ℕ) → refusalOf (answered d (on f (calls.read p n)) .reply) ≡ 0 → Four (ask (fileOf d f) (calls.read p n) .reply)
+four-read d f p n e = let k = accepted-read d f p n e .known in subst (λ (o : Out). Four (o .reply)) (sym (k .out)) (four-on p (k .a) n _)
+
+pub four-collect : (d : Desk) (f p : ℕ) → refusalOf (answered d (on f (calls.collect p)) .reply) ≡ 0 → Four (ask (fileOf d f) (calls.collect p) .reply)
+four-collect d f p e = let k = accepted-collect d f p e .known in subst (λ (o : Out). Four (o .reply)) (sym (k .out)) (four-collects p (k .a .req) _)
+
+-- counts changes nothing
+
+hushed-same : (b : Built) → b .past ≡ [] → hushed b ≡ b
+unfolding hushed
+hushed-same b e = ap {B = Built} (λ (l : List Hap). record { geo = b .geo; store = b .store; accs = b .accs; rq = b .rq; wq = b .wq; timers = b .timers; past = l }) (sym e)
+
+pub counts-done : {xs blocks buffers : List ℕ} {d : Desk} {s : Alloc} → StandsFor xs blocks buffers d s → (f : ℕ) (r : Answer) → f < files → (b : Built) → fileOf d f ≡ built b
+    → looking.counts b ≡ done r b → Done f d s (ask (fileOf d f) calls.counts) blocks buffers xs blocks buffers r
+unfolding ask calls.askBuilt
+counts-done {xs} {blocks} {buffers} {d} {s} S f r hf b e q = rw (e, ask) (subst (λ (o : Out). Done f d s o blocks buffers xs blocks buffers r) (sym q) same)
+  where
+    calm : b .past ≡ []
+    calm = unfold OnFile in (rw e at (S .agreed .calm f hf))
+
+    file-same : set d f (built (hushed b)) ≡ d
+    file-same = ap (λ (c : Built). set d f (built c)) (hushed-same b calm) ∙ ap (set d f) (sym e) ∙ (unfold fileOf in set-getD d f unbuilt)
+
+    same : Done f d s (done r b) blocks buffers xs blocks buffers r
+    same = unfold done leaves allotAll in record {
+      outcome = record {
+        stands = rw (file-same, calm, allotAll) (S .stands);
+        apart = record { shares = λ g h k. refl; others = λ g h k. refl };
+      };
+      reply = refl;
+    }

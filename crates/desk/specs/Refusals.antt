@@ -1,0 +1,36 @@
+-- How a refused call is answered: operation and status.
+use Prim.Native.Nat.{ℕ}
+use mathlib.Core.Path.{_≡_}
+use mathlib.Core.List.{List, [], _∷_}
+use mathlib.Core.Option.{none}
+use lib.Seq.{sets}
+use Rattle.kinds.specs.declared.Event.{Event}
+use Rattle.kinds.specs.declared.Event.the-variants.{Build, Open, Read, Write, Control, Collect, Close, Time, Counts}
+use Rattle.kinds.specs.declared.Frame.{Frame}
+use Rattle.kinds.specs.declared.Frame.the-variants as frame
+use Rattle.rules.specs.Calls.{control}
+use Rattle.rules.specs.Desk.{on}
+use Rattle.judges.specs.Refused.{Refuses}
+
+-- the operation of an event, which its answer repeats
+unfoldable pub operationOf : Event → ℕ
+operationOf (Build f r b n x) = 1
+operationOf (Open f a s m) = 2
+operationOf (Read f p n) = 3
+operationOf (Write f p n) = 4
+operationOf (Control f p c) = 5
+operationOf (Collect f p) = 6
+operationOf (Close f p) = 7
+operationOf (Time e) = 8
+operationOf (Counts f) = 9
+
+-- two bytes are written
+pub record Twice (operation number : ℕ) (memory memory′ : List ℕ) (n : ℕ) : Type 0 where
+  pub bytes : memory′ ≡ sets memory 0 (operation ∷ number ∷ [])
+  pub size : n ≡ 2
+
+-- what is answered to a frame that is no event: a code that is no control has its refusal, any other 30
+unfoldable pub Refusal : List ℕ → Frame → List ℕ → List ℕ → ℕ → Type 0
+Refusal xs (frame.Event e) memory memory′ n = Twice 0 30 memory memory′ n
+Refusal xs (frame.Code f p) memory memory′ n = (number : ℕ) × Refuses xs (on f (control p none)) number × Twice 5 number memory memory′ n
+Refusal xs frame.Shape memory memory′ n = Twice 0 30 memory memory′ n

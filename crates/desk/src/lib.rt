@@ -1,0 +1,2 @@
+// One event.
+mod refusals;

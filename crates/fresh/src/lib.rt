@@ -1,0 +1,79 @@
+// "One call makes a fresh desk: no file built, blocks and buffers zero, the free list in order of entry number."
+ghost use mathlib.Core.Path.{_≡_};
+ghost use Prim.Native.Nat.{_<_};
+ghost use lib.ListN.{length};
+ghost use Rattle.segment.specs.Layout.{segmentWords, segmentBytes};
+ghost use Rattle.memory.specs.Fresh.{freshLink, freshWord, freshSegment};
+ghost use Rattle.fresh.specs.Made.{made};
+use kinds::limits;
+use segment::layout;
+
+const SEGMENT_WORDS: usize = layout::SEGMENT_BYTES / 2;
+
+const BLOCKS_BYTES: usize = limits::FILES * limits::SHARE_BYTES;
+
+const BUFFERS_BYTES: usize = limits::FILES * limits::PLACES * limits::BUFFER_BYTES;
+
+// Where entry e's link leads.
+fn fresh_link(e: u16) -> u16
+    requires { ⌜ e < 128 ⌝ }
+    ensures { λ r. ⌜ r ≡ freshLink e ⌝ }
+{
+    if e + 1 < layout::ENTRIES {
+        return e + 1;
+    }
+    layout::NIL
+}
+
+// Word k of a fresh segment.
+fn fresh_word(k: usize) -> u16
+    requires { ⌜ k < segmentWords ⌝ }
+    ensures { λ r. ⌜ r ≡ freshWord k ⌝ }
+{
+    if k < 1 {
+        return 0;
+    }
+    if k < layout::LINKS {
+        return layout::NIL;
+    }
+    if k < layout::FILE_ROWS {
+        let i = k - layout::LINKS;
+        if i % layout::ENTRY_WORDS == 0 {
+            return fresh_link((i / layout::ENTRY_WORDS) as u16);
+        }
+        return 0;
+    }
+    0
+}
+
+// The segment becomes a fresh one.
+fn fresh_segment(s: &mut [u8])
+    requires { ⌜ length (now s) ≡ segmentBytes ⌝ }
+    ensures { λ _. ⌜ now (s .exit) ≡ freshSegment ⌝ }
+{
+    let mut k = 0;
+    while k < SEGMENT_WORDS {
+        let w = fresh_word(k);
+        segment::put(s, k, w);
+        k += 1;
+    }
+}
+
+// The memories become those of a fresh desk, and the status is 0; 29 where one has the wrong length, and nothing is written.
+pub fn fresh(segment: &mut [u8], blocks: &mut [u8], buffers: &mut [u8]) -> u8
+    ensures { λ r. ⌜ record { status = r; segment = now (segment .exit); blocks = now (blocks .exit); buffers = now (buffers .exit) } ≡ made (now (segment .entry)) (now (blocks .entry)) (now (buffers .entry)) ⌝ }
+{
+    if segment.len() != layout::SEGMENT_BYTES {
+        return 29;
+    }
+    if blocks.len() != BLOCKS_BYTES {
+        return 29;
+    }
+    if buffers.len() != BUFFERS_BYTES {
+        return 29;
+    }
+    fresh_segment(segment);
+    words::zero(blocks, 0, BLOCKS_BYTES);
+    words::zero(buffers, 0, BUFFERS_BYTES);
+    0
+}

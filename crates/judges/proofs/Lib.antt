@@ -1,0 +1,10 @@
+pub mod Turns
+pub mod Counted
+pub mod Waits
+pub mod Stood
+pub mod Names
+pub mod Verdicts
+pub mod Judged
+pub mod Said
+pub mod Together
+pub mod Files

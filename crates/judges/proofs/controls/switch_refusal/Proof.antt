@@ -1,0 +1,17 @@
+use borrow.Author.Tests.{le-leb, lt-leb}
+use Rattle.judges.specs.Verdicts.{switchRefusal}
+use Rattle.judges.proofs.controls.switch_refusal.Statement.{statement}
+use Rattle.judges.proofs.controls.switch_refusal.Tie as tie
+
+-- src/controls.rt:34:9
+returns : tie.Need-returns
+unfolding switchRefusal
+returns c = rw (le-leb _ _ (c .if1 .taken))
+
+-- src/controls.rt:30:1
+returns-2 : tie.Need-returns-2
+unfolding switchRefusal
+returns-2 c = rw (lt-leb _ _ (c .if1 .left))
+
+pub switch-refusal-spec : {M : Type 1} → statement M
+switch-refusal-spec = tie.close (tie.spec returns returns-2)

@@ -1,0 +1,21 @@
+use Rattle.judges.specs.Verdicts.{whileFree}
+use borrow.Author.Needs.{needs}
+use Rattle.judges.proofs.controls.while_free.Statement.{statement}
+use Rattle.judges.proofs.controls.while_free.Tie as tie
+
+-- src/controls.rt:24:8
+is-free-requires : tie.Need-is-free-requires
+is-free-requires c κs = search needs
+
+-- src/controls.rt:25:9
+returns : tie.Need-returns
+unfolding whileFree
+returns c = rw (← c .before .is-free .ensures, c .if1 .taken)
+
+-- src/controls.rt:21:1
+returns-2 : tie.Need-returns-2
+unfolding whileFree
+returns-2 c = rw (← c .before .is-free .ensures, c .if1 .left)
+
+pub while-free-spec : {M : Type 1} → statement M
+while-free-spec = tie.close (tie.spec is-free-requires returns returns-2)

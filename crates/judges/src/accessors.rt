@@ -1,0 +1,59 @@
+// The file and the accessor that a call names.
+use crate::outstanding::Outstanding;
+use crate::outstanding::outstanding_at;
+use crate::refusals;
+use crate::sides::CLOSED;
+use kinds::limits::FILES;
+use kinds::limits::PLACES;
+ghost use mathlib.Core.Path.{_≡_};
+ghost use lib.ListN.{length};
+ghost use Rattle.segment.specs.Layout.{segmentBytes};
+ghost use Rattle.judges.specs.Accessors.{wordsAt, accessorAt};
+
+// The accessor that a call names, or the refusal: its file's R, its side, and what it has outstanding.
+pub enum Accessor {
+    Refused(u8),
+    Open {
+        words: u16,
+        side: u16,
+        request: Outstanding,
+    },
+}
+
+// The R of the file, which is 1 at least; 0 where it is above 7 or not built.
+pub fn words_of(segment: &[u8], file: u8) -> u16
+    requires { ⌜ length (now segment) ≡ segmentBytes ⌝ }
+    ensures { λ r. ⌜ r ≡ wordsAt (now (segment .entry)) file ⌝ }
+{
+    let f = file as usize;
+    if FILES <= f {
+        return 0;
+    }
+    let row = segment::read_file(segment, f);
+    row.words
+}
+
+pub fn accessor_of(segment: &[u8], file: u8, acc: u8) -> Accessor
+    requires { ⌜ length (now segment) ≡ segmentBytes ⌝ }
+    ensures { λ r. ⌜ r ≡ accessorAt (now (segment .entry)) file acc ⌝ }
+{
+    let words = words_of(segment, file);
+    if words == 0 {
+        return Accessor::Refused(refusals::FILE);
+    }
+    let f = file as usize;
+    let p = acc as usize;
+    if PLACES <= p {
+        return Accessor::Refused(refusals::ACCESSOR);
+    }
+    let side = segment::place_side(segment, PLACES * f + p);
+    if side == CLOSED {
+        return Accessor::Refused(refusals::ACCESSOR);
+    }
+    let request = outstanding_at(segment, f, p, side);
+    Accessor::Open {
+        words,
+        side,
+        request,
+    }
+}

@@ -1,0 +1,166 @@
+// Who may be open together, and the room for an open record.
+use crate::sides::CLOSED;
+use crate::sides::READER;
+use crate::sides::WRITER;
+use crate::sides::count_side;
+use kinds::limits::PLACES;
+ghost use mathlib.Core.Path.{_≡_};
+ghost use Prim.Native.Nat.{_*_, _<_};
+ghost use mathlib.Core.Bool.{true, false, _&&_};
+ghost use lib.Dec.{ltb, eqb};
+ghost use lib.ListN.{length};
+ghost use Rattle.rules.specs.Limits.{files, places};
+ghost use Rattle.rules.specs.State.{Built};
+ghost use Rattle.rules.specs.Requests.{opened};
+ghost use Rattle.rules.specs.Store.{used};
+ghost use Rattle.rules.specs.Open.{shareOf, crowded, purged, roomToOpen};
+ghost use Rattle.segment.specs.Layout.{segmentBytes};
+ghost use Rattle.judges.specs.Sides.{differs, othersFrom};
+ghost use Rattle.judges.specs.Verdicts.{forbidden};
+ghost use Rattle.judges.specs.Shown.{Shown};
+
+// Share 1 is one reader and one writer, share 2 one reader and many writers, share 3 many of both.
+const SINGLE: u16 = 1;
+
+const MANY: u16 = 3;
+
+// Multiaccess 3 is always refused.
+const NO_MULTI: u8 = 3;
+
+// Access 1 purges if no accessor is open.
+const PURGING: u8 = 1;
+
+// As many closed places as a file has.
+const ALL_PLACES: u16 = 8;
+
+// The open record, and the close record that a place is kept for.
+const WRITERS_RECORDS: u32 = 2;
+
+// "Share 0 counts as 1."
+fn share_of(share: u8) -> u16
+    ensures { λ r. ⌜ r ≡ shareOf share ⌝ }
+{
+    if share == 0 {
+        return SINGLE;
+    }
+    share as u16
+}
+
+// Whether an accessor with another share is open at place i.
+fn differs(segment: &[u8], i: usize, share: u16) -> bool
+    requires { ⌜ length (now segment) ≡ segmentBytes ⌝ }
+    requires { ⌜ i < files * places ⌝ }
+    ensures { λ r. ⌜ r ≡ differs (now (segment .entry)) share i ⌝ }
+{
+    let row = segment::read_place(segment, i);
+    if row.side == CLOSED {
+        return false;
+    }
+    row.share != share
+}
+
+// At one of the eight places of file f.
+fn others(segment: &[u8], f: usize, share: u16) -> bool
+    requires { ⌜ length (now segment) ≡ segmentBytes ⌝ }
+    requires { ⌜ f < files ⌝ }
+    ensures { λ r. ⌜ r ≡ othersFrom (now (segment .entry)) share (places * f) places ⌝ }
+{
+    let mut i = PLACES * f;
+    let mut left = PLACES;
+    while left > 0 {
+        if differs(segment, i, share) {
+            return true;
+        }
+        i += 1;
+        left -= 1;
+    }
+    false
+}
+
+// A second writer, a second reader, that the share forbids.
+fn crowds_writers(segment: &[u8], f: usize, share: u16) -> bool
+    requires { ⌜ length (now segment) ≡ segmentBytes ⌝ }
+    requires { ⌜ f < files ⌝ }
+    ensures { λ r. ⌜ ((b : Built) → Shown (now (segment .entry)) f b → r ≡ crowded true share b) ⌝ }
+{
+    if share != SINGLE {
+        return false;
+    }
+    0 < count_side(segment, f, WRITER)
+}
+
+fn crowds_readers(segment: &[u8], f: usize, share: u16) -> bool
+    requires { ⌜ length (now segment) ≡ segmentBytes ⌝ }
+    requires { ⌜ f < files ⌝ }
+    ensures { λ r. ⌜ ((b : Built) → Shown (now (segment .entry)) f b → r ≡ crowded false share b) ⌝ }
+{
+    if MANY <= share {
+        return false;
+    }
+    0 < count_side(segment, f, READER)
+}
+
+fn crowds(segment: &[u8], f: usize, access: u8, share: u16) -> bool
+    requires { ⌜ length (now segment) ≡ segmentBytes ⌝ }
+    requires { ⌜ f < files ⌝ }
+    ensures { λ r. ⌜ ((b : Built) → Shown (now (segment .entry)) f b → r ≡ crowded (ltb 0 access) share b) ⌝ }
+{
+    if 0 < access {
+        return crowds_writers(segment, f, share);
+    }
+    crowds_readers(segment, f, share)
+}
+
+// Multiaccess 3, another share, or a second accessor the share forbids.
+pub fn forbids(segment: &[u8], f: usize, access: u8, share: u8, multi: u8) -> bool
+    requires { ⌜ length (now segment) ≡ segmentBytes ⌝ }
+    requires { ⌜ f < files ⌝ }
+    ensures { λ r. ⌜ ((b : Built) → Shown (now (segment .entry)) f b → r ≡ forbidden access share multi b) ⌝ }
+{
+    if multi == NO_MULTI {
+        return true;
+    }
+    let s = share_of(share);
+    if others(segment, f, s) {
+        return true;
+    }
+    crowds(segment, f, access, s)
+}
+
+// Whether all places are closed, and the access purges then.
+fn purges(segment: &[u8], f: usize, access: u8) -> bool
+    requires { ⌜ length (now segment) ≡ segmentBytes ⌝ }
+    requires { ⌜ f < files ⌝ }
+    ensures { λ r. ⌜ ((b : Built) → Shown (now (segment .entry)) f b → r ≡ (eqb access 1 && eqb (opened b) 0)) ⌝ }
+{
+    if access != PURGING {
+        return false;
+    }
+    count_side(segment, f, CLOSED) == ALL_PLACES
+}
+
+// The records that count as used when an open of that access puts its own.
+fn used_after(segment: &[u8], f: usize, access: u8) -> u32
+    requires { ⌜ length (now segment) ≡ segmentBytes ⌝ }
+    requires { ⌜ f < files ⌝ }
+    ensures { λ r. ⌜ ((b : Built) → Shown (now (segment .entry)) f b → r ≡ used (purged access b .store)) ⌝ }
+    ensures { λ r. ⌜ r < 131072 ⌝ }
+{
+    if purges(segment, f, access) {
+        return 0;
+    }
+    let row = segment::read_file(segment, f);
+    row.spent as u32 + row.held as u32
+}
+
+// "A writer puts an open record and needs used + W + 2 ≤ C, with W before it and after any purge."
+pub fn has_room(segment: &[u8], f: usize, access: u8) -> bool
+    requires { ⌜ length (now segment) ≡ segmentBytes ⌝ }
+    requires { ⌜ f < files ⌝ }
+    ensures { λ r. ⌜ ((b : Built) → Shown (now (segment .entry)) f b → r ≡ roomToOpen access b) ⌝ }
+{
+    let used = used_after(segment, f, access);
+    let writers = count_side(segment, f, WRITER) as u32;
+    let row = segment::read_file(segment, f);
+    used + writers + WRITERS_RECORDS <= row.factor as u32 * row.blocks as u32
+}

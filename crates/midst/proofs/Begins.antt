@@ -1,0 +1,211 @@
+-- A call begins: what the memories stand for, with file f in hand. And it ends: the file's row is written back.
+use Prim.Native.Nat.{ℕ, _/_, _%_, _<_}
+use mathlib.Core.Path.{_≡_, refl, sym, ap, _∙_}
+use mathlib.Core.List.{List, []}
+use native.Mathlib.Omega.{arith}
+use native.Mathlib.Decide.{ℕ-discrete}
+use lib.ListN.{length, getD, set}
+use lib.Seq.{set-getD, getD-set-same, getD-set-other}
+use Rattle.segment.specs.Layout.{rowCount, rowWords, rowAt, fileRow, placeRow, segmentBytes}
+use Rattle.segment.specs.Table.{row, fill}
+use Rattle.segment.specs.Fields.{placeWords, fileRowOf, placeRowOf, fileAt, placeAt}
+use Rattle.ports.proofs.Contents.{fill-boxes}
+use Rattle.rules.specs.Limits.{files, places}
+use Rattle.rules.specs.State.{Hap, Built, File, unbuilt, built}
+use Rattle.rules.specs.Requests.{accAt}
+use Rattle.rules.specs.Reply.{hushed}
+use Rattle.rules.specs.Memories.{fileBuffers}
+use Rattle.rules.specs.Desk.{Desk, fileOf}
+use Rattle.rules.specs.Allocation.{Alloc, placeOf, allotAll}
+use Rattle.laws.specs.Runs.{OnFile}
+use Rattle.laws.specs.Queues.{Agree}
+use Rattle.laws.specs.Entries.{accsOf, timersOf, Calm, Fed}
+use Rattle.laws.specs.Midst.{Matches}
+use Rattle.laws.specs.Midst as laws
+use Rattle.laws.proofs.Happenings.{matches-now}
+use Rattle.memory.specs.Image.{accOf, placeAcc, fileWords, rowOf, rqOf, wqOf, listsOf, boxesOf, rowsOf}
+use Rattle.memory.specs.Image as image
+use Rattle.memory.specs.Stands.{Bytes, Segment, FileBytes, Bodies, Stands, shareAt, buffersAt}
+use Rattle.memory.specs.Fine.{Fine, StandsFor}
+use Rattle.memory.proofs.Image.{rowOf-file, rowOf-place, rowOf-acc, each-row}
+use Rattle.memory.proofs.Boxes.{segment-boxes, boxes-segment, getD-listsOf, getD-boxesOf, getD-rowsOf}
+use Rattle.memory.proofs.Once.{agreed-once}
+use Rattle.memory.proofs.Frames.{bodies-file}
+use Rattle.midst.specs.declared.File as hand
+use Rattle.midst.specs.File.{fileOfRow, fileRowWords, inHand}
+use Rattle.midst.specs.Seg.{Seg}
+use Rattle.midst.specs.Mid.{Start, Mid}
+use Rattle.midst.proofs.Alike.{Alike, files-same, file-set, file-other, lists-alike, boxes-alike}
+
+-- it begins
+
+pub fine-agree : (x : File) → OnFile Fine x → OnFile Agree x
+unfolding OnFile
+fine-agree unbuilt h = tt
+fine-agree (built b) h = h .queues
+
+pub file-here : (d : Desk) (f : ℕ) (x : File) → fileOf d f ≡ x → set d f x ≡ d
+unfolding fileOf
+file-here d f x e = rw (← e) (set-getD d f unbuilt)
+
+-- nothing has happened yet
+begin-seg : (xs : List ℕ) (d d′ : Desk) (s : Alloc) (f : ℕ) (hs : List Hap) → d′ ≡ d → hs ≡ [] → Seg xs d s (fileRow f) → Seg xs d′ (allotAll f hs s) (fileRow f)
+unfolding allotAll
+begin-seg xs d d′ s f hs e n S = rw (e, n) S
+
+begin-mid : (f : ℕ) (s : Alloc) (b : Built) → b .past ≡ [] → Matches f s s (b .accs) (b .timers) → laws.Mid f s b
+unfolding allotAll Fed
+begin-mid f s b e M = record { matches = rw e M; fed = rw e tt }
+
+-- the row of a file, read back
+file-row : (xs : List ℕ) (f : ℕ) (b : Built) → row xs (rowAt (fileRow f)) rowWords ≡ fileWords (built b) → fileOfRow (fileAt xs f) ≡ inHand b
+unfolding fileAt fileRowOf fileWords
+file-row xs f b e = ap (λ r. fileOfRow (fileRowOf r)) e
+
+module _ {xs blocks buffers : List ℕ} {d : Desk} {s : Alloc} (S : StandsFor xs blocks buffers d s) where
+  pub stands-seg : (f : ℕ) → Seg xs d s (fileRow f)
+  stands-seg f = record {
+    rows = rowsOf d;
+    boxes = segment-boxes d s xs (agreed-once d s (S .agreed) (λ g k. fine-agree (fileOf d g) (S .fine g k))) (S .stands .segment);
+    same = λ i k _. getD-rowsOf d s i k;
+  }
+
+  pub mid-begin : (f : ℕ) (b : Built) → f < files → fileOf d f ≡ built b
+      → Mid Fine f (record { desk = d; alloc = s; blocks = blocks; buffers = buffers }) xs blocks buffers (fileOfRow (fileAt xs f)) b
+  unfolding OnFile accsOf timersOf FileBytes
+  mid-begin f b h e =
+      let own : OnFile Fine (built b) = rw e at (S .fine f h) in
+      let calm : Calm (built b) = rw e at (S .agreed .calm f h) in
+      let M : Matches f s s (accsOf (built b)) (timersOf (built b)) = rw e at (matches-now f s _ _ (S .agreed .agrees f h) (S .agreed .whole) (S .agreed .clock)) in
+      let bytes : FileBytes (built b) (shareAt f blocks) (buffersAt f buffers) = rw e at (S .stands .bodies .each f h) in
+      record {
+        file = h;
+        eight = S .agreed .eight;
+        good = own;
+        allots = begin-mid f s b calm M;
+        segment = begin-seg xs d _ s f (b .past) (file-here d f (built b) e) calm (stands-seg f);
+        row = file-row xs f b (S .stands .segment .rows (fileRow f) (omega arith) ∙ rowOf-file d f h ∙ ap fileWords e);
+        share = bytes .0;
+        buffer = bytes .1;
+        blocks-size = S .stands .bodies .blocks-size;
+        buffers-size = S .stands .bodies .buffers-size;
+        apart = record { shares = λ g k n. refl; others = λ g k n. refl };
+      }
+
+-- with more, or less, known of the file
+pub mid-as : {I J : Built → Type 0} {f : ℕ} {o : Start} {xs blocks buffers : List ℕ} {x : hand.File} {b : Built} → Mid I f o xs blocks buffers x b → J b
+    → Mid J f o xs blocks buffers x b
+mid-as M h = record {
+  file = M .file;
+  eight = M .eight;
+  good = h;
+  allots = M .allots;
+  segment = M .segment;
+  row = M .row;
+  share = M .share;
+  buffer = M .buffer;
+  blocks-size = M .blocks-size;
+  buffers-size = M .buffers-size;
+  apart = M .apart;
+}
+
+-- what stands at a place
+
+row-words : (xs : List ℕ) (i : ℕ) → placeWords (placeAt xs i) ≡ row xs (rowAt (placeRow i)) rowWords
+unfolding placeWords placeAt placeRowOf row
+row-words xs i = refl
+
+place-below : (f p : ℕ) → f < files → p < places → placeRow (placeOf f p) < rowCount
+unfolding placeOf
+place-below f p h k = omega arith
+
+pub segment-open : {xs : List ℕ} {d : Desk} {s : Alloc} → Segment xs d s → (f p : ℕ) → f < files → p < places
+    → placeWords (placeAt xs (placeOf f p)) ≡ image.placeWords (accOf (fileOf d f) p)
+segment-open {xs} {d} {s} S f p h k = row-words xs (placeOf f p) ∙ S .rows (placeRow (placeOf f p)) (place-below f p h k) ∙ rowOf-acc d f p k
+
+pub stands-open : {xs blocks buffers : List ℕ} {d : Desk} {s : Alloc} → StandsFor xs blocks buffers d s → (f p : ℕ) → f < files → p < places
+    → placeWords (placeAt xs (placeOf f p)) ≡ image.placeWords (accOf (fileOf d f) p)
+stands-open S f p h k = segment-open (S .stands .segment) f p h k
+
+module _ {I : Built → Type 0} {f : ℕ} {o : Start} {xs blocks buffers : List ℕ} {x : hand.File} {b : Built} (M : Mid I f o xs blocks buffers x b) where
+  pub mid-lengths : length xs ≡ segmentBytes
+  mid-lengths = M .segment .boxes .lists .size
+
+  pub mid-file : fileOf (set (o .desk) f (built b)) f ≡ built b
+  mid-file = file-set (o .desk) f (built b) (omega (arith, M .file, M .eight))
+
+  pub mid-row : (p : ℕ) → p < places → row xs (rowAt (placeRow (placeOf f p))) rowWords ≡ image.placeWords (accAt b p)
+  unfolding accOf
+  mid-row p k =
+      M .segment .boxes .rows (placeRow (placeOf f p)) (place-below f p (M .file) k)
+      ∙ M .segment .same (placeRow (placeOf f p)) (place-below f p (M .file) k) (λ e. unfold placeOf in omega (arith, e, M .file))
+      ∙ rowOf-acc (set (o .desk) f (built b)) f p k ∙ ap (λ z. image.placeWords (accOf z p)) mid-file
+
+  pub mid-open : (p : ℕ) → p < places → placeWords (placeAt xs (placeOf f p)) ≡ image.placeWords (accAt b p)
+  mid-open p k = row-words xs (placeOf f p) ∙ mid-row p k
+
+  -- the same as a row
+  pub mid-place : (p : ℕ) → p < places → placeAt xs (placeOf f p) ≡ placeRowOf (image.placeWords (accAt b p))
+  unfolding placeWords placeRowOf
+  mid-place p k = ap placeRowOf (mid-open p k)
+
+-- it ends
+
+hushed-alike : (b : Built) → Alike (built b) (built (hushed b))
+unfolding hushed accOf accAt rqOf wqOf
+hushed-alike b = record { reads = refl; writes = refl; reqs = λ p. refl }
+
+hushed-acc : (b : Built) (p : ℕ) → accOf (built b) p ≡ accOf (built (hushed b)) p
+unfolding hushed accOf accAt
+hushed-acc b p = refl
+
+hushed-bytes : (b : Built) (share buffers : List ℕ) → share ≡ b .store .share → buffers ≡ fileBuffers (b .accs) → FileBytes (built (hushed b)) share buffers
+unfolding hushed FileBytes
+hushed-bytes b share buffers e h = (e, h)
+
+hand-words : (x : hand.File) (b : Built) → x ≡ inHand b → fileRowWords x ≡ fileWords (built (hushed b))
+unfolding fileRowWords fileWords hushed
+hand-words x b e = rw e
+
+-- all rows but that of file f
+pub rows-same : (d : Desk) (f : ℕ) (x y : File) → ((p : ℕ) → accOf x p ≡ accOf y p) → (i : ℕ) → i < rowCount → (i ≡ fileRow f → ⊥) → rowOf (set d f x) i ≡ rowOf (set d f y) i
+rows-same d f x y e =
+    each-row (λ i. (i ≡ fileRow f → ⊥) → rowOf (set d f x) i ≡ rowOf (set d f y) i)
+    (λ g h n. rowOf-file (set d f x) g h ∙ ap fileWords (file-other d f g x n ∙ sym (file-other d f g y n)) ∙ sym (rowOf-file (set d f y) g h))
+    (λ i h n. rowOf-place (set d f x) i ∙ ap image.placeWords (accs i) ∙ sym (rowOf-place (set d f y) i))
+  where
+    accs : (i : ℕ) → placeAcc (set d f x) i ≡ placeAcc (set d f y) i
+    accs i = unfold placeAcc in files-same (λ z. accOf z (i % places)) d f x y (e (i % places)) (i / places)
+
+-- the row of file f is written, the file being y in place of x, which has the same queues and accessors
+pub seg-end : (xs : List ℕ) (d : Desk) (f : ℕ) (x y : File) (t : Alloc) (words : List ℕ) → f < files → length d ≡ files → Alike x y → ((p : ℕ) → accOf x p ≡ accOf y p)
+    → Seg xs (set d f x) t (fileRow f) → length words ≡ rowWords → words ≡ fileWords y → Bytes (fill xs (rowAt (fileRow f)) words)
+    → Segment (fill xs (rowAt (fileRow f)) words) (set d f y) t
+seg-end xs d f x y t words hf eight E accs S n e bytes =
+    boxes-segment (set d f y) t (fill xs (rowAt (fileRow f)) words) [] (listsOf (set d f x) t) (boxesOf (set d f x) t) (set (S .rows) f words) bytes
+    (fill-boxes (S .boxes) (fileRow f) words (omega (arith, hf)) n)
+    (λ l h. ap (λ ls. getD ls l []) (lists-alike d f _ _ E t) ∙ getD-listsOf (set d f y) t l h)
+    (λ l h. ap (λ ms. getD ms l []) (boxes-alike d f _ _ E t) ∙ getD-boxesOf (set d f y) t l h)
+    (λ i h. go i h (ℕ-discrete i f))
+  where
+    go : (i : ℕ) → i < rowCount → Dec (i ≡ f) → getD (set (S .rows) f words) i [] ≡ rowOf (set d f y) i
+    go i h (yes u) =
+        rw u (getD-set-same (S .rows) f words [] (omega (arith, hf, S .boxes .rowed)) ∙ e
+        ∙ sym (rowOf-file (set d f y) f hf ∙ ap fileWords (file-set d f y (omega (arith, hf, eight)))))
+    go i h (no u) = getD-set-other (S .rows) f i words [] u ∙ S .same i h u ∙ rows-same d f x y accs i h u
+
+module _ {I : Built → Type 0} {f : ℕ} {o : Start} {xs blocks buffers : List ℕ} {x : hand.File} {b : Built} (M : Mid I f o xs blocks buffers x b) where
+  end-segment : Bytes (fill xs (rowAt (fileRow f)) (fileRowWords x))
+      → Segment (fill xs (rowAt (fileRow f)) (fileRowWords x)) (set (o .desk) f (built (hushed b))) (allotAll f (b .past) (o .alloc))
+  end-segment bytes =
+      seg-end xs (o .desk) f (built b) (built (hushed b)) (allotAll f (b .past) (o .alloc)) (fileRowWords x) (M .file) (M .eight) (hushed-alike b) (hushed-acc b) (M .segment)
+      (unfold fileRowWords in refl) (hand-words x b (M .row)) bytes
+
+  pub mid-end : Bodies (o .blocks) (o .buffers) (o .desk) → Bytes (fill xs (rowAt (fileRow f)) (fileRowWords x)) → Bytes blocks → Bytes buffers
+      → Stands (fill xs (rowAt (fileRow f)) (fileRowWords x)) blocks buffers (set (o .desk) f (built (hushed b))) (allotAll f (b .past) (o .alloc))
+  mid-end B bytes blocks-bytes buffers-bytes = record {
+    segment = end-segment bytes;
+    bodies = bodies-file (o .desk) (o .blocks) (o .buffers) blocks buffers f (built (hushed b)) B (omega (arith, M .file, M .eight)) blocks-bytes buffers-bytes
+        (M .blocks-size ∙ sym (B .blocks-size)) (M .buffers-size ∙ sym (B .buffers-size))
+        (λ g h n. (M .apart .shares g h n, M .apart .others g h n)) (hushed-bytes b _ _ (M .share) (M .buffer));
+  }

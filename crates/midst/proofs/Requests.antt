@@ -1,0 +1,196 @@
+-- In the midst of a call a request begins to wait, completes, is cancelled or is collected: the memories behind it stand for the file behind it.
+use Prim.Native.Nat.{ℕ, _*_, _≤_, _<_}
+use mathlib.Core.Path.{_≡_, refl, sym, ap, _∙_}
+use mathlib.Core.Bool.{Bool, true, false}
+use mathlib.Core.List.{List}
+use mathlib.Core.Option.{some}
+use native.Mathlib.Omega.{arith}
+use lib.ListN.{length, set, length-set}
+use lib.Seq.{sets, set-set}
+use Rattle.segment.specs.Layout.{freeList, replyPort, fileRow}
+use Rattle.segment.specs.Table.{nth}
+use Rattle.requests.specs.Moves.{entryOf, queued, waiting, completed, cancelled, collected}
+use Rattle.rules.specs.Limits.{files, entries, bufferBytes}
+use Rattle.rules.specs.State.{Req, idle, reading, writing, Acc, ends, cancels, collects, Built, built}
+use Rattle.rules.specs.Requests.{accAt, withAccs, withQueues, withTimers, alterAcc, say, requeue, leave, finish, cancel, wait, freed}
+use Rattle.rules.specs.Memories.{lies}
+use Rattle.rules.specs.Desk.{Desk}
+use Rattle.rules.specs.Allocation.{Alloc, placeOf, endsAt, goesAt, allot, allotAll}
+use Rattle.laws.specs.Outstanding.{reqOf, reqAt, waitsRead, waitsWrite, uncollected, awaits, outstanding}
+use Rattle.laws.specs.Changes.{Ends, readEnds, writeEnds}
+use Rattle.laws.specs.Counts.{countT}
+use Rattle.laws.specs.Bounds.{Bounded}
+use Rattle.laws.specs.Midst as laws
+use Rattle.laws.proofs.Bounds.{bounds-at}
+use Rattle.laws.proofs.Outstanding.{outstanding-most}
+use Rattle.laws.proofs.Sieve.{countT-sieve}
+use Rattle.laws.proofs.Midst.{mid-wait, mid-walks}
+use Rattle.buffers.specs.Buffer.{filled}
+use Rattle.memory.specs.Image.{reqWords}
+use Rattle.midst.specs.declared.File as hand
+use Rattle.midst.specs.Seg.{Seg, queueAt}
+use Rattle.midst.specs.Mid.{Start, Mid}
+use Rattle.midst.proofs.Begins.{mid-file}
+use Rattle.midst.proofs.Changes.{Knows, Rest, asks-wait, asks-finish, asks-cancel, asks-freed, Laid, put, keep, mid-below, mid-req}
+use Rattle.midst.proofs.Waits.{allot-snoc, seg-wait}
+use Rattle.midst.proofs.Terms.{waitsAt, waits-awaits}
+use Rattle.midst.proofs.Placed.{Placed}
+use Rattle.midst.proofs.Leaves.{seg-complete, seg-cancel}
+use Rattle.midst.proofs.Collects.{seg-collect}
+
+-- what lies in the buffer of a completed request has room there
+ends-fit : {st : ℕ} {r q : Req} (words : ℕ) → Ends st r q → Bounded words r → length (lies q) ≤ bufferBytes
+unfolding Bounded lies
+ends-fit words (readEnds h n) k = omega arith
+ends-fit words (writeEnds n) k = omega arith
+
+ends-done : {st : ℕ} {r q : Req} → Ends st r q → uncollected q ≡ 1
+unfolding uncollected
+ends-done (readEnds h n) = refl
+ends-done (writeEnds n) = refl
+
+side-waits : (w : Bool) (q : Req) → waitsAt w q ≡ 1 → awaits q ≡ 1
+side-waits w q h = omega (arith, waits-awaits w q, outstanding-most q)
+
+-- a segment of a desk whose file f was set before
+reset : (xs : List ℕ) (d : Desk) (f : ℕ) (b c : Built) (t u : Alloc) (k : ℕ) → u ≡ t → Seg xs (set (set d f (built b)) f (built c)) t k → Seg xs (set d f (built c)) u k
+reset xs d f b c t u k e S = rw e (rw set-set at S)
+
+wait-mid : (f : ℕ) → f < files → (s : Alloc) (side : Bool) (p n : ℕ) (q : Req) (a : Acc) (b : Built) → accAt b p ≡ some a → a .req ≡ idle → awaits q ≡ 1 → laws.Mid f s b
+    → laws.Mid f s (wait side p n q b)
+unfolding wait say requeue alterAcc withAccs withQueues
+wait-mid f hf s true p n q a b e i w m = mid-wait f hf s p n q a b e i w m _ refl refl refl
+wait-mid f hf s false p n q a b e i w m = mid-wait f hf s p n q a b e i w m _ refl refl refl
+
+module _ {I : Built → Type 0} {f : ℕ} {o : Start} {xs blocks buffers : List ℕ} {x : hand.File} {b : Built} (K : Knows I) (M : Mid I f o xs blocks buffers x b)
+    (p : ℕ) (a : Acc) (e : accAt b p ≡ some a) where
+  abbrev i : ℕ
+  i = placeOf f p
+
+  abbrev t : Alloc
+  t = allotAll f (b .past) (o .alloc)
+
+  -- it begins to wait, in the queue of its side
+
+  module _ (R : Rest f o) (side : Bool) (n : ℕ) (q : Req) (still : a .req ≡ idle) (waits : awaits q ≡ 1) where
+    seg-waits : (nth xs freeList < entries) × (nth (queued xs (queueAt side f) (reqWords i q)) freeList < entries)
+        × Seg (waiting xs (queueAt side f) (reqWords i q) i n) (set (o .desk) f (built (wait side p n q b))) (allotAll f (wait side p n q b .past) (o .alloc)) (fileRow f)
+    seg-waits =
+        seg-wait f (M .file) (o .alloc) (o .desk) (M .eight) R b (M .allots) (K .agree b (M .good)) p n a e still side q (omega (arith, outstanding-most q)) (M .segment)
+
+    -- there are entries to take
+    pub step-wait-free : (nth xs freeList < entries) × (nth (queued xs (queueAt side f) (reqWords (placeOf f p) q)) freeList < entries)
+    step-wait-free = (seg-waits .0, seg-waits .1)
+
+    pub step-wait : {J : Built → Type 0} (buffers′ : List ℕ) → length (lies q) ≤ bufferBytes → J (wait side p n q b) → Laid f p (a .req) q buffers buffers′
+        → Mid J f o (waiting xs (queueAt side f) (reqWords (placeOf f p) q) (placeOf f p) n) blocks buffers′ x (wait side p n q b)
+    step-wait buffers′ fits good L =
+        mid-req K M p a e q (wait side p n q b) (asks-wait side p n q b) fits good
+        (wait-mid f (M .file) (o .alloc) side p n q a b e still waits (M .allots)) _ buffers′ (seg-waits .2) L
+
+  module _ (R : Rest f o) (n : ℕ) (still : a .req ≡ idle) {J : Built → Type 0} where
+    pub step-wait-read : (l : ℕ) (w k : Bool) → J (wait false p n (reading w l k) b)
+        → Mid J f o (waiting xs (queueAt false f) (reqWords (placeOf f p) (reading w l k)) (placeOf f p) n) blocks buffers x (wait false p n (reading w l k) b)
+    unfolding lies waitsRead waitsWrite
+    step-wait-read l w k good = step-wait R false n (reading w l k) still refl buffers (omega arith) good (keep refl (sym (ap lies still)))
+
+    pub step-wait-write : (w : Bool) (v : List ℕ) (buffers′ : List ℕ) → length v ≤ bufferBytes → J (wait true p n (writing w v) b)
+        → buffers′ ≡ sets buffers (bufferBytes * placeOf f p) (filled v)
+        → Mid J f o (waiting xs (queueAt true f) (reqWords (placeOf f p) (writing w v)) (placeOf f p) n) blocks buffers′ x (wait true p n (writing w v) b)
+    unfolding lies waitsRead waitsWrite
+    step-wait-write w v buffers′ fits good h = step-wait R true n (writing w v) still refl buffers′ fits good (put h)
+
+  -- an outstanding request
+
+  ticks : countT i (t .clock) ≡ countT p (b .timers)
+  ticks = countT-sieve f p (t .clock) (mid-below M p a e) ∙ ap (countT p) (M .allots .matches .agrees .clock)
+
+  asked : reqAt (b .accs) p ≡ a .req
+  unfolding accAt reqOf
+  asked = ap reqOf e
+
+  placed : outstanding (a .req) ≡ 1 → Placed f p (set (o .desk) f (built b)) b a t
+  placed h = record {
+    file = M .file;
+    place = mid-below M p a e;
+    eight = length-set (o .desk) f (built b) ∙ M .eight;
+    was = mid-file M;
+    queues = K .agree b (M .good);
+    opens = e;
+    long = M .allots .matches .whole .long;
+    holds = omega (arith, M .allots .matches .agrees .holds p (mid-below M p a e), ap outstanding asked, ticks);
+  }
+
+  -- it completes
+
+  module _ (side : Bool) (st : ℕ) (r q : Req) (was : a .req ≡ r) (waits : waitsAt side r ≡ 1) (E : Ends st r q) where
+    complete : (entryOf xs (queueAt side f) i < entries)
+        × Seg (completed xs (queueAt side f) i (reqWords i q)) (set (set (o .desk) f (built b)) f (built (finish p st q b))) (endsAt i t) (fileRow f)
+    unfolding finish leave say withTimers requeue alterAcc withAccs withQueues
+    complete =
+        let h : waitsAt side (a .req) ≡ 1 = ap (waitsAt side) was ∙ waits in
+        seg-complete (placed (omega (arith, side-waits side (a .req) h, outstanding-most (a .req)))) side h (M .segment) q (finish p st q b) refl refl refl
+        (λ k. absurd (k refl)) (ends-done E)
+
+    pub step-finish-entry : entryOf xs (queueAt side f) (placeOf f p) < entries
+    step-finish-entry = complete .0
+
+    ended : allotAll f (finish p st q b .past) (o .alloc) ≡ endsAt i t
+    unfolding finish leave say withTimers requeue alterAcc withAccs withQueues allot
+    ended = allot-snoc f (b .past) (ends p st) (o .alloc)
+
+    pub step-finish : {J : Built → Type 0} (buffers′ : List ℕ) → J (finish p st q b) → Laid f p (a .req) q buffers buffers′
+        → Mid J f o (completed xs (queueAt side f) (placeOf f p) (reqWords (placeOf f p) q)) blocks buffers′ x (finish p st q b)
+    step-finish buffers′ good L =
+        mid-req K M p a e q (finish p st q b) (asks-finish p st q b) (ends-fit (b .geo .words) E (bounds-at p a r b e was (K .bounds b (M .good)))) good
+        (mid-walks f (M .file) (o .alloc) .finishes p st q a r b e was E (M .allots)) _ buffers′
+        (reset _ (o .desk) f b (finish p st q b) (endsAt i t) _ (fileRow f) ended (complete .1)) L
+
+  -- it is cancelled
+
+  module _ (side : Bool) (waits : waitsAt side (a .req) ≡ 1) where
+    gone : (entryOf xs (queueAt side f) i < entries)
+        × Seg (cancelled xs (queueAt side f) i) (set (set (o .desk) f (built b)) f (built (cancel p b))) (goesAt i t) (fileRow f)
+    unfolding cancel leave say withTimers requeue alterAcc withAccs withQueues
+    gone =
+        seg-cancel (placed (omega (arith, side-waits side (a .req) waits, outstanding-most (a .req)))) side waits (M .segment) idle (cancel p b) refl refl refl
+        (λ k. absurd (k refl)) refl
+
+    pub step-cancel-entry : entryOf xs (queueAt side f) (placeOf f p) < entries
+    step-cancel-entry = gone .0
+
+    cancelled-all : allotAll f (cancel p b .past) (o .alloc) ≡ goesAt i t
+    unfolding cancel leave say withTimers requeue alterAcc withAccs withQueues allot
+    cancelled-all = allot-snoc f (b .past) (cancels p) (o .alloc)
+
+    pub step-cancel : {J : Built → Type 0} (buffers′ : List ℕ) → J (cancel p b) → Laid f p (a .req) idle buffers buffers′
+        → Mid J f o (cancelled xs (queueAt side f) (placeOf f p)) blocks buffers′ x (cancel p b)
+    step-cancel buffers′ good L =
+        mid-req K M p a e idle (cancel p b) (asks-cancel p b) (unfold lies in omega arith) good
+        (mid-walks f (M .file) (o .alloc) .cancels p a b e (side-waits side (a .req) waits) (M .allots)) _ buffers′
+        (reset _ (o .desk) f b (cancel p b) (goesAt i t) _ (fileRow f) cancelled-all (gone .1)) L
+
+  -- a completed one is collected
+
+  module _ (done : uncollected (a .req) ≡ 1) where
+    taken : (nth xs (replyPort i) < entries)
+        × Seg (collected xs i) (set (set (o .desk) f (built b)) f (built (freed p b))) (goesAt i t) (fileRow f)
+    unfolding freed say requeue alterAcc withAccs withQueues
+    taken =
+        let h : outstanding (a .req) ≡ 1 = omega (arith, outstanding-most (a .req)) in
+        seg-collect (placed h) done (omega (arith, ticks, M .allots .matches .agrees .timed p, ap awaits asked)) (M .segment) (freed p b) refl refl refl
+        (λ k. absurd (k refl))
+
+    pub step-free-entry : nth xs (replyPort (placeOf f p)) < entries
+    step-free-entry = taken .0
+
+    freed-all : allotAll f (freed p b .past) (o .alloc) ≡ goesAt i t
+    unfolding freed say requeue alterAcc withAccs withQueues allot
+    freed-all = allot-snoc f (b .past) (collects p) (o .alloc)
+
+    pub step-free : {J : Built → Type 0} (buffers′ : List ℕ) → J (freed p b) → Laid f p (a .req) idle buffers buffers′
+        → Mid J f o (collected xs (placeOf f p)) blocks buffers′ x (freed p b)
+    step-free buffers′ good L =
+        mid-req K M p a e idle (freed p b) (asks-freed p b) (unfold lies in omega arith) good
+        (mid-walks f (M .file) (o .alloc) .frees p a b e done (M .allots)) _ buffers′
+        (reset _ (o .desk) f b (freed p b) (goesAt i t) _ (fileRow f) freed-all (taken .1)) L

@@ -1,0 +1,21 @@
+-- The file in hand: its row's numbers by value.
+use mathlib.Core.List.{List, [], _∷_}
+use Prim.Native.Nat.{ℕ}
+use Rattle.segment.specs.declared.FileRow.{FileRow}
+use Rattle.blocks.specs.Ring.{ringOf}
+use Rattle.rules.specs.State.{Built}
+use Rattle.midst.specs.declared.File.{File}
+
+abbrev pub fileOfRow : FileRow → File
+fileOfRow r =
+    record {
+      words = r .words;
+      ring = record { factor = r .factor; blocks = r .blocks; block = r .block; spent = r .spent; held = r .held };
+    }
+
+unfoldable pub fileRowWords : File → List ℕ
+fileRowWords x = x .words ∷ x .ring .factor ∷ x .ring .blocks ∷ x .ring .block ∷ x .ring .spent ∷ x .ring .held ∷ 0 ∷ 0 ∷ []
+
+-- a file of the rules in hand
+abbrev pub inHand : Built → File
+inHand b = record { words = b .geo .words; ring = ringOf (b .geo) (b .store) }

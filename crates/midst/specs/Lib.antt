@@ -1,0 +1,5 @@
+pub mod File
+pub mod Seg
+pub mod Mid
+pub mod Outcome
+pub mod Accepted

@@ -1,0 +1,71 @@
+-- What a call comes to, in memories.
+use Prim.Native.Nat.{ℕ, _≤_}
+use mathlib.Core.Path.{_≡_}
+use mathlib.Core.Bool.{cond}
+use mathlib.Core.List.{List, []}
+use lib.Dec.{ltb}
+use lib.ListN.{length, set}
+use lib.Seq.{sets}
+use Rattle.kinds.specs.declared.Answer.{Answer}
+use Rattle.kinds.specs.declared.Answer.the-variants.{Built, Opened, Read, Written, Controlled, Collected, Closed, Passed, Counted, Status}
+use Rattle.rules.specs.Reply.{Reply, answers, shows, Out}
+use Rattle.rules.specs.Calls.{Ask}
+use Rattle.rules.specs.Limits.{bufferBytes, leastRefusal}
+use Rattle.rules.specs.Desk.{Desk, replyBytes, on, answered}
+use Rattle.rules.specs.Allocation.{Alloc, allotAll}
+use Rattle.memory.specs.Stands.{Stands}
+use Rattle.memory.specs.Fine.{StandsFor}
+use Rattle.midst.specs.Mid.{Apart}
+
+-- the status that an answer gives
+unfoldable pub statusOf : Answer → ℕ
+statusOf (Built c) = 0
+statusOf (Opened p n) = 0
+statusOf (Read l) = 0
+statusOf (Written l) = 0
+statusOf Controlled = 0
+statusOf (Collected l) = 0
+statusOf Closed = 0
+statusOf Passed = 0
+statusOf (Counted a b c d) = 0
+statusOf (Status op st) = st
+
+unfoldable pub replyStatus : Reply → ℕ
+replyStatus (answers a d) = statusOf a
+replyStatus (shows st d) = st
+
+-- "A refusal changes nothing": its number, leastRefusal or more; 0 where the call is not refused
+unfoldable pub refusalOf : Reply → ℕ
+refusalOf r = cond (ltb (replyStatus r) leastRefusal) 0 (replyStatus r)
+
+-- the memories stand for a desk
+abbrev pub Sound : List ℕ → List ℕ → List ℕ → Type 0
+Sound xs blocks buffers = (d : Desk) × (s : Alloc) × StandsFor xs blocks buffers d s
+
+-- the answer's bytes stand from the first byte of the answer memory, all behind them is as it was, and n is how many
+pub record Told (r : Reply) (memory memory′ : List ℕ) (n : ℕ) : Type 0 where
+  pub bytes : memory′ ≡ sets memory 0 (replyBytes r)
+  pub size : n ≡ length (replyBytes r)
+
+-- the memories, of which the two were `blocks` and `buffers` before a call of file f, stand for the desk and the allocation behind x
+pub record Outcome (f : ℕ) (d : Desk) (s : Alloc) (x : Out) (blocks buffers xs′ blocks′ buffers′ : List ℕ) : Type 0 where
+  pub stands : Stands xs′ blocks′ buffers′ (set d f (x .file)) (allotAll f (x .haps) s)
+  pub apart : Apart f blocks buffers blocks′ buffers′
+
+-- a call of file f that comes to x and is answered a, with no data behind it
+pub record Done (f : ℕ) (d : Desk) (s : Alloc) (x : Out) (blocks buffers xs′ blocks′ buffers′ : List ℕ) (a : Answer) : Type 0 where
+  pub outcome : Outcome f d s x blocks buffers xs′ blocks′ buffers′
+  pub reply : x .reply ≡ answers a []
+
+-- and with n bytes of data, which stand from byte 4 of the answer memory on, where the answer's own bytes end
+pub record Gave (f : ℕ) (d : Desk) (s : Alloc) (x : Out) (blocks buffers memory xs′ blocks′ buffers′ memory′ : List ℕ) (a : Answer) (n : ℕ) : Type 0 where
+  pub outcome : Outcome f d s x blocks buffers xs′ blocks′ buffers′
+  pub bytes : List ℕ
+  pub reply : x .reply ≡ answers a bytes
+  pub size : n ≡ length bytes
+  pub most : n ≤ bufferBytes
+  pub behind : memory′ ≡ sets memory 4 bytes
+
+-- no desk that the memories stand for refuses what is asked of file f
+abbrev pub Accepted : ℕ → Ask → List ℕ → List ℕ → List ℕ → Type 0
+Accepted f q xs blocks buffers = (d : Desk) (s : Alloc) → StandsFor xs blocks buffers d s → refusalOf (answered d (on f q) .reply) ≡ 0

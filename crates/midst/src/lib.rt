@@ -1,0 +1,53 @@
+// In the midst of a call: the file that it names is in hand, as numbers by value, and is written back when the call is done.
+ghost use mathlib.Core.Path.{_≡_};
+ghost use Prim.Native.Nat.{_<_};
+ghost use lib.ListN.{length};
+ghost use Rattle.segment.specs.Layout.{segmentBytes, rowAt, fileRow};
+ghost use Rattle.segment.specs.Table.{fill};
+ghost use Rattle.segment.specs.Fields.{fileAt};
+ghost use Rattle.midst.specs.File.{fileOfRow, fileRowWords};
+use blocks::ring::Ring;
+use segment::FileRow;
+
+// R, and the ring of the file's blocks.
+pub struct File {
+    pub words: u16,
+    pub ring: Ring,
+}
+
+// File f as it stands in the segment.
+pub fn take_file(segment: &[u8], f: usize) -> File
+    requires { ⌜ length (now segment) ≡ segmentBytes ⌝ }
+    requires { ⌜ f < 8 ⌝ }
+    ensures { λ r. ⌜ r ≡ fileOfRow (fileAt (now (segment .entry)) f) ⌝ }
+{
+    let row = segment::read_file(segment, f);
+    File {
+        words: row.words,
+        ring: Ring {
+            factor: row.factor,
+            blocks: row.blocks,
+            block: row.block,
+            spent: row.spent,
+            held: row.held,
+        },
+    }
+}
+
+// And back.
+pub fn put_file(segment: &mut [u8], f: usize, file: File)
+    requires { ⌜ length (now segment) ≡ segmentBytes ⌝ }
+    requires { ⌜ f < 8 ⌝ }
+    ensures { λ _. ⌜ now (segment .exit) ≡ fill (now (segment .entry)) (rowAt (fileRow f)) (fileRowWords file) ⌝ }
+{
+    let ring = file.ring;
+    let row = FileRow {
+        words: file.words,
+        factor: ring.factor,
+        blocks: ring.blocks,
+        block: ring.block,
+        spent: ring.spent,
+        held: ring.held,
+    };
+    segment::write_file(segment, f, row);
+}

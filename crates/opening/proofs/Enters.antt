@@ -1,0 +1,152 @@
+-- An accessor enters: what is in the midst of open, and what it comes to.
+use Prim.Native.Nat.{ℕ, _+_, _*_, _≤_, _<_}
+use mathlib.Core.Path.{_≡_, refl, sym, ap, subst, _∙_}
+use mathlib.Core.Bool.{true, false, _&&_}
+use mathlib.Core.List.{List, []}
+use native.Mathlib.Omega.{arith}
+use lib.Dec.{eqb}
+use lib.ListN.{length}
+use lib.Seq.{sets}
+use Rattle.kinds.specs.declared.Answer.the-variants.{Opened}
+use Rattle.segment.specs.Layout.{rowAt, placeRow, segmentBytes}
+use Rattle.segment.specs.Table.{fill}
+use Rattle.segment.specs.Fields.{placeWords, fileAt}
+use Rattle.rules.specs.Limits.{files, places, shareBytes}
+use Rattle.rules.specs.State.{Built, File, unbuilt, built}
+use Rattle.rules.specs.Store.{recordWords}
+use Rattle.rules.specs.Requests.{opened, say, withStore, putRec}
+use Rattle.rules.specs.Settle.{settle}
+use Rattle.rules.specs.Reply.{Reply, answers, leaves, done}
+use Rattle.rules.specs.Open.{firstFree, freeId, newAcc, enter, openRec, purged, openReader, openWriter}
+use Rattle.rules.specs.Desk.{Desk, fileOf}
+use Rattle.rules.specs.Allocation.{Alloc, placeOf}
+use Rattle.laws.proofs.Midst as laws
+use Rattle.laws.proofs.Calls.{free-id}
+use Rattle.blocks.specs.declared.ring.Ring.{Ring}
+use Rattle.blocks.specs.Ring as ring
+use Rattle.blocks.specs.Ring.{Ranged}
+use Rattle.blocks.specs.Writing.{recOf, Ready, inscribed}
+use Rattle.blocks.specs.Memory as own
+use Rattle.blocks.proofs.Held.{held-ranged, held-ready}
+use Rattle.memory.specs.Image as image
+use Rattle.memory.specs.Stands.{shareAt}
+use Rattle.memory.specs.Fine.{Fine, StandsFor}
+use Rattle.judges.specs.Sides.{countSide}
+use Rattle.judges.proofs.Counted.{Rows, file-rows, count-closed}
+use Rattle.judges.proofs.Stood.{shown}
+use Rattle.midst.specs.declared.File as hand
+use Rattle.midst.specs.File.{fileOfRow, inHand}
+use Rattle.midst.specs.Mid.{Start, Mid}
+use Rattle.midst.specs.Outcome.{Sound, Outcome, Done}
+use Rattle.midst.proofs.Begins.{mid-begin}
+use Rattle.midst.proofs.Rows.{mid-enter}
+use Rattle.midst.proofs.Stores.{mid-put, mid-held}
+use Rattle.midst.proofs.Walks.{fine-walks}
+use Rattle.opening.specs.Finding.{freePlace, nextId, newRow}
+use Rattle.opening.specs.Opens.{Each, Writes, emptied, taken}
+use Rattle.opening.proofs.Finds.{free-place-is, next-id-is, free-low}
+use Rattle.opening.proofs.Purges.{Stored, purged-accs, purged-stored, mid-purge, hand-purged}
+
+-- the file that is built is one
+abbrev inner : File → Built → Built
+inner unbuilt z = z
+inner (built b) z = b
+
+pub each-at : {K : Built → Type 0} {f : ℕ} {xs blocks buffers : List ℕ} → Each K f xs blocks buffers → (d : Desk) (s : Alloc) (b : Built) → StandsFor xs blocks buffers d s
+    → fileOf d f ≡ built b → (f < files) × K b
+each-at {K} h d s b S e =
+    let (hf, c, u, k) = h d s S in
+    (hf, subst K (ap (λ (x : File). inner x b) (sym u ∙ e)) k)
+
+module _ {K : Built → Type 0} {f : ℕ} {xs blocks buffers : List ℕ} where
+  pub each-file : Sound xs blocks buffers × Each K f xs blocks buffers → f < files
+  each-file ((d, s, S), h) = h d s S .0
+
+  pub each-sizes : Sound xs blocks buffers × Each K f xs blocks buffers → (length xs ≡ segmentBytes) × (length blocks ≡ shareBytes * files)
+  each-sizes ((d, s, S), h) = (S .stands .segment .size, S .stands .bodies .blocks-size)
+
+module _ {xs blocks buffers : List ℕ} {d : Desk} {s : Alloc} (S : StandsFor xs blocks buffers d s) (f : ℕ) (hf : f < files) (b : Built) (e : fileOf d f ≡ built b) where
+  abbrev start : Start
+  start = record { desk = d; alloc = s; blocks = blocks; buffers = buffers }
+
+  began : Mid Fine f start xs blocks buffers (fileOfRow (fileAt xs f)) b
+  began = mid-begin S f b hf e
+
+  eight : length (b .accs) ≡ places
+  eight = shown S f hf b e .eight
+
+  own-rows : Rows xs (places * f) (b .accs)
+  own-rows = file-rows xs f b eight (shown S f hf b e .rows)
+
+  stored : Stored b
+  stored = (began .good .room .geo, began .good .room .holds)
+
+  pub place-found : freePlace xs f ≡ firstFree (b .accs)
+  place-found = free-place-is xs f (b .accs) eight own-rows
+
+  free-below : opened b < places → firstFree (b .accs) < places
+  unfolding opened
+  free-below h = omega (arith, eight, free-low (b .accs) (omega (arith, eight, h)))
+
+  pub place-low : (acc : ℕ) → acc ≡ freePlace xs f → opened b < places → acc < places
+  place-low acc a h = omega (arith, a, place-found, free-below h)
+
+  pub hand-ranged : Ranged (fileOfRow (fileAt xs f) .ring)
+  hand-ranged = held-ranged _ _ _ (mid-held began (stored .0) (stored .1))
+
+  -- a reader
+  pub reader-in : (share acc : ℕ) (x : hand.File) (xs′ : List ℕ) → opened b < places → acc ≡ freePlace xs f → x ≡ fileOfRow (fileAt xs f)
+      → xs′ ≡ fill xs (rowAt (placeRow (places * f + acc))) (placeWords (newRow 1 0 share)) → Mid Fine f start xs′ blocks buffers x (enter (newAcc false 0 share) b)
+  unfolding placeWords image.placeWords newAcc placeOf
+  reader-in share acc x xs′ h a ex w =
+      rw (w, ex, a, place-found) (mid-enter {J = Fine} began (newAcc false 0 share) (newRow 1 0 share) (free-below h) refl (fine-walks .enters share b (began .good)) refl)
+
+  pub reader-done : (share acc : ℕ) (xs′ blocks′ buffers′ : List ℕ) → acc ≡ freePlace xs f
+      → ((r : Reply) → Outcome f d s (leaves r (settle (enter (newAcc false 0 share) b))) blocks buffers xs′ blocks′ buffers′)
+      → Done f d s (openReader share b) blocks buffers xs′ blocks′ buffers′ (Opened acc 0)
+  unfolding openReader done leaves
+  reader-done share acc xs′ blocks′ buffers′ a out = record { outcome = out _; reply = ap (λ (n : ℕ). answers (Opened n 0) []) (sym (a ∙ place-found)) }
+
+  -- a writer: the file in hand, purged or not, takes its open record
+  module _ (access : ℕ) (x : hand.File) (ex : x ≡ taken xs f access) where
+    abbrev c : Built
+    c = purged access b
+
+    in-hand : x ≡ inHand c
+    unfolding taken
+    in-hand = ex ∙ ap (λ (y : hand.File). go y) (began .row) ∙ hand-purged access (countSide xs f 0) b stored (count-closed xs f b eight (shown S f hf b e .rows))
+      where
+        go : hand.File → hand.File
+        go y = elim (eqb access 1 && eqb (countSide xs f 0) places) [ true ↦ emptied y | false ↦ y ]
+
+    at-hand : Mid Stored f start xs blocks buffers x c
+    at-hand = subst (λ (y : hand.File). Mid Stored f start xs blocks buffers y c) (sym in-hand) (mid-purge {J = Stored} began access (purged-stored access b stored))
+
+    pub writer-ready : Ready (x .words) (x .ring) (own.shareAt f blocks) 0
+    unfolding shareAt recordWords openRec
+    writer-ready = held-ready _ _ _ (mid-held at-hand (at-hand .good .0) (at-hand .good .1)) (openRec 1) (omega arith)
+
+    same-place : firstFree (c .accs) ≡ firstFree (b .accs)
+    same-place = ap firstFree (purged-accs access b)
+
+    id-found : (id : ℕ) → id ≡ nextId xs f → id ≡ freeId (c .accs)
+    id-found id i = i ∙ next-id-is xs f (b .accs) eight own-rows ∙ ap freeId (sym (purged-accs access b))
+
+    pub writer-in : (share acc id : ℕ) (r : Ring) (xs′ blocks′ : List ℕ) → Writes access b → acc ≡ freePlace xs f → id ≡ nextId xs f → r ≡ ring.put (x .ring)
+        → blocks′ ≡ sets blocks (shareBytes * f) (inscribed (x .words) (x .ring) (recOf 1 id []) (own.shareAt f blocks))
+        → xs′ ≡ fill xs (rowAt (placeRow (places * f + acc))) (placeWords (newRow 2 id share))
+        → Mid Fine f start xs′ blocks′ buffers (record { words = x .words; ring = r }) (enter (newAcc true id share) (putRec (openRec id) c))
+    unfolding placeWords image.placeWords newAcc placeOf shareAt openRec freeId putRec say withStore
+    writer-in share acc id r xs′ blocks′ h a i er eb w =
+        let u : 1 ≤ id = omega (arith, id-found id i, free-id places 1 (c .accs)) in
+        rw (w, eb, er, a, place-found, ← same-place)
+        (mid-enter {J = Fine} (mid-put {J = λ _. Unit {0}} at-hand (at-hand .good .0) (at-hand .good .1) (openRec id) tt (laws.mid-put f hf s (openRec id) c (at-hand .allots)))
+        (newAcc true id share) (newRow 2 id share) (omega (arith, same-place, free-below (h .0))) refl (fine-walks .joins access id share b u (h .1) (began .good)) refl)
+
+    pub writer-done : (share acc id : ℕ) (xs′ blocks′ buffers′ : List ℕ) → acc ≡ freePlace xs f → id ≡ nextId xs f
+        → ((r : Reply) → Outcome f d s (leaves r (settle (enter (newAcc true id share) (putRec (openRec id) c)))) blocks buffers xs′ blocks′ buffers′)
+        → Done f d s (openWriter share c) blocks buffers xs′ blocks′ buffers′ (Opened acc id)
+    unfolding openWriter done leaves
+    writer-done share acc id xs′ blocks′ buffers′ a i out =
+        subst (λ (n : ℕ). Done f d s (done (Opened (firstFree (c .accs)) n) (settle (enter (newAcc true n share) (putRec (openRec n) c)))) blocks buffers xs′ blocks′ buffers′ (Opened acc id)) (id-found id i)
+        record { outcome = out _; reply = ap (λ (n : ℕ). answers (Opened n id) []) (same-place ∙ sym (a ∙ place-found)) }

@@ -1,0 +1,37 @@
+-- What open works on, and what it makes of the file in hand.
+use Prim.Native.Nat.{ℕ, _<_}
+use mathlib.Core.Path.{_≡_}
+use mathlib.Core.Bool.{true, false, _&&_}
+use mathlib.Core.List.{List}
+use lib.Dec.{eqb}
+use Rattle.segment.specs.Fields.{fileAt}
+use Rattle.rules.specs.Limits.{files, places}
+use Rattle.rules.specs.State.{Built, built}
+use Rattle.rules.specs.Requests.{opened}
+use Rattle.rules.specs.Open.{roomToOpen}
+use Rattle.rules.specs.Desk.{Desk, fileOf}
+use Rattle.rules.specs.Allocation.{Alloc}
+use Rattle.blocks.specs.Ring as ring
+use Rattle.memory.specs.Fine.{StandsFor}
+use Rattle.judges.specs.Sides.{countSide}
+use Rattle.midst.specs.declared.File.{File}
+use Rattle.midst.specs.File.{fileOfRow}
+
+-- whatever desk the memories stand for, its file f is built, and K holds of it
+abbrev pub Each : (Built → Type 0) → ℕ → List ℕ → List ℕ → List ℕ → Type 0
+Each K f xs blocks buffers = (d : Desk) (s : Alloc) → StandsFor xs blocks buffers d s → (f < files) × (b : Built) × (fileOf d f ≡ built b) × K b
+
+-- a place is free, and for a writer there is room for its open record
+abbrev pub Reads : Built → Type 0
+Reads b = opened b < places
+
+abbrev pub Writes : ℕ → Built → Type 0
+Writes access b = (opened b < places) × (roomToOpen access b ≡ true)
+
+-- all records of a file in hand gone
+abbrev pub emptied : File → File
+emptied x = record { words = x .words; ring = ring.purged (x .ring) }
+
+-- file f, in hand: access 1 "purges if no accessor is open"
+unfoldable pub taken : List ℕ → ℕ → ℕ → File
+taken xs f access = elim (eqb access 1 && eqb (countSide xs f 0) places) [ true ↦ emptied (fileOfRow (fileAt xs f)) | false ↦ fileOfRow (fileAt xs f) ]

@@ -1,0 +1,132 @@
+// An accessor enters: a reader, or a writer with its open record.
+ghost use mathlib.Core.Path.{_≡_};
+ghost use Prim.Native.Nat.{_+_, _*_, _<_};
+ghost use lib.ListN.{length};
+ghost use Rattle.segment.specs.Layout.{segmentBytes, rowAt, placeRow};
+ghost use Rattle.segment.specs.Table.{fill};
+ghost use Rattle.segment.specs.Fields.{placeWords, fileAt};
+ghost use Rattle.rules.specs.Limits.{files, places};
+ghost use Rattle.rules.specs.State.{Built, built};
+ghost use Rattle.rules.specs.Reply.{Reply, leaves};
+ghost use Rattle.rules.specs.Settle.{settle};
+ghost use Rattle.rules.specs.Open.{purged, openReader, openWriter};
+ghost use Rattle.rules.specs.Desk.{Desk, fileOf};
+ghost use Rattle.rules.specs.Allocation.{Alloc};
+ghost use Rattle.blocks.specs.Ring.{Ranged};
+ghost use Rattle.memory.specs.Stands.{Bodies};
+ghost use Rattle.memory.specs.Fine.{Fine, StandsFor};
+ghost use Rattle.midst.specs.File.{fileOfRow};
+ghost use Rattle.midst.specs.Mid.{Start, Mid};
+ghost use Rattle.midst.specs.Outcome.{Sound, Outcome, Done};
+ghost use Rattle.opening.specs.Finding.{newRow};
+ghost use Rattle.opening.specs.Opens.{Each, Reads, Writes, taken};
+ghost use Rattle.settling.specs.Turns.{Amid};
+use crate::finding::free_id;
+use crate::finding::free_place;
+use blocks::memory::put_at;
+use judges::sides::CLOSED;
+use judges::sides::READER;
+use judges::sides::WRITER;
+use judges::sides::count_side;
+use kinds::Answer;
+use kinds::limits::PLACES;
+use midst::File;
+use midst::put_file;
+use midst::take_file;
+use segment::PlaceRow;
+use settling::settle;
+
+// The access that purges, and the type of an open record.
+const PURGES: u8 = 1;
+
+const OPEN: u16 = 1;
+
+// The row of place `acc` of file f is that of an accessor that enters.
+fn enter(segment: &mut [u8], f: usize, acc: u8, side: u16, id: u16, share: u16)
+    requires { ⌜ (length (now segment) ≡ segmentBytes) × (f < files) × (acc < places) ⌝ }
+    ensures { λ _. ⌜ now (segment .exit) ≡ fill (now (segment .entry)) (rowAt (placeRow (places * f + acc))) (placeWords (newRow side id share)) ⌝ }
+{
+    let row = PlaceRow {
+        side,
+        id,
+        share,
+        timeout: 0,
+        extended: 0,
+        typed: 0,
+        keep: 0,
+        first: 1,
+    };
+    segment::write_place(segment, PLACES * f + acc as usize, row);
+}
+
+// File f in hand, for a writer: access 1 "purges if no accessor is open, else appends".
+fn take(segment: &[u8], f: usize, access: u8) -> File
+    requires { ⌜ (length (now segment) ≡ segmentBytes) × (f < files) × Ranged (fileOfRow (fileAt (now segment) f) .ring) ⌝ }
+    ensures { λ r. ⌜ r ≡ taken (now (segment .entry)) f access ⌝ }
+{
+    let file = take_file(segment, f);
+    if access != PURGES {
+        return file;
+    }
+    if count_side(segment, f, CLOSED) != PLACES as u16 {
+        return file;
+    }
+    let ring = file.ring;
+    File {
+        words: file.words,
+        ring: ring.purged(),
+    }
+}
+
+// What is left of a call that settles: the file settles, and goes back into its row.
+fn rest(segment: &mut [u8], blocks: &mut [u8], buffers: &mut [u8], f: usize, file: File)
+    requires { ⌜ Amid f (now segment) (now blocks) (now buffers) file ⌝ }
+    ensures { λ _. ⌜ ((o : Start) (b : Built) → Mid Fine f o (now (segment .entry)) (now (blocks .entry)) (now (buffers .entry)) file b → Bodies (o .blocks) (o .buffers) (o .desk) → (r : Reply) → Outcome f (o .desk) (o .alloc) (leaves r (settle b)) (o .blocks) (o .buffers) (now (segment .exit)) (now (blocks .exit)) (now (buffers .exit))) ⌝ }
+{
+    let settled = settle(segment, blocks, buffers, f, file);
+    put_file(segment, f, settled);
+}
+
+// A reader enters, with this share.
+pub fn open_reader(
+    segment: &mut [u8],
+    blocks: &mut [u8],
+    buffers: &mut [u8],
+    f: usize,
+    share: u16,
+) -> Answer
+    requires { ⌜ Sound (now segment) (now blocks) (now buffers) × Each Reads f (now segment) (now blocks) (now buffers) ⌝ }
+    ensures { λ r. ⌜ ((d : Desk) (s : Alloc) (b : Built) → StandsFor (now (segment .entry)) (now (blocks .entry)) (now (buffers .entry)) d s → fileOf d f ≡ built b → Done f d s (openReader share b) (now (blocks .entry)) (now (buffers .entry)) (now (segment .exit)) (now (blocks .exit)) (now (buffers .exit)) r) ⌝ }
+{
+    let acc = free_place(segment, f);
+    let file = take_file(segment, f);
+    enter(segment, f, acc, READER, 0, share);
+    rest(segment, blocks, buffers, f, file);
+    Answer::Opened { acc, id: 0 }
+}
+
+// "A writer puts an open record."
+pub fn open_writer(
+    segment: &mut [u8],
+    blocks: &mut [u8],
+    buffers: &mut [u8],
+    f: usize,
+    access: u8,
+    share: u16,
+) -> Answer
+    requires { ⌜ Sound (now segment) (now blocks) (now buffers) × Each (Writes access) f (now segment) (now blocks) (now buffers) ⌝ }
+    ensures { λ r. ⌜ ((d : Desk) (s : Alloc) (b : Built) → StandsFor (now (segment .entry)) (now (blocks .entry)) (now (buffers .entry)) d s → fileOf d f ≡ built b → Done f d s (openWriter share (purged access b)) (now (blocks .entry)) (now (buffers .entry)) (now (segment .exit)) (now (blocks .exit)) (now (buffers .exit)) r) ⌝ }
+{
+    let acc = free_place(segment, f);
+    let id = free_id(segment, f);
+    let file = take(segment, f, access);
+    let nothing = [0u8; 0];
+    let ring = put_at(blocks, f, file.ring, file.words, OPEN, id, &nothing);
+    enter(segment, f, acc, WRITER, id, share);
+    let written = File {
+        words: file.words,
+        ring,
+    };
+    rest(segment, blocks, buffers, f, written);
+    Answer::Opened { acc, id }
+}

@@ -1,0 +1,86 @@
+// Build and open. What is asked has been judged and is not refused; here it is done.
+ghost use mathlib.Core.Path.{_≡_};
+ghost use Rattle.rules.specs.Open.{shareOf};
+ghost use Rattle.rules.specs.Calls.{ask};
+ghost use Rattle.rules.specs.Calls as calls;
+ghost use Rattle.rules.specs.Desk.{Desk, fileOf};
+ghost use Rattle.rules.specs.Allocation.{Alloc};
+ghost use Rattle.memory.specs.Fine.{StandsFor};
+ghost use Rattle.midst.specs.Outcome.{Sound, Accepted, Done};
+
+mod entering;
+mod finding;
+
+use blocks::memory::clear;
+use entering::open_reader;
+use entering::open_writer;
+use geometry::capacity;
+use geometry::data_blocks;
+use kinds::Answer;
+use kinds::limits::BUFFER_BYTES;
+use kinds::limits::PLACES;
+use segment::FileRow;
+
+// "Access 0 reads".
+const READS: u8 = 0;
+
+// The bytes of a file's record buffers.
+const FILE_BUFFERS: usize = PLACES * BUFFER_BYTES;
+
+// File f is built: "Build and load zero the share", and its buffers too, of which nothing is known before.
+pub fn build(
+    segment: &mut [u8],
+    blocks: &mut [u8],
+    buffers: &mut [u8],
+    f: usize,
+    words: u16,
+    factor: u8,
+    records: u16,
+    extents: u8,
+) -> Answer
+    requires { ⌜ Sound (now segment) (now blocks) (now buffers) × Accepted f (calls.build words factor records extents) (now segment) (now blocks) (now buffers) ⌝ }
+    ensures { λ r. ⌜ ((d : Desk) (s : Alloc) → StandsFor (now (segment .entry)) (now (blocks .entry)) (now (buffers .entry)) d s → Done f d s (ask (fileOf d f) (calls.build words factor records extents)) (now (blocks .entry)) (now (buffers .entry)) (now (segment .exit)) (now (blocks .exit)) (now (buffers .exit)) r) ⌝ }
+{
+    let count = data_blocks(records, factor, extents);
+    let row = FileRow {
+        words,
+        factor: factor as u16,
+        blocks: count,
+        block: 0,
+        spent: 0,
+        held: 0,
+    };
+    clear(blocks, f);
+    words::zero(buffers, FILE_BUFFERS * f, FILE_BUFFERS);
+    segment::write_file(segment, f, row);
+    Answer::Built {
+        capacity: capacity(factor, count),
+    }
+}
+
+// "Share 0 counts as 1".
+fn share_of(share: u8) -> u16
+    ensures { λ r. ⌜ r ≡ shareOf share ⌝ }
+{
+    if share == 0 { 1 } else { share as u16 }
+}
+
+// An accessor of file f is opened: access 0 reads, any other writes. Multiaccess has been judged, and nothing goes by it here.
+pub fn open(
+    segment: &mut [u8],
+    blocks: &mut [u8],
+    buffers: &mut [u8],
+    f: usize,
+    access: u8,
+    share: u8,
+    multi: u8,
+) -> Answer
+    requires { ⌜ Sound (now segment) (now blocks) (now buffers) × Accepted f (calls.opens access share multi) (now segment) (now blocks) (now buffers) ⌝ }
+    ensures { λ r. ⌜ ((d : Desk) (s : Alloc) → StandsFor (now (segment .entry)) (now (blocks .entry)) (now (buffers .entry)) d s → Done f d s (ask (fileOf d f) (calls.opens access share multi)) (now (blocks .entry)) (now (buffers .entry)) (now (segment .exit)) (now (blocks .exit)) (now (buffers .exit)) r) ⌝ }
+{
+    let given = share_of(share);
+    if access == READS {
+        return open_reader(segment, blocks, buffers, f, given);
+    }
+    open_writer(segment, blocks, buffers, f, access, given)
+}

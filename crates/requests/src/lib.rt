@@ -1,0 +1,111 @@
+// Requests in the segment: one begins to wait, completes, is cancelled, is collected, and its timer goes with it.
+// The callers know that a free entry is there to take and that the request stands where it is looked for.
+ghost use mathlib.Core.Path.{_≡_};
+ghost use Prim.Native.Nat.{_<_};
+ghost use lib.ListN.{length};
+ghost use Rattle.rules.specs.Limits.{entries};
+ghost use Rattle.segment.specs.Layout.{listCount, segmentBytes, freeList, replyPort, timerList};
+ghost use Rattle.segment.specs.Table.{nth};
+ghost use Rattle.segment.specs.Fields.{entryWords};
+ghost use Rattle.requests.specs.Moves.{entryOf, out, armed, queued, waiting, disarmed, completed, cancelled, collected};
+use segment::Entry;
+use segment::layout;
+
+// A timer of so many seconds for a place, behind all that have as little left.
+fn arm(s: &mut [u8], place: u16, seconds: u16)
+    requires { ⌜ length (now s) ≡ segmentBytes ⌝ }
+    requires { ⌜ nth (now s) freeList < entries ⌝ }
+    ensures { λ _. ⌜ now (s .exit) ≡ armed (now (s .entry)) place seconds ⌝ }
+{
+    let m = Entry {
+        place,
+        unit: 0,
+        limit: 0,
+        keep: 0,
+        status: 0,
+        log: 0,
+        size: 0,
+        seconds,
+    };
+    let e = ports::take_entry(s, m);
+    let p = ports::seek_over(s, layout::TIMER_LIST, seconds);
+    ports::insert_at(s, p, e);
+}
+
+// The request m goes in at the end of list l.
+fn queue(s: &mut [u8], l: usize, m: Entry)
+    requires { ⌜ length (now s) ≡ segmentBytes ⌝ }
+    requires { ⌜ (l < listCount) × (nth (now s) freeList < entries) ⌝ }
+    ensures { λ _. ⌜ now (s .exit) ≡ queued (now (s .entry)) l (entryWords m) ⌝ }
+{
+    let e = ports::take_entry(s, m);
+    ports::append_to(s, l, e);
+}
+
+// The request m begins to wait in list l, with a timer unless it has 0 seconds.
+pub fn wait(s: &mut [u8], l: usize, m: Entry, seconds: u16)
+    requires { ⌜ length (now s) ≡ segmentBytes ⌝ }
+    requires { ⌜ (l < listCount) × (nth (now s) freeList < entries) × (nth (queued (now s) l (entryWords m)) freeList < entries) ⌝ }
+    ensures { λ _. ⌜ now (s .exit) ≡ waiting (now (s .entry)) l (entryWords m) (m .place) seconds ⌝ }
+{
+    let place = m.place;
+    queue(s, l, m);
+    if seconds != 0 {
+        arm(s, place, seconds);
+    }
+}
+
+// The entry of a place in list l, which is taken out.
+fn take_out(s: &mut [u8], l: usize, place: u16) -> u16
+    requires { ⌜ length (now s) ≡ segmentBytes ⌝ }
+    requires { ⌜ l < listCount ⌝ }
+    ensures { λ r. ⌜ (r ≡ entryOf (now (s .entry)) l place) × (now (s .exit) ≡ out (now (s .entry)) l place) ⌝ }
+{
+    let p = ports::seek_place(s, l, place);
+    ports::unlink_at(s, p)
+}
+
+// The timer of a place goes, if there is one.
+fn disarm(s: &mut [u8], place: u16)
+    requires { ⌜ length (now s) ≡ segmentBytes ⌝ }
+    ensures { λ _. ⌜ now (s .exit) ≡ disarmed (now (s .entry)) place ⌝ }
+{
+    let e = take_out(s, layout::TIMER_LIST, place);
+    if e < layout::ENTRIES {
+        ports::release_entry(s, e);
+    }
+}
+
+// The request of m's place, which waits in list l, is completed as m: it stands on the place's reply port.
+pub fn complete(s: &mut [u8], l: usize, m: Entry)
+    requires { ⌜ length (now s) ≡ segmentBytes ⌝ }
+    requires { ⌜ (l < listCount) × (m .place < 64) × (entryOf (now s) l (m .place) < entries) ⌝ }
+    ensures { λ _. ⌜ now (s .exit) ≡ completed (now (s .entry)) l (m .place) (entryWords m) ⌝ }
+{
+    let place = m.place;
+    let e = take_out(s, l, place);
+    disarm(s, place);
+    segment::write_entry(s, e, m);
+    ports::insert_at(s, layout::REPLY_PORTS + place as usize, e);
+}
+
+// The request of a place, which waits in list l, is gone.
+pub fn cancel(s: &mut [u8], l: usize, place: u16)
+    requires { ⌜ length (now s) ≡ segmentBytes ⌝ }
+    requires { ⌜ (l < listCount) × (entryOf (now s) l place < entries) ⌝ }
+    ensures { λ _. ⌜ now (s .exit) ≡ cancelled (now (s .entry)) l place ⌝ }
+{
+    let e = take_out(s, l, place);
+    disarm(s, place);
+    ports::release_entry(s, e);
+}
+
+// The completed request of a place is gone from its reply port.
+pub fn collect(s: &mut [u8], place: u16)
+    requires { ⌜ length (now s) ≡ segmentBytes ⌝ }
+    requires { ⌜ (place < 64) × (nth (now s) (replyPort place) < entries) ⌝ }
+    ensures { λ _. ⌜ now (s .exit) ≡ collected (now (s .entry)) place ⌝ }
+{
+    let e = ports::unlink_at(s, layout::REPLY_PORTS + place as usize);
+    ports::release_entry(s, e);
+}

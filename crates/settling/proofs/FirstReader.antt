@@ -1,0 +1,117 @@
+-- The first waiting reader: what the segment says of it, what it finds, and what serving it comes to.
+use Prim.Native.Nat.{ℕ, _+_, _*_, _≤_, _<_}
+use mathlib.Core.Path.{_≡_, refl, sym, ap, ap₂, _∙_, subst}
+use mathlib.Core.Bool.{Bool, true, false, cond}
+use mathlib.Core.List.{List, [], _∷_}
+use mathlib.Core.Option.{Option, none, some}
+use native.Mathlib.Omega.{arith}
+use lib.Dec.{eqb}
+use lib.ListN.{length}
+use lib.Seq.{sets}
+use Rattle.tally.specs.Count.{bit}
+use Rattle.rules.specs.Limits.{files, places, entries, bufferBytes, mostReadBytes}
+use Rattle.rules.specs.State.{Rec, Req, reading, readDone, Acc, Geo, Store, Built}
+use Rattle.rules.specs.Store.{advance, fetch, Found}
+use Rattle.rules.specs.Count.{logOf}
+use Rattle.rules.specs.Requests.{accAt, behind, finish}
+use Rattle.rules.specs.Settle.{handed, readResult, Turn, still, onward, serveReader, atHead}
+use Rattle.rules.specs.Allocation.{placeOf}
+use Rattle.rules.specs.Memories.{lies}
+use Rattle.laws.specs.Outstanding.{waitsRead, waitsWrite}
+use Rattle.laws.specs.Bounds.{Bounded}
+use Rattle.laws.specs.Changes.{readEnds}
+use Rattle.laws.proofs.Bounds.{bounds-at}
+use Rattle.laws.proofs.Cases.{atHead-some}
+use Rattle.laws.proofs.Walk.{behind-at}
+use Rattle.segment.specs.declared.Entry.{Entry}
+use Rattle.segment.specs.declared.PlaceRow.{PlaceRow}
+use Rattle.segment.specs.Layout.{readQueue}
+use Rattle.segment.specs.Table.{nth}
+use Rattle.segment.specs.Fields.{entryOf, entryAt, placeAt, placeRowOf}
+use Rattle.requests.specs.Moves as moves
+use Rattle.memory.specs.Image.{reqOf, reqWords, placeWords}
+use Rattle.memory.specs.Fine.{Fine}
+use Rattle.midst.specs.declared.File as hand
+use Rattle.midst.specs.File.{inHand}
+use Rattle.midst.specs.Mid.{Start, Mid}
+use Rattle.midst.proofs.Begins.{mid-place}
+use Rattle.midst.proofs.Heads.{reads-at, head-none, head-some}
+use Rattle.midst.proofs.Changes.{fine-knows, mid-below}
+use Rattle.midst.proofs.Requests.{step-finish-entry}
+use Rattle.midst.proofs.Lists.{place-under}
+
+-- whether a word is 1, of a bit
+pub bit-one : (w : Bool) → eqb (bit w) 1 ≡ w
+bit-one true = refl
+bit-one false = refl
+
+-- the reader at the head of the queue
+pub record Reader (xs : List ℕ) (f : ℕ) (b : Built) : Type 0 where
+  pub place : ℕ
+  pub rest : List ℕ
+  pub acc : Acc
+  pub words : Bool
+  pub limit : ℕ
+  pub keep : Bool
+  pub first : b .rq ≡ place ∷ rest
+  pub opens : accAt b place ≡ some acc
+  pub asks : acc .req ≡ reading words limit keep
+  pub entry : entryAt xs (nth xs (readQueue f)) ≡ record { place = placeOf f place; unit = bit words; limit = limit; keep = bit keep; status = 0; log = 0; size = 0; seconds = 0 }
+
+module _ {f : ℕ} {o : Start} {xs blocks buffers : List ℕ} {x : hand.File} {b : Built} (M : Mid Fine f o xs blocks buffers x b) where
+  reader-at : (p : ℕ) (rest : List ℕ) → b .rq ≡ p ∷ rest → Reader xs f b
+  unfolding entryOf reqWords reqOf
+  reader-at p rest q =
+      let (a, w, l, k, e, r) = reads-at b p rest (M .good .queues) q in
+      record {
+        place = p;
+        rest = rest;
+        acc = a;
+        words = w;
+        limit = l;
+        keep = k;
+        first = q;
+        opens = e;
+        asks = r;
+        entry = unfold entryAt in ap entryOf (head-some M false p rest q .1 ∙ ap (reqWords (placeOf f p)) (ap reqOf e ∙ r));
+      }
+
+  -- there is one exactly where the head is an entry's number
+  pub reader-or : (P : List ℕ → Type 0) → (entries ≤ nth xs (readQueue f) → b .rq ≡ [] → P []) → ((r : Reader xs f b) → nth xs (readQueue f) < entries → P (b .rq)) → P (b .rq)
+  reader-or P n s = go (b .rq) refl
+    where
+      go : (l : List ℕ) → b .rq ≡ l → P l
+      go [] e = n (head-none M false e) e
+      go (p ∷ rest) e = subst P e (s (reader-at p rest e) (head-some M false p rest e .0))
+
+  pub reader-of : nth xs (readQueue f) < entries → Reader xs f b
+  reader-of h = reader-or (λ _. Reader xs f b) (λ n _. absurd (omega arith)) (λ r _. r)
+
+  module _ (r : Reader xs f b) where
+    pub reader-below : r .place < places
+    reader-below = mid-below M (r .place) (r .acc) (r .opens)
+
+    pub reader-place : placeOf f (r .place) < 64
+    reader-place = place-under f (r .place) (M .file) reader-below
+
+    -- control 46, as its row has it
+    pub reader-typed : (m : Entry) (row : PlaceRow) → m ≡ entryAt xs (nth xs (readQueue f)) → row ≡ placeAt xs (m .place) → eqb (row .typed) 1 ≡ r .acc .typed
+    unfolding placeRowOf placeWords
+    reader-typed m row e u =
+        ap (λ (y : PlaceRow). eqb (y .typed) 1)
+        (u ∙ ap (placeAt xs) (ap (λ (n : Entry). n .place) (e ∙ r .entry)) ∙ mid-place M (r .place) reader-below ∙ ap (λ (z : Option Acc). placeRowOf (placeWords z)) (r .opens))
+        ∙ bit-one (r .acc .typed)
+
+    pub reader-short : r .limit ≤ mostReadBytes
+    unfolding Bounded
+    reader-short = bounds-at (r .place) (r .acc) _ b (r .opens) (r .asks) (M .good .bounds)
+
+    pub reader-entry : moves.entryOf xs (readQueue f) (placeOf f (r .place)) < entries
+    unfolding waitsRead waitsWrite
+    reader-entry = step-finish-entry fine-knows M (r .place) (r .acc) (r .opens) false 0 _ (readDone 0 0 []) (r .asks) refl (readEnds (omega arith) (omega arith))
+
+    pub reader-under : (e : ℕ) (m : Entry) → e ≡ nth xs (readQueue f) → m ≡ entryAt xs e → m .place < 64
+    reader-under e m at em = subst (λ (n : Entry). n .place < 64) (sym (em ∙ ap (entryAt xs) at ∙ r .entry)) reader-place
+
+    pub reader-found : (e : ℕ) (m : Entry) → e ≡ nth xs (readQueue f) → m ≡ entryAt xs e → moves.entryOf xs (readQueue f) (m .place) < entries
+    reader-found e m at em = subst (λ (n : Entry). moves.entryOf xs (readQueue f) (n .place) < entries) (sym (em ∙ ap (entryAt xs) at ∙ r .entry)) reader-entry

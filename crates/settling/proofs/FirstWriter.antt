@@ -1,0 +1,136 @@
+-- The first waiting writer: what the segment and its buffer say of it.
+use Prim.Native.Nat.{ℕ, _+_, _-_, _*_, _≤_, _<_}
+use mathlib.Core.Path.{_≡_, refl, sym, ap, ap₂, _∙_, subst}
+use mathlib.Core.Bool.{Bool, true, false}
+use mathlib.Core.List.{List, [], _∷_, _++_}
+use mathlib.Core.Option.{Option, none, some}
+use native.Mathlib.Omega.{arith}
+use lib.ListN.{length, take, getD}
+use lib.Seq.{take-append-seam}
+use Rattle.tally.specs.Count.{bit}
+use Rattle.words.specs.Word.{zeros}
+use Rattle.rules.specs.Limits.{files, places, entries, bufferBytes, mostWords}
+use Rattle.rules.specs.State.{Req, writing, writeDone, Acc, Built}
+use Rattle.rules.specs.Requests.{accAt, writers, fits, room}
+use Rattle.rules.specs.Store.{used}
+use Rattle.rules.specs.Allocation.{placeOf}
+use Rattle.rules.specs.Memories.{lies, buffer}
+use Rattle.laws.specs.Outstanding.{waitsRead, waitsWrite}
+use Rattle.laws.specs.Bounds.{Bounded}
+use Rattle.laws.specs.Changes.{writeEnds}
+use Rattle.laws.proofs.Bounds.{bounds-at, length-buffer}
+use Rattle.segment.specs.declared.Entry.{Entry}
+use Rattle.segment.specs.declared.PlaceRow.{PlaceRow}
+use Rattle.segment.specs.Layout.{writeQueue, rowAt, rowWords, placeRow}
+use Rattle.segment.specs.Table.{nth, row}
+use Rattle.segment.specs.Fields.{entryOf, entryAt, placeAt, placeRowOf}
+use Rattle.requests.specs.Moves as moves
+use Rattle.buffers.specs.Buffer as code
+use Rattle.judges.specs.Sides.{countSide}
+use Rattle.judges.proofs.Counted.{count-writers}
+use Rattle.memory.specs.Image.{reqOf, reqWords, placeWords}
+use Rattle.memory.specs.Stands.{bufferAt}
+use Rattle.memory.specs.Fine.{Fine}
+use Rattle.memory.proofs.Frames.{bufferAt-is}
+use Rattle.midst.specs.declared.File as hand
+use Rattle.midst.specs.Mid.{Start, Mid}
+use Rattle.midst.proofs.Begins.{mid-row, mid-place}
+use Rattle.midst.proofs.Heads.{writes-at, head-none, head-some}
+use Rattle.midst.proofs.Changes.{fine-knows, mid-below}
+use Rattle.midst.proofs.Requests.{step-finish-entry}
+use Rattle.midst.proofs.Lists.{place-under}
+use Rattle.settling.specs.Turns.{dataOf, fitsRing}
+
+-- the writer at the head of the queue
+pub record Writer (xs : List ℕ) (f : ℕ) (b : Built) : Type 0 where
+  pub place : ℕ
+  pub rest : List ℕ
+  pub acc : Acc
+  pub words : Bool
+  pub bytes : List ℕ
+  pub first : b .wq ≡ place ∷ rest
+  pub opens : accAt b place ≡ some acc
+  pub asks : acc .req ≡ writing words bytes
+  pub entry : entryAt xs (nth xs (writeQueue f)) ≡ record { place = placeOf f place; unit = bit words; limit = 0; keep = 0; status = 0; log = 0; size = length bytes; seconds = 0 }
+
+module _ {f : ℕ} {o : Start} {xs blocks buffers : List ℕ} {x : hand.File} {b : Built} (M : Mid Fine f o xs blocks buffers x b) where
+  writer-at : (p : ℕ) (rest : List ℕ) → b .wq ≡ p ∷ rest → Writer xs f b
+  unfolding entryOf reqWords reqOf
+  writer-at p rest q =
+      let (a, w, d, e, r) = writes-at b p rest (M .good .queues) q in
+      record {
+        place = p;
+        rest = rest;
+        acc = a;
+        words = w;
+        bytes = d;
+        first = q;
+        opens = e;
+        asks = r;
+        entry = unfold entryAt in ap entryOf (head-some M true p rest q .1 ∙ ap (reqWords (placeOf f p)) (ap reqOf e ∙ r));
+      }
+
+  -- there is one exactly where the head is an entry's number
+  pub writer-or : (P : List ℕ → Type 0) → (entries ≤ nth xs (writeQueue f) → b .wq ≡ [] → P []) → ((r : Writer xs f b) → nth xs (writeQueue f) < entries → P (b .wq)) → P (b .wq)
+  writer-or P n s = go (b .wq) refl
+    where
+      go : (l : List ℕ) → b .wq ≡ l → P l
+      go [] e = n (head-none M true e) e
+      go (p ∷ rest) e = subst P e (s (writer-at p rest e) (head-some M true p rest e .0))
+
+  pub writer-of : nth xs (writeQueue f) < entries → Writer xs f b
+  writer-of h = writer-or (λ _. Writer xs f b) (λ n _. absurd (omega arith)) (λ r _. r)
+
+  -- "used + W + 1 ≤ C", as the code has it
+  pub fits-is : fitsRing (x .ring) (countSide xs f 2) ≡ fits b
+  unfolding fitsRing fits used room
+  fits-is =
+      ap₂ {C = Bool} fitsRing (ap (λ (y : hand.File). y .ring) (M .row)) (count-writers xs f b (M .allots .matches .agrees .eight) (mid-row M))
+
+  module _ (r : Writer xs f b) where
+    writer-below : r .place < places
+    writer-below = mid-below M (r .place) (r .acc) (r .opens)
+
+    pub writer-place : placeOf f (r .place) < 64
+    writer-place = place-under f (r .place) (M .file) writer-below
+
+    pub writer-id : (m : Entry) (row : PlaceRow) → m ≡ entryAt xs (nth xs (writeQueue f)) → row ≡ placeAt xs (m .place) → row .id ≡ r .acc .ident
+    unfolding placeRowOf placeWords
+    writer-id m row e u =
+        ap (λ (y : PlaceRow). y .id)
+        (u ∙ ap (placeAt xs) (ap (λ (n : Entry). n .place) (e ∙ r .entry)) ∙ mid-place M (r .place) writer-below ∙ ap (λ (z : Option Acc). placeRowOf (placeWords z)) (r .opens))
+
+    pub writer-short : length (r .bytes) ≤ 2 * b .geo .words
+    unfolding Bounded
+    writer-short = bounds-at (r .place) (r .acc) _ b (r .opens) (r .asks) (M .good .bounds)
+
+    writer-entry : moves.entryOf xs (writeQueue f) (placeOf f (r .place)) < entries
+    unfolding waitsRead waitsWrite
+    writer-entry = step-finish-entry fine-knows M (r .place) (r .acc) (r .opens) true 0 _ (writeDone 0 0) (r .asks) refl (writeEnds (omega arith))
+
+    -- its data lie in its buffer
+    writer-buffer : bufferAt (placeOf f (r .place)) buffers ≡ buffer (accAt b (r .place))
+    unfolding accAt placeOf
+    writer-buffer =
+        bufferAt-is f buffers (b .accs) (M .allots .matches .agrees .eight)
+        (λ y k. length-buffer (b .geo .words) (getD (b .accs) y none) (M .good .room .geo .words-high) (M .good .bounds y)) (M .buffer) (r .place) writer-below
+
+    module _ (e : ℕ) (m : Entry) (at : e ≡ nth xs (writeQueue f)) (em : m ≡ entryAt xs e) where
+      pub writer-is : m ≡ record { place = placeOf f (r .place); unit = bit (r .words); limit = 0; keep = 0; status = 0; log = 0; size = length (r .bytes); seconds = 0 }
+      writer-is = em ∙ ap (entryAt xs) at ∙ r .entry
+
+      pub writer-under : m .place < 64
+      writer-under = subst (λ (n : Entry). n .place < 64) (sym writer-is) writer-place
+
+      pub writer-found : moves.entryOf xs (writeQueue f) (m .place) < entries
+      writer-found = subst (λ (n : Entry). moves.entryOf xs (writeQueue f) (n .place) < entries) (sym writer-is) writer-entry
+
+      pub writer-size : m .size ≤ bufferBytes
+      writer-size = omega (arith, ap (λ (n : Entry). n .size) writer-is, writer-short, M .good .room .geo .words-high)
+
+      pub writer-data : dataOf m buffers ≡ r .bytes
+      unfolding bufferAt buffer lies
+      writer-data =
+          ap (λ (n : Entry). take (n .size) (code.bufferAt (n .place) buffers)) writer-is
+          ∙ ap (take (length (r .bytes))) (writer-buffer ∙ ap buffer (r .opens) ∙ ap (λ (q : Req). lies q ++ zeros (bufferBytes - length (lies q))) (r .asks))
+          ∙ take-append-seam (r .bytes) (zeros (bufferBytes - length (r .bytes)))

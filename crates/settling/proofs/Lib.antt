@@ -1,0 +1,8 @@
+pub mod Laws
+pub mod FirstReader
+pub mod Serves
+pub mod ReadTurns
+pub mod FirstWriter
+pub mod WriteTurns
+pub mod Rests
+pub mod Loops

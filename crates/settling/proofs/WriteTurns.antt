@@ -1,0 +1,136 @@
+-- The exits of a writer's turn, from what the functions that it calls give.
+use Prim.Native.Nat.{ℕ, _*_, _≤_, _<_}
+use mathlib.Core.Path.{_≡_, refl, sym, ap, ap₂, _∙_, subst}
+use mathlib.Core.Bool.{Bool, true, false}
+use mathlib.Core.List.{List, [], _∷_}
+use mathlib.Core.Option.{some}
+use native.Mathlib.Omega.{arith}
+use lib.ListN.{length}
+use lib.Seq.{sets}
+use Rattle.words.specs.Word.{zeros}
+use Rattle.tally.specs.Count.{bit}
+use Rattle.rules.specs.Limits.{entries, bufferBytes, shareBytes}
+use Rattle.rules.specs.State.{Rec, Req, writing, writeDone, Acc, Geo, Built}
+use Rattle.rules.specs.Count.{logOf}
+use Rattle.rules.specs.Requests.{accAt, fits, withStore, say, putRec, finish}
+use Rattle.rules.specs.Settle.{dataRec, serveWriter, atHead, still}
+use Rattle.rules.specs.Allocation.{placeOf}
+use Rattle.rules.specs.Memories.{lies}
+use Rattle.shares.proofs.Image.{recordWords-most}
+use Rattle.laws.specs.Outstanding.{waitsRead, waitsWrite}
+use Rattle.laws.specs.Changes.{writeEnds}
+use Rattle.laws.specs.Midst as laws
+use Rattle.laws.proofs.Walk.{put-at}
+use Rattle.laws.proofs.Midst.{mid-walks}
+use Rattle.segment.specs.declared.Entry.{Entry}
+use Rattle.segment.specs.declared.PlaceRow.{PlaceRow}
+use Rattle.segment.specs.Layout.{writeQueue}
+use Rattle.segment.specs.Table.{nth}
+use Rattle.segment.specs.Fields.{entryAt, placeAt}
+use Rattle.requests.specs.Moves.{completed}
+use Rattle.blocks.specs.declared.ring.Ring.{Ring}
+use Rattle.blocks.specs.Ring as ring
+use Rattle.blocks.specs.Writing.{recOf, Ready, inscribed}
+use Rattle.blocks.proofs.Held.{held-ready}
+use Rattle.judges.specs.Sides.{countSide}
+use Rattle.memory.specs.Image.{reqWords}
+use Rattle.memory.specs.Stands.{shareAt}
+use Rattle.memory.specs.Fine.{Fine}
+use Rattle.midst.specs.declared.File as hand
+use Rattle.midst.specs.Mid.{Start, Mid}
+use Rattle.midst.proofs.Changes.{fine-knows, clear}
+use Rattle.midst.proofs.Terms.{waitsAt}
+use Rattle.midst.proofs.Requests.{step-finish}
+use Rattle.midst.proofs.Stores.{mid-held, mid-put}
+use Rattle.midst.proofs.Walks.{fine-walks}
+use Rattle.settling.specs.declared.Turn as code
+use Rattle.settling.specs.Turns.{Served, wroteWords, fitsRing, dataOf}
+use Rattle.settling.proofs.FirstReader.{bit-one}
+use Rattle.settling.proofs.FirstWriter.{Writer, writer-or, fits-is, writer-id, writer-short, writer-is, writer-data}
+use Rattle.settling.proofs.ReadTurns.{inHold, still-served, onward-served}
+use Rattle.settling.proofs.Serves.{writes-none, writes-some}
+
+module _ {f : ℕ} {o : Start} {xs blocks buffers : List ℕ} {x : hand.File} {b : Built} (M : Mid Fine f o xs blocks buffers x b) where
+  -- nobody waits
+  pub turn-nobody : (e : ℕ) → e ≡ nth xs (writeQueue f) → entries ≤ e → Served f o xs blocks buffers (record { moved = false; file = x }) (atHead serveWriter (b .wq) b)
+  unfolding atHead
+  turn-nobody e q h =
+      writer-or M (λ (l : List ℕ). Served f o xs blocks buffers (record { moved = false; file = x }) (atHead serveWriter l b))
+      (λ _ _. still-served f o xs blocks buffers x b M) (λ r k. absurd (omega arith))
+
+  module _ (r : Writer xs f b) where
+    -- no room
+    pub turn-full : fitsRing (x .ring) (countSide xs f 2) ≡ false → Served f o xs blocks buffers (record { moved = false; file = x }) (atHead serveWriter (b .wq) b)
+    turn-full h =
+        subst (Served f o xs blocks buffers (record { moved = false; file = x }))
+        (sym (writes-none b (r .place) (r .rest) (r .acc) (r .opens) (r .words) (r .bytes) (r .first) (r .asks) (sym (fits-is M) ∙ h)))
+        (still-served f o xs blocks buffers x b M)
+
+    -- what a put of its data asks
+    module _ (e : ℕ) (m : Entry) (at : e ≡ nth xs (writeQueue f)) (em : m ≡ entryAt xs e) where
+      pub data-ready : Ready (x .words) (x .ring) (shareAt f blocks) (length (dataOf m buffers))
+      unfolding dataRec
+      data-ready =
+          let d : Rec = dataRec (r .acc) (r .bytes) in
+          let w : x .words ≡ b .geo .words = ap (λ (y : hand.File). y .words) (M .row) in
+          subst (λ (zs : List ℕ). Ready (x .words) (x .ring) (shareAt f blocks) (length zs)) (sym (writer-data M r e m at em))
+          (held-ready (x .words) (x .ring) (shareAt f blocks) (mid-held M (M .good .room .geo) (M .good .room .holds)) d
+          (recordWords-most (x .words) d (rw w (writer-short M r))))
+
+      -- it is served
+      module _ (row : PlaceRow) (er : row ≡ placeAt xs (m .place)) (fit : fitsRing (x .ring) (countSide xs f 2) ≡ true) where
+        abbrev d : Rec
+        d = dataRec (r .acc) (r .bytes)
+
+        abbrev B : Built
+        B = putRec d b
+
+        abbrev q : Req
+        q = writeDone 0 (logOf (r .words) (length (r .bytes)))
+
+        fits-now : fits b ≡ true
+        fits-now = sym (fits-is M) ∙ fit
+
+        fine-put : Fine B
+        fine-put = fine-walks .serves (r .place) (r .acc) (r .words) (r .bytes) b (r .opens) (r .asks) fits-now (M .good)
+
+        rec-is : recOf 0 (row .id) (dataOf m buffers) ≡ d
+        unfolding dataRec
+        rec-is = ap₂ {C = Rec} (λ (n : ℕ) (zs : List ℕ). recOf 0 n zs) (writer-id M r m row (em ∙ ap (entryAt xs) at) er) (writer-data M r e m at em)
+
+        open-put : accAt B (r .place) ≡ some (r .acc)
+        open-put = put-at (r .place) d b ∙ r .opens
+
+        pub served : (xs′ blocks′ buffers′ : List ℕ) (z : Ring) → z ≡ ring.put (x .ring)
+            → blocks′ ≡ sets blocks (shareBytes * f) (inscribed (x .words) (x .ring) (recOf 0 (row .id) (dataOf m buffers)) (shareAt f blocks))
+            → buffers′ ≡ sets buffers (bufferBytes * m .place) (zeros bufferBytes) → xs′ ≡ completed xs (writeQueue f) (m .place) (wroteWords m)
+            → Served f o xs′ blocks′ buffers′ (record { moved = true; file = inHold (x .words) z }) (atHead serveWriter (b .wq) b)
+        served xs′ blocks′ buffers′ z ez eb ey ex =
+            subst (Served f o xs′ blocks′ buffers′ (record { moved = true; file = inHold (x .words) z }))
+            (sym (writes-some b (r .place) (r .rest) (r .acc) (r .opens) (r .words) (r .bytes) (r .first) (r .asks) fits-now))
+            (onward-served f o xs′ blocks′ buffers′ (inHold (x .words) z) (finish (r .place) 0 q B)
+            (subst (λ (y : Ring). Mid Fine f o xs′ blocks′ buffers′ (inHold (x .words) y) (finish (r .place) 0 q B)) (sym ez)
+            (subst (λ (zs : List ℕ). Mid Fine f o zs blocks′ buffers′ (inHold (x .words) (ring.put (x .ring))) (finish (r .place) 0 q B)) (sym (ex ∙ entry-words))
+            (subst (λ (zs : List ℕ). Mid Fine f o (completed xs (writeQueue f) (placeOf f (r .place)) (reqWords (placeOf f (r .place)) q)) zs buffers′ (inHold (x .words) (ring.put (x .ring))) (finish (r .place) 0 q B))
+            (sym (eb ∙ ap (λ (y : Rec). sets blocks (shareBytes * f) (inscribed (x .words) (x .ring) y (shareAt f blocks))) rec-is))
+            (step-finish fine-knows put-mid (r .place) (r .acc) open-put true 0 (writing (r .words) (r .bytes)) q (r .asks) waits (writeEnds (omega arith)) buffers′
+            (fine-walks .finishes (r .place) 0 q (r .acc) (writing (r .words) (r .bytes)) B open-put (r .asks) (writeEnds (omega arith)) fine-put) (clear none-lies laid))))))
+          where
+            put-mid : Mid Fine f o xs (sets blocks (shareBytes * f) (inscribed (x .words) (x .ring) d (shareAt f blocks))) buffers (inHold (x .words) (ring.put (x .ring))) B
+            put-mid =
+                mid-put M (M .good .room .geo) (M .good .room .holds) d fine-put
+                (mid-walks f (M .file) (o .alloc) .serves (r .place) (r .acc) (r .words) (r .bytes) b (r .opens) (r .asks) fits-now (M .allots))
+
+            waits : waitsAt true (writing (r .words) (r .bytes)) ≡ 1
+            waits = unfold waitsWrite in refl
+
+            none-lies : lies q ≡ []
+            none-lies = unfold lies in refl
+
+            laid : buffers′ ≡ sets buffers (bufferBytes * placeOf f (r .place)) (zeros bufferBytes)
+            laid = ey ∙ ap (λ (n : Entry). sets buffers (bufferBytes * n .place) (zeros bufferBytes)) (writer-is M r e m at em)
+
+            entry-words : completed xs (writeQueue f) (m .place) (wroteWords m) ≡ completed xs (writeQueue f) (placeOf f (r .place)) (reqWords (placeOf f (r .place)) q)
+            entry-words =
+                ap (λ (n : Entry). completed xs (writeQueue f) (n .place) (wroteWords n)) (writer-is M r e m at em)
+                ∙ ap (completed xs (writeQueue f) (placeOf f (r .place))) (unfold wroteWords reqWords in rw (bit-one (r .words)) refl)

@@ -1,0 +1,74 @@
+-- What a turn does, in memories and in the file in hand.
+use Prim.Native.Nat.{ℕ, zero, suc, _+_, _≤_}
+use mathlib.Core.Path.{_≡_}
+use mathlib.Core.Bool.{Bool, cond}
+use mathlib.Core.List.{List, [], _∷_}
+use lib.Dec.{eqb, leb, ltb}
+use lib.ListN.{length, take}
+use Rattle.buffers.specs.Buffer.{bufferAt}
+use Rattle.segment.specs.declared.Entry.{Entry}
+use Rattle.segment.specs.Layout.{linkAt, readQueue, writeQueue}
+use Rattle.segment.specs.Table.{nth}
+use Rattle.rules.specs.State.{Rec, Built}
+use Rattle.rules.specs.Count.{logOf}
+use Rattle.rules.specs.Geometry.{capacity}
+use Rattle.rules.specs.Limits.{entries}
+use Rattle.rules.specs.Settle.{Turn, settle}
+use Rattle.shares.specs.Back.{recAt}
+use Rattle.shares.specs.Places.{placeIn}
+use Rattle.blocks.specs.declared.ring.Ring.{Ring}
+use Rattle.blocks.specs.Ring.{geo, advanced, used}
+use Rattle.memory.specs.Fine.{Fine}
+use Rattle.midst.specs.declared.File as hand
+use Rattle.midst.specs.Mid.{Start, Mid}
+use Rattle.settling.specs.declared.Turn as code
+
+-- in the midst of some call of file f
+abbrev pub Amid : ℕ → List ℕ → List ℕ → List ℕ → hand.File → Type 0
+Amid f xs blocks buffers x = (o : Start) × (b : Built) × Mid Fine f o xs blocks buffers x b
+
+-- the memories, and what is handed back, are those of the rules' turn m
+pub record Served (f : ℕ) (o : Start) (xs blocks buffers : List ℕ) (r : code.Turn) (m : Turn) : Type 0 where
+  pub moved : r .moved ≡ m .moved
+  pub mid : Mid Fine f o xs blocks buffers (r .file) (m .file)
+
+-- the record at the head of the file in hand
+abbrev pub headAt : hand.File → List ℕ → ℕ
+headAt x share = placeIn (geo (x .words) (x .ring)) share (x .ring .block) (x .ring .spent)
+
+abbrev pub headRec : hand.File → List ℕ → Rec
+headRec x share = recAt share (headAt x share)
+
+-- an entry of the waiting request m, completed with n bytes moved: a read has them in its buffer, a write has none left there
+unfoldable pub readWords : Entry → ℕ → List ℕ
+readWords m n = m .place ∷ 0 ∷ 0 ∷ 0 ∷ 0 ∷ logOf (eqb (m .unit) 1) n ∷ n ∷ 0 ∷ 0 ∷ []
+
+unfoldable pub wroteWords : Entry → List ℕ
+wroteWords m = m .place ∷ 0 ∷ 0 ∷ 0 ∷ 0 ∷ logOf (eqb (m .unit) 1) (m .size) ∷ 0 ∷ 0 ∷ 0 ∷ []
+
+-- "under control 47 it stays"
+unfoldable pub takenRing : Bool → Ring → Ring
+takenRing keep r = cond keep r (advanced r)
+
+-- "a data record fits exactly when used + W + 1 ≤ C"
+unfoldable pub fitsRing : Ring → ℕ → Bool
+fitsRing r w = leb (used r + w + 1) (capacity (r .factor) (r .blocks))
+
+-- the data of a waiting write, in its buffer
+abbrev pub dataOf : Entry → List ℕ → List ℕ
+dataOf m buffers = take (m .size) (bufferAt (m .place) buffers)
+
+-- the turns so far come to the same settled file: from memories and a file in hand to others
+pub record Comes (f : ℕ) (xs blocks buffers : List ℕ) (x : hand.File) (xs′ blocks′ buffers′ : List ℕ) (x′ : hand.File) : Type 0 where
+  pub to : (o : Start) (b : Built) → Mid Fine f o xs blocks buffers x b → Built
+  pub mid : (o : Start) (b : Built) (M : Mid Fine f o xs blocks buffers x b) → Mid Fine f o xs′ blocks′ buffers′ x′ (to o b M)
+  pub same : (o : Start) (b : Built) (M : Mid Fine f o xs blocks buffers x b) → settle (to o b M) ≡ settle b
+
+-- how many entries the list at slot p has, at most n
+unfoldable pub span : List ℕ → ℕ → ℕ → ℕ
+span s p zero = 0
+span s p (suc n) = cond (ltb (nth s p) entries) (suc (span s (linkAt (nth s p)) n)) 0
+
+-- how many requests of file f wait
+unfoldable pub waiting : List ℕ → ℕ → ℕ
+waiting s f = span s (readQueue f) entries + span s (writeQueue f) entries

@@ -1,0 +1,50 @@
+// "then the file settles: while something can be done, serve the first waiting reader, else the first waiting writer."
+// The file is in hand, and the settled file is handed back; the memories are those of a call in its midst.
+ghost use Rattle.rules.specs.State.{Built};
+ghost use Rattle.rules.specs.Settle.{settle};
+ghost use Rattle.memory.specs.Fine.{Fine};
+ghost use Rattle.midst.specs.Mid.{Start, Mid};
+ghost use Rattle.settling.specs.Turns.{Amid};
+
+mod readers;
+mod writers;
+
+use midst::File;
+use readers::serve_reader;
+pub use readers::taken;
+pub use writers::fits;
+use writers::serve_writer;
+
+// One turn: the file behind it, and whether a request was served.
+pub struct Turn {
+    pub moved: bool,
+    pub file: File,
+}
+
+// The settled file.
+pub fn settle(
+    segment: &mut [u8],
+    blocks: &mut [u8],
+    buffers: &mut [u8],
+    f: usize,
+    from: File,
+) -> File
+    requires { ⌜ Amid f (now segment) (now blocks) (now buffers) from ⌝ }
+    ensures { λ r. ⌜ ((o : Start) (b : Built) → Mid Fine f o (now (segment .entry)) (now (blocks .entry)) (now (buffers .entry)) from b → Mid Fine f o (now (segment .exit)) (now (blocks .exit)) (now (buffers .exit)) r (settle b)) ⌝ }
+{
+    let mut file = from;
+    let settled = loop {
+        let read = serve_reader(segment, blocks, buffers, f, file);
+        file = read.file;
+        if read.moved {
+            continue;
+        }
+        let written = serve_writer(segment, blocks, buffers, f, file);
+        file = written.file;
+        if written.moved {
+            continue;
+        }
+        break file;
+    };
+    settled
+}

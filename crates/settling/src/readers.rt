@@ -1,0 +1,118 @@
+// The first waiting reader.
+ghost use mathlib.Core.Path.{_≡_};
+ghost use mathlib.Core.Bool.{cond};
+ghost use Prim.Native.Nat.{_*_, _≤_, _<_};
+ghost use lib.ListN.{length};
+ghost use lib.Seq.{sets};
+ghost use Rattle.segment.specs.Layout.{segmentBytes, readQueue};
+ghost use Rattle.rules.specs.Limits.{entries, bufferBytes};
+ghost use Rattle.rules.specs.State.{Built};
+ghost use Rattle.rules.specs.Settle.{handed, serveReader, atHead};
+ghost use Rattle.requests.specs.Moves.{entryOf, completed};
+ghost use Rattle.blocks.specs.Ring.{Fitted, Ranged};
+ghost use Rattle.blocks.specs.Reading.{Readable};
+ghost use Rattle.blocks.specs.Memory.{blocksBytes, shareAt};
+ghost use Rattle.buffers.specs.Buffer.{buffersBytes, filled};
+ghost use Rattle.memory.specs.Fine.{Fine};
+ghost use Rattle.midst.specs.Mid.{Start, Mid};
+ghost use Rattle.settling.specs.Turns.{Amid, Served, headAt, headRec, readWords, takenRing};
+use crate::Turn;
+use blocks::memory::share;
+use blocks::reading::head;
+use blocks::ring::Ring;
+use counts::log_of;
+use fetch::found;
+use fetch::handed;
+use midst::File;
+use segment::Entry;
+use segment::layout;
+
+// "Control 47 on: the next accepted read leaves its record at the head."
+pub fn taken(ring: Ring, keep: bool) -> Ring
+    requires { ⌜ Ranged ring ⌝ }
+    ensures { λ r. ⌜ r ≡ takenRing keep ring ⌝ }
+{
+    if keep { ring } else { ring.advanced() }
+}
+
+// The bytes go to the waiting read m, which is done.
+fn hand_over(segment: &mut [u8], buffers: &mut [u8], f: usize, m: Entry, bytes: &[u8])
+    requires { ⌜ (length (now segment) ≡ segmentBytes) × (length (now buffers) ≡ buffersBytes) × (f < 8) ⌝ }
+    requires { ⌜ (m .place < 64) × (length (now bytes) ≤ bufferBytes) × (entryOf (now segment) (readQueue f) (m .place) < entries) ⌝ }
+    ensures segment { λ _. ⌜ now (segment .exit) ≡ completed (now (segment .entry)) (readQueue f) (m .place) (readWords m (length (now (bytes .entry)))) ⌝ }
+    ensures buffers { λ _. ⌜ now (buffers .exit) ≡ sets (now (buffers .entry)) (bufferBytes * m .place) (filled (now (bytes .entry))) ⌝ }
+{
+    let n = bytes.len() as u16;
+    let done = Entry {
+        place: m.place,
+        unit: 0,
+        limit: 0,
+        keep: 0,
+        status: 0,
+        log: log_of(m.unit == 1, n),
+        size: n,
+        seconds: 0,
+    };
+    buffers::fill_at(buffers, m.place as usize, bytes);
+    requests::complete(segment, layout::READ_QUEUES + f, done);
+}
+
+// The head record of the file goes to the waiting read m.
+fn give(
+    segment: &mut [u8],
+    blocks: &[u8],
+    buffers: &mut [u8],
+    f: usize,
+    file: File,
+    m: Entry,
+    typed: bool,
+)
+    requires { ⌜ (length (now segment) ≡ segmentBytes) × (length (now blocks) ≡ blocksBytes) × (length (now buffers) ≡ buffersBytes) × (f < 8) ⌝ }
+    requires { ⌜ Fitted (file .words) (file .ring) × (file .ring .block < file .ring .blocks) × Readable (shareAt f (now blocks)) (headAt file (shareAt f (now blocks))) ⌝ }
+    requires { ⌜ (m .place < 64) × (length (handed typed (m .limit) (headRec file (shareAt f (now blocks)))) ≤ bufferBytes) × (entryOf (now segment) (readQueue f) (m .place) < entries) ⌝ }
+    ensures segment { λ _. ⌜ now (segment .exit) ≡ completed (now (segment .entry)) (readQueue f) (m .place) (readWords m (length (handed typed (m .limit) (headRec file (shareAt f (now (blocks .entry))))))) ⌝ }
+    ensures buffers { λ _. ⌜ now (buffers .exit) ≡ sets (now (buffers .entry)) (bufferBytes * m .place) (filled (handed typed (m .limit) (headRec file (shareAt f (now (blocks .entry)))))) ⌝ }
+{
+    let own = share(blocks, f);
+    let at = head(own, file.ring, file.words);
+    hand_over(segment, buffers, f, m, handed(own, at, typed, m.limit));
+}
+
+// The first waiting reader gets its record, if there is one for it.
+pub fn serve_reader(
+    segment: &mut [u8],
+    blocks: &[u8],
+    buffers: &mut [u8],
+    f: usize,
+    file: File,
+) -> Turn
+    requires { ⌜ Amid f (now segment) (now blocks) (now buffers) file ⌝ }
+    ensures { λ r. ⌜ ((o : Start) (b : Built) → Mid Fine f o (now (segment .entry)) (now (blocks .entry)) (now (buffers .entry)) file b → Served f o (now (segment .exit)) (now (blocks .entry)) (now (buffers .exit)) r (atHead serveReader (b .rq) b)) ⌝ }
+{
+    let e = segment::get(segment, layout::READ_QUEUES + f);
+    if e >= layout::ENTRIES {
+        return Turn { moved: false, file };
+    }
+    let m = segment::read_entry(segment, e);
+    let row = segment::read_place(segment, m.place as usize);
+    let typed = row.typed == 1;
+    let ring = found(share(blocks, f), file.ring, file.words, typed);
+    let ahead = File {
+        words: file.words,
+        ring,
+    };
+    if ring.held == 0 {
+        return Turn {
+            moved: false,
+            file: ahead,
+        };
+    }
+    give(segment, blocks, buffers, f, ahead, m, typed);
+    Turn {
+        moved: true,
+        file: File {
+            words: file.words,
+            ring: taken(ring, m.keep == 1),
+        },
+    }
+}

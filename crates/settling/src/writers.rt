@@ -1,0 +1,103 @@
+// The first waiting writer.
+ghost use mathlib.Core.Path.{_≡_};
+ghost use Prim.Native.Nat.{_+_, _*_, _≤_, _<_};
+ghost use lib.ListN.{length};
+ghost use lib.Seq.{sets};
+ghost use Rattle.words.specs.Word.{zeros};
+ghost use Rattle.segment.specs.Layout.{segmentBytes, writeQueue};
+ghost use Rattle.rules.specs.Limits.{entries, bufferBytes, shareBytes};
+ghost use Rattle.rules.specs.State.{Built};
+ghost use Rattle.rules.specs.Settle.{serveWriter, atHead};
+ghost use Rattle.requests.specs.Moves.{entryOf, completed};
+ghost use Rattle.blocks.specs.Ring.{Ranged, put};
+ghost use Rattle.blocks.specs.Writing.{recOf, Ready, inscribed};
+ghost use Rattle.blocks.specs.Memory.{blocksBytes, shareAt};
+ghost use Rattle.buffers.specs.Buffer.{buffersBytes, bufferAt};
+ghost use Rattle.memory.specs.Fine.{Fine};
+ghost use Rattle.midst.specs.Mid.{Start, Mid};
+ghost use Rattle.settling.specs.Turns.{Amid, Served, wroteWords, fitsRing, dataOf};
+use crate::Turn;
+use blocks::memory::put_at;
+use blocks::ring::Ring;
+use counts::log_of;
+use judges::sides::WRITER;
+use judges::sides::count_side;
+use midst::File;
+use segment::Entry;
+use segment::layout;
+
+const DATA: u16 = 0;
+
+// "a data record fits exactly when used + W + 1 ≤ C: one place is kept for each close record."
+pub fn fits(ring: Ring, writers: u16) -> bool
+    requires { ⌜ Ranged ring × (writers ≤ 8) ⌝ }
+    ensures { λ r. ⌜ r ≡ fitsRing ring writers ⌝ }
+{
+    ring.used() + writers + 1 <= ring.factor * ring.blocks
+}
+
+// The data of the waiting write m become a record of the writer with the ID, and the write is done.
+fn take(
+    segment: &mut [u8],
+    blocks: &mut [u8],
+    buffers: &mut [u8],
+    f: usize,
+    file: File,
+    m: Entry,
+    id: u16,
+) -> Ring
+    requires { ⌜ (length (now segment) ≡ segmentBytes) × (length (now blocks) ≡ blocksBytes) × (length (now buffers) ≡ buffersBytes) × (f < 8) ⌝ }
+    requires { ⌜ (m .place < 64) × (m .size ≤ bufferBytes) × (entryOf (now segment) (writeQueue f) (m .place) < entries) ⌝ }
+    requires { ⌜ Ready (file .words) (file .ring) (shareAt f (now blocks)) (length (dataOf m (now buffers))) ⌝ }
+    ensures ring { λ r. ⌜ r ≡ put (file .ring) ⌝ }
+    ensures blocks { λ _. ⌜ now (blocks .exit) ≡ sets (now (blocks .entry)) (shareBytes * f) (inscribed (file .words) (file .ring) (recOf 0 id (dataOf m (now (buffers .entry)))) (shareAt f (now (blocks .entry)))) ⌝ }
+    ensures buffers { λ _. ⌜ now (buffers .exit) ≡ sets (now (buffers .entry)) (bufferBytes * m .place) (zeros bufferBytes) ⌝ }
+    ensures segment { λ _. ⌜ now (segment .exit) ≡ completed (now (segment .entry)) (writeQueue f) (m .place) (wroteWords m) ⌝ }
+{
+    let place = m.place as usize;
+    let data = buffers::lies(buffers, place, m.size as usize);
+    let ring = put_at(blocks, f, file.ring, file.words, DATA, id, data);
+    buffers::clear_at(buffers, place);
+    let done = Entry {
+        place: m.place,
+        unit: 0,
+        limit: 0,
+        keep: 0,
+        status: 0,
+        log: log_of(m.unit == 1, m.size),
+        size: 0,
+        seconds: 0,
+    };
+    requests::complete(segment, layout::WRITE_QUEUES + f, done);
+    ring
+}
+
+// The first waiting writer puts its record, if it fits.
+pub fn serve_writer(
+    segment: &mut [u8],
+    blocks: &mut [u8],
+    buffers: &mut [u8],
+    f: usize,
+    file: File,
+) -> Turn
+    requires { ⌜ Amid f (now segment) (now blocks) (now buffers) file ⌝ }
+    ensures { λ r. ⌜ ((o : Start) (b : Built) → Mid Fine f o (now (segment .entry)) (now (blocks .entry)) (now (buffers .entry)) file b → Served f o (now (segment .exit)) (now (blocks .exit)) (now (buffers .exit)) r (atHead serveWriter (b .wq) b)) ⌝ }
+{
+    let e = segment::get(segment, layout::WRITE_QUEUES + f);
+    if e >= layout::ENTRIES {
+        return Turn { moved: false, file };
+    }
+    if !fits(file.ring, count_side(segment, f, WRITER)) {
+        return Turn { moved: false, file };
+    }
+    let m = segment::read_entry(segment, e);
+    let row = segment::read_place(segment, m.place as usize);
+    let ring = take(segment, blocks, buffers, f, file, m, row.id);
+    Turn {
+        moved: true,
+        file: File {
+            words: file.words,
+            ring,
+        },
+    }
+}

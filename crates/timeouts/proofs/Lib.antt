@@ -1,0 +1,9 @@
+pub mod Steps
+pub mod Less
+pub mod Firsts
+pub mod Ripe
+pub mod Turns
+pub mod Reaches
+pub mod Begins
+pub mod Shows
+pub mod Ends

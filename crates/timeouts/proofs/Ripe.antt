@@ -1,0 +1,81 @@
+-- A request that waits, and how it fails: with a status, and with nothing in its buffer.
+use Prim.Native.Nat.{ℕ, _≤_}
+use mathlib.Core.Path.{_≡_, refl, sym, _∙_}
+use mathlib.Core.Bool.{Bool, true, false, true≢false}
+use mathlib.Core.List.{List, []}
+use mathlib.Core.Option.{Option, none, some}
+use native.Mathlib.Omega.{arith}
+use Rattle.rules.specs.State.{Req, idle, reading, writing, readDone, writeDone, Acc, Built}
+use Rattle.rules.specs.Requests.{accAt, finish, failReq, fail}
+use Rattle.rules.specs.Memories.{lies}
+use Rattle.laws.specs.Outstanding.{reqOf, reqAt, waitsRead, waitsWrite, uncollected, awaits}
+use Rattle.laws.specs.Changes.{Ends, readEnds, writeEnds}
+use Rattle.laws.specs.Sides.{Fitting}
+use Rattle.memory.specs.Image.{reqWords}
+use Rattle.midst.proofs.Terms.{waitsAt}
+use Rattle.timeouts.specs.Late.{lateWords}
+use Rattle.timeouts.specs.Stage.{Steady}
+
+pub record Ripe (p : ℕ) (b : Built) : Type 0 where
+  pub acc : Acc
+  pub at : accAt b p ≡ some acc
+  -- what its request becomes
+  pub done : Req
+  pub ends : Ends 22 (acc .req) done
+  pub fails : fail p 22 b ≡ finish p 22 done b
+  pub words : (i : ℕ) → reqWords i done ≡ lateWords i
+  pub empty : lies done ≡ []
+  pub over : uncollected done ≡ 1
+  -- it waits among those of its side, and brings nothing yet if it reads
+  pub waits : waitsAt (acc .writer) (acc .req) ≡ 1
+  pub bare : acc .writer ≡ false → lies (acc .req) ≡ []
+
+module _ (p : ℕ) (b : Built) (S : Steady b) where
+  reads : (a : Acc) → accAt b p ≡ some a → (w k : Bool) (l : ℕ) → a .req ≡ reading w l k → Ripe p b
+  reads a e w k l r =
+      let side : a .writer ≡ false = unfold Fitting in rw r at (S .sides p a e .request) in
+      record {
+        acc = a;
+        at = e;
+        done = readDone 22 0 [];
+        ends = rw r (readEnds {l = l} {d = []} (omega arith) (omega arith));
+        fails = unfold fail in rw (e, fail) (unfold failReq in rw (r, failReq));
+        words = λ i. unfold reqWords lateWords in refl;
+        empty = unfold lies in refl;
+        over = unfold uncollected in refl;
+        waits = rw (side, r) (unfold waitsRead in refl);
+        bare = λ _. rw r (unfold lies in refl);
+      }
+
+  writes : (a : Acc) → accAt b p ≡ some a → (w : Bool) (m : List ℕ) → a .req ≡ writing w m → Ripe p b
+  writes a e w m r =
+      let side : a .writer ≡ true = unfold Fitting in rw r at (S .sides p a e .request) in
+      record {
+        acc = a;
+        at = e;
+        done = writeDone 22 0;
+        ends = rw r (writeEnds (omega arith));
+        fails = unfold fail in rw (e, fail) (unfold failReq in rw (r, failReq));
+        words = λ i. unfold reqWords lateWords in refl;
+        empty = unfold lies in refl;
+        over = unfold uncollected in refl;
+        waits = rw (side, r) (unfold waitsWrite in refl);
+        bare = λ z. absurd (true≢false (sym side ∙ z));
+      }
+
+  pub ripe : 1 ≤ awaits (reqAt (b .accs) p) → Ripe p b
+  ripe h = go (accAt b p) refl (unfold accAt in h)
+    where
+      none-waits : (q : Req) → awaits q ≡ 0 → 1 ≤ awaits q → ⊥
+      none-waits q z k = omega arith
+
+      by-request : (a : Acc) → accAt b p ≡ some a → (q : Req) → a .req ≡ q → 1 ≤ awaits q → Ripe p b
+      by-request a e idle r k = absurd (none-waits idle (unfold waitsRead waitsWrite in refl) k)
+      by-request a e (reading w l t) r k = reads a e w t l r
+      by-request a e (writing w m) r k = writes a e w m r
+      by-request a e (readDone st l m) r k = absurd (none-waits (readDone st l m) (unfold waitsRead waitsWrite in refl) k)
+      by-request a e (writeDone st l) r k = absurd (none-waits (writeDone st l) (unfold waitsRead waitsWrite in refl) k)
+
+      go : (o : Option Acc) → accAt b p ≡ o → 1 ≤ awaits (reqOf o) → Ripe p b
+      go none e k = absurd (none-waits idle (unfold waitsRead waitsWrite in refl) (unfold reqOf in k))
+      go (some a) e k = by-request a e (a .req) refl (unfold reqOf in k)

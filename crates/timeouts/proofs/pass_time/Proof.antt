@@ -1,0 +1,30 @@
+use native.Mathlib.Omega.{arith}
+use Rattle.memory.specs.Stands.{Bytes}
+use Rattle.timeouts.proofs.Begins.{stage-begin}
+use Rattle.timeouts.proofs.Ends.{time-stands}
+use borrow.Author.Needs.{needs}
+use Rattle.timeouts.proofs.pass_time.Statement.{statement}
+use Rattle.timeouts.proofs.pass_time.Tie as tie
+
+run-due-requires : tie.Need-run-due-requires
+run-due-requires c κs = (c .before .before .before .before .pre .3 .stands .segment .size, (c .before .before .before .before .pre .3 .stands .bodies .buffers-size, (c .before .before .before .before .pre .0, c .before .before .before .before .pre .1, stage-begin (c .before .before .before .before .pre .3))))
+
+lessen-requires : tie.Need-lessen-requires
+lessen-requires c κs = search needs
+
+same-length : tie.Need-same-length
+same-length c = search needs
+
+same-length-2 : tie.Need-same-length-2
+same-length-2 c = search needs
+
+returns : tie.Need-returns
+unfolding Bytes
+returns c = (
+  λ d s blocks S. time-stands S (c .before .before .before .before .before .before .before .before .run-due .ensures d s (stage-begin S)) _ (c .before .before .lessen .ensures) (λ i. omega (arith, c .slice-known5 .given i)) (λ i. omega (arith, c .before .before .before .before .slice-known4 .given i)),
+  λ d s blocks S g h e. c .before .before .before .before .before .before .before .before .run-due .ensures d s (stage-begin S) .apart g h e,
+)
+
+pub pass-time-spec : {M : Type 1} → statement M
+pass-time-spec =
+    tie.close (tie.spec run-due-requires lessen-requires same-length same-length-2 returns)

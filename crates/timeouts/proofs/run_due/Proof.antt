@@ -1,0 +1,96 @@
+use mathlib.Core.Path.{_≡_}
+use native.Mathlib.Omega.{arith}
+use lib.ListN.{length}
+use borrow.Author.Needs.{needs}
+use Rattle.rules.specs.Desk.{Desk}
+use Rattle.rules.specs.Allocation.{Alloc}
+use Rattle.segment.specs.Layout.{segmentBytes}
+use Rattle.buffers.specs.Buffer.{buffersBytes}
+use Rattle.timeouts.specs.Stage.{Stage, Reached}
+use Rattle.timeouts.proofs.Reaches.{reached-start, stop-spent, stop-none, stop-late, goes-on}
+use Rattle.timeouts.proofs.run_due.Statement.{statement}
+use Rattle.timeouts.proofs.run_due.Tie as tie
+
+abbrev Inv-loop : tie.InvT-loop
+Inv-loop segment₀ buffers₀ seconds n₀ segment buffers n =
+    (length segment ≡ segmentBytes)
+    × (length buffers ≡ buffersBytes)
+    × ((d : Desk) (s : Alloc) → Stage segment₀ buffers₀ d s → Reached seconds n buffers₀ d s segment buffers)
+
+abbrev μ-loop : tie.MeasureT-loop
+μ-loop segment₀ buffers₀ seconds n₀ segment buffers n = n
+
+loop-holds : tie.Need-loop-holds Inv-loop μ-loop
+loop-holds c = (search needs, search needs, λ d s S. reached-start _ S)
+
+get-requires : tie.Need-get-requires Inv-loop μ-loop
+get-requires c κs = search needs
+
+same-length : tie.Need-same-length Inv-loop μ-loop
+same-length c = search needs
+
+same-length-2 : tie.Need-same-length-2 Inv-loop μ-loop
+same-length-2 c = search needs
+
+returns : tie.Need-returns Inv-loop μ-loop
+returns c = λ d s S. stop-none (c .before .before .before .before .loop .inv .2 d s S) _ (c .before .get .ensures) (c .if1 .taken)
+
+entry-seconds-requires : tie.Need-entry-seconds-requires Inv-loop μ-loop
+entry-seconds-requires c κs = search needs
+
+same-length-3 : tie.Need-same-length-3 Inv-loop μ-loop
+same-length-3 c = search needs
+
+same-length-4 : tie.Need-same-length-4 Inv-loop μ-loop
+same-length-4 c = search needs
+
+returns-2 : tie.Need-returns-2 Inv-loop μ-loop
+returns-2 c = λ d s S. stop-late (c .before .before .before .before .before .before .before .loop .inv .2 d s S) _ (c .before .before .before .before .get .ensures) (c .before .before .before .if1 .left) _ (c .before .entry-seconds .ensures) (c .if2 .taken)
+
+entry-place-requires : tie.Need-entry-place-requires Inv-loop μ-loop
+entry-place-requires c κs = search needs
+
+time-out-requires : tie.Need-time-out-requires Inv-loop μ-loop
+time-out-requires c κs = let g = goes-on (c .before .before .before .before .before .before .before .before .before .before .before .loop .inv .2 (c .before .before .before .before .before .before .before .before .before .before .before .before .before .before .pre .1 .1 .0) (c .before .before .before .before .before .before .before .before .before .before .before .before .before .before .pre .1 .1 .1) (c .before .before .before .before .before .before .before .before .before .before .before .before .before .before .pre .1 .1 .2)) _ (c .before .before .before .before .before .before .before .before .get .ensures) (c .before .before .before .before .before .before .before .if1 .left) _ (c .before .before .before .before .before .entry-seconds .ensures) (c .before .before .before .before .if2 .left) _ (c .before .before .entry-place .ensures) in (search needs, (search needs, (g .0, g .1)))
+
+sub-n : tie.Need-sub-n Inv-loop μ-loop
+sub-n c = search needs
+
+loop-less : tie.Need-loop-less Inv-loop μ-loop
+loop-less c = search needs
+
+loop-again : tie.Need-loop-again Inv-loop μ-loop
+loop-again c = (search needs, search needs, rw (c .before .before .before .before .time-out .ensures .0, c .before .before .before .before .time-out .ensures .1) (λ d s S. goes-on (c .before .before .before .before .before .before .before .before .before .before .before .before .before .before .before .before .loop .inv .2 d s S) _ (c .before .before .before .before .before .before .before .before .before .before .before .before .before .get .ensures) (c .before .before .before .before .before .before .before .before .before .before .before .before .if1 .left) _ (c .before .before .before .before .before .before .before .before .before .before .entry-seconds .ensures) (c .before .before .before .before .before .before .before .before .before .if2 .left) _ (c .before .before .before .before .before .before .before .entry-place .ensures) .2))
+
+same-length-5 : tie.Need-same-length-5 Inv-loop μ-loop
+same-length-5 c = search needs
+
+same-length-6 : tie.Need-same-length-6 Inv-loop μ-loop
+same-length-6 c = search needs
+
+returns-3 : tie.Need-returns-3 Inv-loop μ-loop
+returns-3 c = λ d s S. stop-spent (c .before .loop .inv .2 d s S) (omega arith)
+
+pub run-due-spec : {M : Type 1} → statement M
+run-due-spec =
+    tie.close
+    (tie.spec
+    Inv-loop
+    μ-loop
+    loop-holds
+    get-requires
+    same-length
+    same-length-2
+    returns
+    entry-seconds-requires
+    same-length-3
+    same-length-4
+    returns-2
+    entry-place-requires
+    time-out-requires
+    sub-n
+    loop-less
+    loop-again
+    same-length-5
+    same-length-6
+    returns-3)

@@ -1,0 +1,131 @@
+// The passing of time: every waiting request whose time is up completes with status 22, the smallest timeout first, equals in arming order, and
+// all other timers lose the seconds.
+ghost use mathlib.Core.Path.{_≡_};
+ghost use mathlib.Core.List.{List, map};
+ghost use Prim.Native.Nat.{ℕ, _-_, _<_};
+ghost use lib.ListN.{length};
+ghost use Rattle.rules.specs.Limits.{files, entries};
+ghost use Rattle.rules.specs.State.{unbuilt};
+ghost use Rattle.rules.specs.Desk.{Desk, fileOf, fileTime};
+ghost use Rattle.rules.specs.Allocation.{Alloc, allocTime};
+ghost use Rattle.segment.specs.Layout.{timerList, segmentBytes};
+ghost use Rattle.buffers.specs.Buffer.{buffersBytes};
+ghost use Rattle.requests.specs.Moves.{entryOf};
+ghost use Rattle.memory.specs.Stands.{buffersAt, Stands};
+ghost use Rattle.memory.specs.Fine.{StandsFor};
+ghost use Rattle.timeouts.specs.Late.{waitsIn, late, lateBuffers, less, lessAll};
+ghost use Rattle.timeouts.specs.Stage.{Stage, Quiet};
+use kinds::limits::PLACES;
+use segment::Entry;
+use segment::layout;
+
+// The side of a place where a writer is open.
+const WRITER: u16 = 2;
+
+// "completes with status 22"
+const TIMED_OUT: u16 = 22;
+
+// The waiting request of a place completes, and brings nothing.
+fn time_out(segment: &mut [u8], buffers: &mut [u8], place: u16)
+    requires { ⌜ length (now segment) ≡ segmentBytes ⌝ }
+    requires { ⌜ length (now buffers) ≡ buffersBytes ⌝ }
+    requires { ⌜ (place < 64) × (entryOf (now segment) (waitsIn (now segment) place) place < entries) ⌝ }
+    ensures { λ _. ⌜ (now (segment .exit) ≡ late (now (segment .entry)) place) × (now (buffers .exit) ≡ lateBuffers (now (segment .entry)) (now (buffers .entry)) place) ⌝ }
+{
+    let i = place as usize;
+    let m = Entry {
+        place,
+        unit: 0,
+        limit: 0,
+        keep: 0,
+        status: TIMED_OUT,
+        log: 0,
+        size: 0,
+        seconds: 0,
+    };
+    if segment::place_side(segment, i) == WRITER {
+        requests::complete(segment, layout::WRITE_QUEUES + i / PLACES, m);
+        buffers::clear_at(buffers, i);
+        return;
+    }
+    requests::complete(segment, layout::READ_QUEUES + i / PLACES, m);
+}
+
+// All that are due, from the front of the timer list.
+fn run_due(segment: &mut [u8], buffers: &mut [u8], seconds: u16)
+    requires { ⌜ length (now segment) ≡ segmentBytes ⌝ }
+    requires { ⌜ length (now buffers) ≡ buffersBytes ⌝ }
+    requires { ⌜ ((d : Desk) × (s : Alloc) × Stage (now segment) (now buffers) d s) ⌝ }
+    ensures { λ _. ⌜ ((d : Desk) (s : Alloc) → Stage (now (segment .entry)) (now (buffers .entry)) d s → Quiet seconds (now (buffers .entry)) d s (now (segment .exit)) (now (buffers .exit))) ⌝ }
+{
+    let mut n = layout::ENTRIES;
+    while 0 < n {
+        let e = segment::get(segment, layout::TIMER_LIST);
+        if layout::ENTRIES <= e {
+            return;
+        }
+        if seconds < segment::entry_seconds(segment, e) {
+            return;
+        }
+        let place = segment::entry_place(segment, e);
+        time_out(segment, buffers, place);
+        n -= 1;
+    }
+}
+
+// What is left of a timer.
+fn rest(left: u16, seconds: u16) -> u16
+    ensures { λ r. ⌜ r ≡ left - seconds ⌝ }
+{
+    if left < seconds {
+        return 0;
+    }
+    left - seconds
+}
+
+// The timer in entry e loses the seconds.
+fn lose(segment: &mut [u8], e: u16, seconds: u16)
+    requires { ⌜ length (now segment) ≡ segmentBytes ⌝ }
+    requires { ⌜ e < entries ⌝ }
+    ensures { λ _. ⌜ now (segment .exit) ≡ less (now (segment .entry)) e seconds ⌝ }
+{
+    let m = Entry {
+        place: segment::entry_place(segment, e),
+        unit: 0,
+        limit: 0,
+        keep: 0,
+        status: 0,
+        log: 0,
+        size: 0,
+        seconds: rest(segment::entry_seconds(segment, e), seconds),
+    };
+    segment::write_entry(segment, e, m);
+}
+
+// All timers do.
+fn lessen(segment: &mut [u8], seconds: u16)
+    requires { ⌜ length (now segment) ≡ segmentBytes ⌝ }
+    ensures { λ _. ⌜ now (segment .exit) ≡ lessAll (now (segment .entry)) timerList seconds entries ⌝ }
+{
+    let mut p = layout::TIMER_LIST;
+    let mut n = layout::ENTRIES;
+    while 0 < n {
+        let e = segment::get(segment, p);
+        if layout::ENTRIES <= e {
+            return;
+        }
+        lose(segment, e, seconds);
+        p = segment::link_at(e);
+        n -= 1;
+    }
+}
+
+// So many seconds pass.
+pub fn pass_time(segment: &mut [u8], buffers: &mut [u8], seconds: u16)
+    requires { ⌜ ((d : Desk) × (s : Alloc) × (blocks : List ℕ) × StandsFor (now segment) blocks (now buffers) d s) ⌝ }
+    ensures stands { λ _. ⌜ ((d : Desk) (s : Alloc) (blocks : List ℕ) → StandsFor (now (segment .entry)) blocks (now (buffers .entry)) d s → Stands (now (segment .exit)) blocks (now (buffers .exit)) (map (fileTime seconds) d) (allocTime seconds s)) ⌝ }
+    ensures others { λ _. ⌜ ((d : Desk) (s : Alloc) (blocks : List ℕ) → StandsFor (now (segment .entry)) blocks (now (buffers .entry)) d s → (g : ℕ) → g < files → fileOf d g ≡ unbuilt → buffersAt g (now (buffers .exit)) ≡ buffersAt g (now (buffers .entry))) ⌝ }
+{
+    run_due(segment, buffers, seconds);
+    lessen(segment, seconds);
+}
