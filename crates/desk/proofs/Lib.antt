@@ -5,3 +5,4 @@ pub mod Known
 pub mod Refuses
 pub mod Finals
 pub mod Same
+pub mod Writes

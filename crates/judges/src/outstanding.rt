@@ -17,7 +17,7 @@ pub enum Outstanding {
 }
 
 // The queue of file f where those of that side wait.
-fn queue_of(f: usize, side: u16) -> usize
+pub fn queue_of(f: usize, side: u16) -> usize
     requires { ⌜ f < files ⌝ }
     ensures { λ r. ⌜ (r ≡ queueOf f side) × (r < 17) ⌝ }
 {

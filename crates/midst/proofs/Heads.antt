@@ -32,14 +32,12 @@ use Rattle.midst.proofs.Lists.{below-side, list-side, box-side, entries
 
 -- who waits
 
-pub reads-at : (b : Built) (p : ℕ) (rest : List ℕ) → Agree b → b .rq ≡ p ∷ rest
+-- where a read waits
+pub reads-in : (b : Built) (p : ℕ) → 1 ≤ waitsRead (reqAt (b .accs) p)
     → (a : Acc) × (w : Bool) × (l : ℕ) × (k : Bool) × (accAt b p ≡ some a) × (a .req ≡ reading w l k)
 unfolding accAt
-reads-at b p rest A e = go (getD (b .accs) p none) refl
+reads-in b p one = go (getD (b .accs) p none) refl
   where
-    one : 1 ≤ waitsRead (reqAt (b .accs) p)
-    one = omega (arith, A p .reads, ap (count p) e, count-head p rest)
-
     ask : (o : Option Acc) (a : Acc) (q : Req) → getD (b .accs) p none ≡ o → o ≡ some a → a .req ≡ q
         → (c : Acc) × (w : Bool) × (l : ℕ) × (k : Bool) × (o ≡ some c) × (c .req ≡ reading w l k)
     ask o a (reading w l k) u v z = (a, w, l, k, v, z)
@@ -51,6 +49,10 @@ reads-at b p rest A e = go (getD (b .accs) p none) refl
     go : (o : Option Acc) → getD (b .accs) p none ≡ o → (a : Acc) × (w : Bool) × (l : ℕ) × (k : Bool) × (o ≡ some a) × (a .req ≡ reading w l k)
     go none u = absurd (unfold waitsRead laws.reqOf in omega (arith, one, ap waitsRead (ap laws.reqOf u)))
     go (some a) u = ask (some a) a (a .req) u refl refl
+
+pub reads-at : (b : Built) (p : ℕ) (rest : List ℕ) → Agree b → b .rq ≡ p ∷ rest
+    → (a : Acc) × (w : Bool) × (l : ℕ) × (k : Bool) × (accAt b p ≡ some a) × (a .req ≡ reading w l k)
+reads-at b p rest A e = reads-in b p (omega (arith, A p .reads, ap (count p) e, count-head p rest))
 
 pub writes-at : (b : Built) (p : ℕ) (rest : List ℕ) → Agree b → b .wq ≡ p ∷ rest
     → (a : Acc) × (w : Bool) × (d : List ℕ) × (accAt b p ≡ some a) × (a .req ≡ writing w d)

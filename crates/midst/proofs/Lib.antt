@@ -24,3 +24,4 @@ pub mod Judged
 pub mod Accepted
 pub mod Refused
 pub mod Keeps
+pub mod Stays

@@ -1,0 +1,137 @@
+-- A close from end to end: a waiting request is cancelled, the accessor goes, the file settles and its row is written.
+use Prim.Native.Nat.{ℕ, _+_, _*_, _<_}
+use mathlib.Core.Path.{_≡_, refl, sym, ap, _∙_, subst}
+use mathlib.Core.Bool.{Bool, true, false, cond, true≢false}
+use mathlib.Core.List.{List, []}
+use mathlib.Core.Option.{some}
+use native.Mathlib.Omega.{arith}
+use lib.ListN.{length}
+use Rattle.kinds.specs.declared.Answer.the-variants.{Closed}
+use Rattle.rules.specs.Limits.{files, places, entries}
+use Rattle.rules.specs.State.{Req, idle, reading, writing, readDone, writeDone, Acc, Built}
+use Rattle.rules.specs.Requests.{accAt, withReq, withAccs, withQueues, withTimers, alterAcc, say, requeue, leave, cancel}
+use Rattle.rules.specs.Settle.{settle}
+use Rattle.rules.specs.Close.{closed}
+use Rattle.rules.specs.Reply.{Reply, answers, Out, leaves, done}
+use Rattle.rules.specs.Calls.{ask}
+use Rattle.rules.specs.Calls as calls
+use Rattle.rules.specs.Desk.{Desk, on, fileOf, answered}
+use Rattle.rules.specs.Allocation.{Alloc}
+use Rattle.segment.specs.Layout.{rowAt, fileRow, segmentBytes}
+use Rattle.segment.specs.Table.{fill}
+use Rattle.segment.specs.Fields.{fileAt, placeAt}
+use Rattle.buffers.specs.Buffer.{buffersBytes}
+use Rattle.requests.specs.Moves.{entryOf, cancelled}
+use Rattle.laws.specs.Outstanding.{uncollected}
+use Rattle.laws.proofs.Accessors.{getD-alter-same}
+use Rattle.memory.specs.Stands.{Bytes, Bodies}
+use Rattle.memory.specs.Fine.{Fine, StandsFor}
+use Rattle.midst.specs.declared.File as hand
+use Rattle.midst.specs.File.{fileOfRow, fileRowWords}
+use Rattle.midst.specs.Mid.{Start, Mid}
+use Rattle.midst.specs.Outcome.{refusalOf, Outcome, Done}
+use Rattle.midst.specs.Accepted.{CloseKnown, Accepted}
+use Rattle.midst.proofs.Begins.{mid-begin, mid-end}
+use Rattle.midst.proofs.Changes.{mid-below}
+use Rattle.midst.proofs.Accepted.{accepted-close}
+use Rattle.judges.specs.Requests.{queueOf, outstandingAt, outstandingOf}
+use Rattle.controls.specs.Removed.{isWaiting, emptied}
+use Rattle.controls.proofs.Stood.{start}
+use Rattle.controls.proofs.Cancels.{waiting-awaits, waits-is, removable, removed}
+
+-- the file has settled, and its row is written
+pub rests : {f : ℕ} {o : Start} {xs blocks buffers : List ℕ} {x : hand.File} {b : Built} → Mid Fine f o xs blocks buffers x b → (xs′ : List ℕ)
+    → xs′ ≡ fill xs (rowAt (fileRow f)) (fileRowWords x) → Bytes xs′ → Bytes blocks → Bytes buffers → Bodies (o .blocks) (o .buffers) (o .desk) → (r : Reply)
+    → Outcome f (o .desk) (o .alloc) (leaves r b) (o .blocks) (o .buffers) xs′ blocks buffers
+unfolding leaves
+rests {f} {o} {xs} {blocks} {buffers} {x} {b} M xs′ e bs bb bf B r =
+    record { stands = rw e (mid-end M B (rw e at bs) bb bf); apart = M .apart }
+
+-- no request, or one that waits
+quiet : (q : Req) → isWaiting (outstandingOf q) ≡ false → uncollected q ≡ 0 → q ≡ idle
+unfolding isWaiting outstandingOf uncollected
+quiet idle e n = refl
+quiet (reading w l k) e n = absurd (true≢false e)
+quiet (writing w d) e n = absurd (true≢false e)
+quiet (readDone st l d) e n = absurd (omega arith)
+quiet (writeDone st l) e n = absurd (omega arith)
+
+-- the accessor of a cancelled request
+cancel-at : (p : ℕ) (a : Acc) (b : Built) → accAt b p ≡ some a → accAt (cancel p b) p ≡ some (withReq idle a)
+unfolding cancel leave say withTimers requeue alterAcc withAccs withQueues accAt
+cancel-at p a b e = getD-alter-same (withReq idle) a (b .accs) p e
+
+cancel-still : (a : Acc) → withReq idle a .req ≡ idle
+unfolding withReq
+cancel-still a = refl
+
+cancel-closed : (p : ℕ) (a : Acc) (b : Built) → closed p a b ≡ closed p (withReq idle a) b
+unfolding closed withReq
+cancel-closed p a b = refl
+
+-- the memories when no request waits any more, and what the close comes to
+pub record Cleared (f p : ℕ) (o : Start) (xs blocks buffers : List ℕ) (x : hand.File) (out : Out) : Type 0 where
+  pub file : Built
+  pub acc : Acc
+  pub mid : Mid Fine f o xs blocks buffers x file
+  pub at : accAt file p ≡ some acc
+  pub still : acc .req ≡ idle
+  pub comes : out ≡ done Closed (settle (closed p acc file))
+
+module _ {xs blocks buffers : List ℕ} {d : Desk} {s : Alloc} (S : StandsFor xs blocks buffers d s) (f p : ℕ) (r : refusalOf (answered d (on f (calls.close p)) .reply) ≡ 0) where
+  pub close-size : (length xs ≡ segmentBytes) × (length buffers ≡ buffersBytes) × (f < files) × (p < places)
+  close-size =
+      let A = accepted-close d f p r in
+      let M : Mid Fine f (start d s blocks buffers) xs blocks buffers (fileOfRow (fileAt xs f)) (A .b) = mid-begin S f (A .b) (A .file) (A .stands) in
+      (S .stands .segment .size, S .stands .bodies .buffers-size, A .file, mid-below M p (A .known .a) (A .known .at))
+
+  module _ (side : ℕ) (k : side ≡ placeAt xs (places * f + p) .side) where
+    pub close-found : isWaiting (outstandingAt xs f p side) ≡ true → entryOf xs (queueOf f side) (places * f + p) < entries
+    close-found w =
+        let A = accepted-close d f p r in
+        removable (mid-begin S f (A .b) (A .file) (A .stands)) p (A .known .a) (A .known .at) side k w
+
+    pub clears : (x : hand.File) → x ≡ fileOfRow (fileAt xs f) → (xs′ buffers′ : List ℕ)
+        → xs′ ≡ cond (isWaiting (outstandingAt xs f p side)) (cancelled xs (queueOf f side) (places * f + p)) xs
+        → buffers′ ≡ cond (isWaiting (outstandingAt xs f p side)) (emptied side (places * f + p) buffers) buffers
+        → Cleared f p (start d s blocks buffers) xs′ blocks buffers′ x (ask (fileOf d f) (calls.close p))
+    clears x ex xs′ buffers′ u v = go (isWaiting (outstandingAt xs f p side)) refl u v
+      where
+        A : Accepted (CloseKnown p) d f (calls.close p)
+        A = accepted-close d f p r
+
+        M : Mid Fine f (start d s blocks buffers) xs blocks buffers x (A .b)
+        M = rw ex (mid-begin S f (A .b) (A .file) (A .stands))
+
+        waits : (t : Bool) → isWaiting (outstandingAt xs f p side) ≡ t → isWaiting (outstandingOf (A .known .a .req)) ≡ t
+        waits t e = sym (waits-is M p (A .known .a) (A .known .at) side k) ∙ e
+
+        go : (t : Bool) → isWaiting (outstandingAt xs f p side) ≡ t → xs′ ≡ cond t (cancelled xs (queueOf f side) (places * f + p)) xs
+            → buffers′ ≡ cond t (emptied side (places * f + p) buffers) buffers
+            → Cleared f p (start d s blocks buffers) xs′ blocks buffers′ x (ask (fileOf d f) (calls.close p))
+        go true e y z =
+            record {
+              file = cancel p (A .b);
+              acc = withReq idle (A .known .a);
+              mid = removed M p (A .known .a) (A .known .at) side k e xs′ buffers′ y z;
+              at = cancel-at p (A .known .a) (A .b) (A .known .at);
+              still = cancel-still (A .known .a);
+              comes = A .known .waits (waiting-awaits (A .known .a .req) (waits true e)) ∙ ap (λ (c : Built). done Closed (settle c)) (cancel-closed p (A .known .a) (cancel p (A .b)));
+            }
+        go false e y z =
+            record {
+              file = A .b;
+              acc = A .known .a;
+              mid = rw (y, z) M;
+              at = A .known .at;
+              still = quiet (A .known .a .req) (waits false e) (A .known .collected);
+              comes = A .known .idles (quiet (A .known .a .req) (waits false e) (A .known .collected));
+            }
+
+-- it is done
+pub close-done : {f p : ℕ} {d : Desk} {s : Alloc} {blocks buffers xs′ blocks′ buffers′ : List ℕ} {x : hand.File} {out : Out} {ys bs : List ℕ}
+    (C : Cleared f p (start d s blocks buffers) ys blocks bs x out)
+    → Outcome f d s (leaves (answers Closed []) (settle (closed p (C .acc) (C .file)))) blocks buffers xs′ blocks′ buffers′ → Done f d s out blocks buffers xs′ blocks′ buffers′ Closed
+unfolding done leaves
+close-done {f} {p} {d} {s} {blocks} {buffers} {xs′} {blocks′} {buffers′} C O =
+    subst (λ (y : Out). Done f d s y blocks buffers xs′ blocks′ buffers′ Closed) (sym (C .comes)) (record { outcome = O; reply = refl })

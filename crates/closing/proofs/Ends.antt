@@ -1,0 +1,79 @@
+-- The readers of a file whose last writer goes: what the functions of the walk hand each other.
+use Prim.Native.Nat.{ℕ, _-_, _<_}
+use mathlib.Core.Path.{_≡_, sym, ap, _∙_, subst}
+use mathlib.Core.List.{List}
+use native.Mathlib.Omega.{arith}
+use borrow.Author.Tests.{eq-eqb, ne-eqb}
+use lib.Dec.{eqb}
+use lib.ListN.{length}
+use Rattle.rules.specs.Limits.{files, entries}
+use Rattle.rules.specs.State.{Built}
+use Rattle.rules.specs.Requests.{writers}
+use Rattle.rules.specs.Close.{endReaders, lastGone}
+use Rattle.rules.proofs.Split.{pick-true, pick-false}
+use Rattle.segment.specs.declared.PlaceRow.{PlaceRow}
+use Rattle.segment.specs.Layout.{linkAt, readQueue, segmentWords, segmentBytes}
+use Rattle.segment.specs.Table.{nth}
+use Rattle.segment.specs.Fields.{entryAt, placeAt}
+use Rattle.requests.specs.Moves.{entryOf, completed}
+use Rattle.judges.specs.Sides.{countSide}
+use Rattle.judges.proofs.Counted.{count-writers}
+use Rattle.midst.specs.declared.File as hand
+use Rattle.midst.specs.Mid.{Start, Mid}
+use Rattle.midst.proofs.Begins.{mid-lengths, mid-row}
+use Rattle.midst.proofs.Walks.{Owed}
+use Rattle.closing.specs.Walk.{endWords, Walk}
+use Rattle.closing.specs.Leaving.{Gone, Stops, Walked}
+use Rattle.closing.proofs.Walks.{walk-slot, walk-size, walk-next}
+use Rattle.closing.proofs.Passes.{next-place, next-found, next-kept, next-ended}
+
+-- the walk stands at an entry
+
+module _ (f : ℕ) (xs : List ℕ) (slot e : ℕ) where
+  pub stop-size : Stops f xs slot e → (length xs ≡ segmentBytes) × (f < files)
+  stop-size ((n, blocks, buffers, x, o, b, left, W), h, k) = (walk-size W, W .mid .file)
+
+  module _ (p : ℕ) (at : p ≡ entryAt xs e .place) where
+    pub stop-place : Stops f xs slot e → p < 64
+    stop-place ((n, blocks, buffers, x, o, b, left, W), h, k) = rw at (next-place W e (walk-next W e h k))
+
+    pub stop-found : Stops f xs slot e → entryOf xs (readQueue f) p < entries
+    stop-found ((n, blocks, buffers, x, o, b, left, W), h, k) = rw at (next-found W e (walk-next W e h k))
+
+module _ {n f : ℕ} {o : Start} {xs blocks buffers : List ℕ} {x : hand.File} {from : Built} {slot left : ℕ} (W : Walk (Owed n) f o xs blocks buffers x from slot left)
+    (e : ℕ) (h : e ≡ nth xs slot) (k : e < entries) (p : ℕ) (at : p ≡ entryAt xs e .place) (row : PlaceRow) (is : row ≡ placeAt xs p) where
+  extended-is : row .extended ≡ placeAt xs (entryAt xs e .place) .extended
+  extended-is = ap (λ (r : PlaceRow). r .extended) (is ∙ ap (placeAt xs) at)
+
+  pub stays : row .extended ≡ 1 → (r : ℕ) → r ≡ linkAt e → Walk (Owed n) f o xs blocks buffers x from r (left - 1)
+  stays u r v = subst (λ (s : ℕ). Walk (Owed n) f o xs blocks buffers x from s (left - 1)) (sym v) (next-kept W e (walk-next W e h k) (sym extended-is ∙ u))
+
+  pub ends : (row .extended ≡ 1 → ⊥) → (xs′ : List ℕ) → xs′ ≡ completed xs (readQueue f) p (endWords p) → Walk (Owed n) f o xs′ blocks buffers x from slot (left - 1)
+  ends u xs′ v = next-ended W e (walk-next W e h k) (λ z. u (extended-is ∙ z)) xs′ (v ∙ ap (λ (i : ℕ). completed xs (readQueue f) i (endWords i)) at)
+
+-- the walk
+
+module _ (f : ℕ) (xs₀ xs : List ℕ) (slot left : ℕ) (K : Walked f xs₀ xs slot left) where
+  pub walked-size : Gone f xs₀ → (length xs ≡ segmentBytes) × (slot < segmentWords)
+  walked-size (n, blocks, buffers, x, o, b, M) = let W = K n blocks buffers x o b M in (walk-size W, omega (arith, walk-slot W))
+
+  pub walked-stops : Gone f xs₀ → (e : ℕ) → e ≡ nth xs slot → e < entries → Stops f xs slot e
+  walked-stops (n, blocks, buffers, x, o, b, M) e h k = ((n, blocks, buffers, x, o, b, left, K n blocks buffers x o b M), h, k)
+
+pub gone-size : (f : ℕ) (xs : List ℕ) → Gone f xs → (length xs ≡ segmentBytes) × (f < files)
+gone-size f xs (n, blocks, buffers, x, o, b, M) = (mid-lengths M, M .file)
+
+-- "for the last writer"
+module _ {n f : ℕ} {o : Start} {xs blocks buffers : List ℕ} {x : hand.File} {b : Built} (M : Mid (Owed n) f o xs blocks buffers x b) (w : ℕ) (is : w ≡ countSide xs f 2) where
+  counted : w ≡ writers b
+  counted = is ∙ count-writers xs f b (M .allots .matches .agrees .eight) (mid-row M)
+
+  pub last-ends : w ≡ 0 → (xs′ : List ℕ) → Mid (Owed n) f o xs′ blocks buffers x (endReaders (b .rq) b) → Mid (Owed n) f o xs′ blocks buffers x (lastGone b)
+  unfolding lastGone
+  last-ends z xs′ N =
+      subst (λ (c : Built). Mid (Owed n) f o xs′ blocks buffers x c) (sym (pick-true (eqb (writers b) 0) (endReaders (b .rq) b) b (eq-eqb (writers b) 0 (sym counted ∙ z)))) N
+
+  pub last-not : (w ≡ 0 → ⊥) → Mid (Owed n) f o xs blocks buffers x (lastGone b)
+  unfolding lastGone
+  last-not z =
+      subst (λ (c : Built). Mid (Owed n) f o xs blocks buffers x c) (sym (pick-false (eqb (writers b) 0) (endReaders (b .rq) b) b (ne-eqb (writers b) 0 (λ u. z (counted ∙ u))))) M

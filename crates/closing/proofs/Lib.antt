@@ -1,0 +1,5 @@
+pub mod Walks
+pub mod Passes
+pub mod Ends
+pub mod Parts
+pub mod Clears

@@ -1,0 +1,111 @@
+-- An accessor goes: its row is zeroed, and a writer's close record is put.
+use Prim.Native.Nat.{ℕ, _+_, _*_, _<_}
+use mathlib.Core.Path.{_≡_, refl, sym, ap, _∙_, subst}
+use mathlib.Core.Bool.{Bool, true, false}
+use mathlib.Core.List.{List, []}
+use mathlib.Core.Option.{Option, some}
+use native.Mathlib.Omega.{arith}
+use lib.ListN.{length}
+use lib.Seq.{sets}
+use Rattle.tally.specs.Count.{bit}
+use Rattle.rules.specs.Limits.{files, places, shareBytes}
+use Rattle.rules.specs.State.{idle, Acc, Built}
+use Rattle.rules.specs.Requests.{accAt, putRec}
+use Rattle.rules.specs.Close.{closeRec, lastGone, vacate, closed}
+use Rattle.rules.specs.Allocation.{placeOf}
+use Rattle.rules.proofs.Split.{pick-true, pick-false}
+use Rattle.shares.proofs.Image.{recordWords-most}
+use Rattle.laws.proofs.Midst.{mid-walks}
+use Rattle.segment.specs.declared.PlaceRow.{PlaceRow}
+use Rattle.segment.specs.Layout.{rowAt, placeRow, segmentBytes}
+use Rattle.segment.specs.Table.{fill}
+use Rattle.segment.specs.Fields.{placeWords, placeAt, placeRowOf}
+use Rattle.blocks.specs.declared.ring.Ring.{Ring}
+use Rattle.blocks.specs.Ring as ring
+use Rattle.blocks.specs.Writing.{recOf, Ready, inscribed}
+use Rattle.blocks.specs.Memory as code
+use Rattle.blocks.proofs.Held.{held-ready}
+use Rattle.memory.specs.Image as image
+use Rattle.memory.specs.Stands.{shareAt}
+use Rattle.memory.specs.Fine.{Fine}
+use Rattle.midst.specs.declared.File as hand
+use Rattle.midst.specs.Mid.{Start, Mid}
+use Rattle.midst.proofs.Begins.{mid-lengths, mid-place}
+use Rattle.midst.proofs.Changes.{mid-below}
+use Rattle.midst.proofs.Rows.{mid-vacate}
+use Rattle.midst.proofs.Stores.{mid-held, mid-put}
+use Rattle.midst.proofs.Walks.{Owed, fine-walks}
+
+-- the close record
+
+module _ {n f : ℕ} {o : Start} {xs blocks buffers : List ℕ} {x : hand.File} {b : Built} (M : Mid (Owed n) f o xs blocks buffers x b) where
+  pub close-ready : Ready (x .words) (x .ring) (code.shareAt f blocks) 0
+  unfolding shareAt closeRec
+  close-ready =
+      held-ready (x .words) (x .ring) (shareAt f blocks) (mid-held M (M .good .0 .0 .1 .geo) (M .good .0 .0 .1 .holds)) (closeRec n)
+      (recordWords-most (x .words) (closeRec n) (omega arith))
+
+  pub close-put : (blocks′ : List ℕ) (r : Ring) → blocks′ ≡ sets blocks (shareBytes * f) (inscribed (x .words) (x .ring) (recOf 2 n []) (code.shareAt f blocks)) → r ≡ ring.put (x .ring)
+      → Mid Fine f o xs blocks′ buffers (record { words = x .words; ring = r }) (putRec (closeRec n) b)
+  unfolding shareAt closeRec
+  close-put blocks′ r u v =
+      rw (u, v) (mid-put {J = Fine} M (M .good .0 .0 .1 .geo) (M .good .0 .0 .1 .holds) (closeRec n) (fine-walks .closes n b (M .good)) (mid-walks f (M .file) (o .alloc) .closes n b (M .allots)))
+
+-- the row
+
+module _ {f : ℕ} {o : Start} {xs blocks buffers : List ℕ} {x : hand.File} {b : Built} (M : Mid Fine f o xs blocks buffers x b) (p : ℕ) (a : Acc) (e : accAt b p ≡ some a) where
+  pub leave-size : (length xs ≡ segmentBytes) × (f < files) × (p < places)
+  leave-size = (mid-lengths M, M .file, mid-below M p a e)
+
+  module _ (still : a .req ≡ idle) (row : PlaceRow) (is : row ≡ placeAt xs (places * f + p)) (xs′ : List ℕ)
+      (u : xs′ ≡ fill xs (rowAt (placeRow (places * f + p))) (placeWords (record { side = 0; id = 0; share = 0; timeout = 0; extended = 0; typed = 0; keep = 0; first = 0 }))) where
+    row-is : row ≡ placeRowOf (image.placeWords (some a))
+    unfolding placeOf
+    row-is = is ∙ mid-place M p (mid-below M p a e) ∙ ap (λ (z : Option Acc). placeRowOf (image.placeWords z)) e
+
+    side-is : row .side ≡ 1 + bit (a .writer)
+    unfolding placeRowOf image.placeWords
+    side-is = ap (λ (r : PlaceRow). r .side) row-is
+
+    id-is : row .id ≡ a .ident
+    unfolding placeRowOf image.placeWords
+    id-is = ap (λ (r : PlaceRow). r .id) row-is
+
+    reader : (row .side ≡ 2 → ⊥) → a .writer ≡ false
+    reader n = go (a .writer) refl
+      where
+        go : (t : Bool) → a .writer ≡ t → a .writer ≡ false
+        go true q = absurd (n (side-is ∙ ap (λ (t : Bool). 1 + bit t) q))
+        go false q = q
+
+    writer : row .side ≡ 2 → a .writer ≡ true
+    writer h = go (a .writer) refl
+      where
+        go : (t : Bool) → a .writer ≡ t → a .writer ≡ true
+        go true q = q
+        go false q = absurd (omega (arith, side-is, ap bit q))
+
+    vacated : {J : Built → Type 0} → J (vacate p b) → Mid J f o xs′ blocks buffers x (vacate p b)
+    unfolding placeOf placeWords image.placeWords
+    vacated {J} j = rw u (mid-vacate {J = J} M p a _ e still j refl)
+
+    -- a reader
+    pub reader-gone : (row .side ≡ 2 → ⊥) → Mid Fine f o xs′ blocks buffers x (closed p a b)
+    unfolding closed
+    reader-gone n =
+        subst (λ (c : Built). Mid Fine f o xs′ blocks buffers x c) (sym (pick-false (a .writer) (putRec (closeRec (a .ident)) (lastGone (vacate p b))) (vacate p b) (reader n)))
+        (vacated {J = Fine} (fine-walks .leaves p a b e still (reader n) (M .good)))
+
+    -- a writer
+    pub writer-gone : row .side ≡ 2 → Mid (Owed (row .id)) f o xs′ blocks buffers x (vacate p b)
+    writer-gone h = vacated {J = Owed (row .id)} (subst (λ (m : ℕ). Owed m (vacate p b)) (sym id-is) (fine-walks .parts p a b e still (writer h) (M .good)))
+
+    writer-closed : row .side ≡ 2 → putRec (closeRec (row .id)) (lastGone (vacate p b)) ≡ closed p a b
+    unfolding closed
+    writer-closed h =
+        ap (λ (m : ℕ). putRec (closeRec m) (lastGone (vacate p b))) id-is
+        ∙ sym (pick-true (a .writer) (putRec (closeRec (a .ident)) (lastGone (vacate p b))) (vacate p b) (writer h))
+
+    pub writer-done : row .side ≡ 2 → {ys bs : List ℕ} {y : hand.File} → Mid Fine f o ys bs buffers y (putRec (closeRec (row .id)) (lastGone (vacate p b)))
+        → Mid Fine f o ys bs buffers y (closed p a b)
+    writer-done h {ys} {bs} {y} N = subst (λ (c : Built). Mid Fine f o ys bs buffers y c) (writer-closed h) N

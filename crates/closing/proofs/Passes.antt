@@ -1,0 +1,171 @@
+-- The walk along the read queue: the reader at its slot waits on, or ends.
+use Prim.Native.Nat.{ℕ, _+_, _-_, _<_}
+use mathlib.Core.Path.{_≡_, refl, sym, ap, _∙_}
+use mathlib.Core.Bool.{Bool, true, false, cond}
+use mathlib.Core.List.{List, [], _∷_, _++_, append-assoc}
+use mathlib.Core.Option.{Option, some}
+use native.Mathlib.Omega.{arith}
+use native.Mathlib.Decide.{ℕ-discrete}
+use borrow.Author.Tests.{eq-eqb, ne-eqb}
+use lib.Dec.{eqb}
+use lib.ListN.{length}
+use Rattle.tally.specs.Count.{bit, count}
+use Rattle.tally.proofs.Counts.{bit-eq, count-apart}
+use Rattle.rules.specs.Limits.{places, entries}
+use Rattle.rules.specs.State.{Req, reading, readDone, ends, Acc, Built}
+use Rattle.rules.specs.Requests.{accAt, withAccs, withQueues, withTimers, alterAcc, say, without, requeue, leave, finish, failReq, fail}
+use Rattle.rules.specs.Close.{endReaders}
+use Rattle.rules.specs.Memories.{lies}
+use Rattle.rules.specs.Allocation.{Alloc, placeOf, heldAt, ownEntry, endsAt, allot, allotAll}
+use Rattle.rules.proofs.Split.{pick-true, pick-false}
+use Rattle.segment.specs.declared.PlaceRow.{PlaceRow}
+use Rattle.segment.specs.Layout.{linkAt, readQueue}
+use Rattle.segment.specs.Fields.{entryOf, entryAt, placeAt, placeRowOf}
+use Rattle.ports.proofs.Chains.{slotAt}
+use Rattle.ports.proofs.Maps.{map-append, map-in}
+use Rattle.requests.specs.Moves.{completed}
+use Rattle.requests.specs.Moves as moves
+use Rattle.laws.specs.Outstanding.{waitsRead, waitsWrite}
+use Rattle.laws.specs.Changes.{readEnds}
+use Rattle.memory.specs.Image.{reqWords}
+use Rattle.memory.specs.Image as image
+use Rattle.midst.specs.declared.File as hand
+use Rattle.midst.specs.Mid.{Start, Mid}
+use Rattle.midst.proofs.Begins.{mid-place}
+use Rattle.midst.proofs.Changes.{Knows, keep, mid-below}
+use Rattle.midst.proofs.Lists.{entriesIn, place-under}
+use Rattle.midst.proofs.Requests.{step-finish-entry, step-finish}
+use Rattle.midst.proofs.Cuts.{without-absent}
+use Rattle.midst.proofs.Terms.{ends-other, place-other}
+use Rattle.midst.proofs.Waits.{allot-snoc}
+use Rattle.midst.proofs.Walks.{Owed, fine-walks}
+use Rattle.closing.specs.Walk.{endWords, Walk}
+use Rattle.closing.proofs.Walks.{Next, once}
+
+-- while a close record is owed, as much is known of a file as the changes of requests ask
+pub owed-knows : (n : ℕ) → Knows (Owed n)
+owed-knows n = record { agree = λ b h. h .1; bounds = λ b h. h .0 .0 .0; words = λ b h. h .0 .0 .1 .geo .words-high }
+
+bit-one : (t : Bool) → bit t ≡ 1 → t ≡ true
+bit-one true e = refl
+bit-one false e = absurd (omega arith)
+
+bit-not-one : (t : Bool) → (bit t ≡ 1 → ⊥) → t ≡ false
+bit-not-one true n = absurd (n refl)
+bit-not-one false n = refl
+
+-- lists
+
+-- the slot behind one entry more
+slot-more : (p : ℕ) (xs : List ℕ) (e : ℕ) → slotAt p (xs ++ e ∷ []) ≡ linkAt e
+slot-more p [] e = refl
+slot-more p (x ∷ xs) e = slot-more (linkAt x) xs e
+
+without-seam : (p : ℕ) (xs ys : List ℕ) → count p xs ≡ 0 → count p ys ≡ 0 → without p (xs ++ p ∷ ys) ≡ xs ++ ys
+unfolding without count
+without-seam p [] ys h k = rw (eq-eqb p p refl) (without-absent p ys k)
+without-seam p (x ∷ xs) ys h k = go (ℕ-discrete x p) (without-seam p xs ys (omega arith) k)
+  where
+    go : Dec (x ≡ p) → without p (xs ++ p ∷ ys) ≡ xs ++ ys → cond (eqb x p) (without p (xs ++ p ∷ ys)) (x ∷ without p (xs ++ p ∷ ys)) ≡ x ∷ (xs ++ ys)
+    go (yes e) r = absurd (omega (arith, bit-eq x p e))
+    go (no n) r = rw (ne-eqb x p n) (ap (λ (l : List ℕ). x ∷ l) r)
+
+-- the rules, reader by reader
+
+ends-kept : (p : ℕ) (l : List ℕ) (b : Built) (a : Acc) → accAt b p ≡ some a → a .extended ≡ true → endReaders (p ∷ l) b ≡ endReaders l b
+unfolding endReaders
+ends-kept p l b a e h = rw (e, endReaders) (pick-true (a .extended) (endReaders l b) (endReaders l (fail p 2 b)) h)
+
+fails : (p : ℕ) (b : Built) (a : Acc) (w : Bool) (m : ℕ) (k : Bool) → accAt b p ≡ some a → a .req ≡ reading w m k → fail p 2 b ≡ finish p 2 (readDone 2 0 []) b
+unfolding fail failReq
+fails p b a w m k e r = rw (e, fail) (ap (λ (q : Req). failReq p 2 q b) r)
+
+ends-one : (p : ℕ) (l : List ℕ) (b : Built) (a : Acc) (w : Bool) (m : ℕ) (k : Bool) → accAt b p ≡ some a → a .req ≡ reading w m k → a .extended ≡ false
+    → endReaders (p ∷ l) b ≡ endReaders l (finish p 2 (readDone 2 0 []) b)
+unfolding endReaders
+ends-one p l b a w m k e r h =
+    let i : endReaders (p ∷ l) b ≡ endReaders l (fail p 2 b) = rw (e, endReaders) (pick-false (a .extended) (endReaders l b) (endReaders l (fail p 2 b)) h) in
+    i ∙ ap (endReaders l) (fails p b a w m k e r)
+
+module _ {n f : ℕ} {o : Start} {xs blocks buffers : List ℕ} {x : hand.File} {from : Built} {slot left : ℕ} (W : Walk (Owed n) f o xs blocks buffers x from slot left) where
+  abbrev b : Built
+  b = W .file
+
+  abbrev t : Alloc
+  t = allotAll f (b .past) (o .alloc)
+
+  module _ (e : ℕ) (N : Next f o xs b (W .rest) e) where
+    below : N .place < places
+    below = mid-below (W .mid) (N .place) (N .acc) (N .opens)
+
+    pub next-place : entryAt xs e .place < 64
+    next-place = rw (N .entry) (place-under f (N .place) (W .mid .file) below)
+
+    extended-is : placeAt xs (entryAt xs e .place) .extended ≡ bit (N .acc .extended)
+    unfolding placeRowOf image.placeWords
+    extended-is =
+        ap (λ (r : PlaceRow). r .extended) (ap (placeAt xs) (N .entry) ∙ mid-place (W .mid) (N .place) below)
+        ∙ ap (λ (z : Option Acc). placeRowOf (image.placeWords z) .extended) (N .opens)
+
+    pub next-found : moves.entryOf xs (readQueue f) (entryAt xs e .place) < entries
+    unfolding waitsRead waitsWrite
+    next-found =
+        rw (N .entry) (step-finish-entry (owed-knows n) (W .mid) (N .place) (N .acc) (N .opens) false 2
+        (reading (N .words) (N .limit) (N .keeps)) (readDone 2 0 []) (N .asks) refl (readEnds (omega arith) (omega arith)))
+
+    -- it waits on
+    pub next-kept : placeAt xs (entryAt xs e .place) .extended ≡ 1 → Walk (Owed n) f o xs blocks buffers x from (linkAt e) (left - 1)
+    next-kept h = record {
+      file = b;
+      kept = W .kept ++ (N .place ∷ []);
+      rest = N .others;
+      mid = W .mid;
+      queue = W .queue ∙ ap (λ (l : List ℕ). W .kept ++ l) (N .first) ∙ sym (append-assoc (W .kept) (N .place ∷ []) (N .others));
+      at = ap (λ (z : ℕ). linkAt z) (N .own) ∙ sym (ap (slotAt (readQueue f)) (map-append (λ y. ownEntry (heldAt t (placeOf f y))) (W .kept) (N .place ∷ []))
+          ∙ slot-more (readQueue f) (entriesIn f t (W .kept)) (ownEntry (heldAt t (placeOf f (N .place)))));
+      few = omega (arith, W .few, ap length (N .first));
+      same = sym (ends-kept (N .place) (N .others) b (N .acc) (N .opens) (bit-one (N .acc .extended) (sym extended-is ∙ h)))
+          ∙ ap (λ (l : List ℕ). endReaders l b) (sym (N .first)) ∙ W .same;
+    }
+
+    -- it ends
+    module _ (h : placeAt xs (entryAt xs e .place) .extended ≡ 1 → ⊥) where
+      abbrev c : Built
+      c = finish (N .place) 2 (readDone 2 0 []) b
+
+      ended : allotAll f (c .past) (o .alloc) ≡ endsAt (placeOf f (N .place)) t
+      unfolding finish leave say withTimers requeue alterAcc withAccs withQueues allot
+      ended = allot-snoc f (b .past) (ends (N .place) 2) (o .alloc)
+
+      same-kept : entriesIn f (allotAll f (c .past) (o .alloc)) (W .kept) ≡ entriesIn f t (W .kept)
+      same-kept =
+          map-in (λ y. ownEntry (heldAt (allotAll f (c .past) (o .alloc)) (placeOf f y))) (λ y. ownEntry (heldAt t (placeOf f y))) (W .kept)
+          (λ y k. ap ownEntry (ap (λ (s : Alloc). heldAt s (placeOf f y)) ended ∙ ends-other (placeOf f (N .place)) t (placeOf f y)
+          (place-other f (N .place) y (count-apart y (N .place) (W .kept) k (once W (N .place) (N .others) (N .first) .0)))))
+
+      queue-now : c .rq ≡ W .kept ++ N .others
+      unfolding finish leave say withTimers requeue alterAcc withAccs withQueues
+      queue-now =
+          ap (without (N .place)) (W .queue ∙ ap (λ (l : List ℕ). W .kept ++ l) (N .first))
+          ∙ without-seam (N .place) (W .kept) (N .others) (once W (N .place) (N .others) (N .first) .0) (once W (N .place) (N .others) (N .first) .1)
+
+      mid-now : (xs′ : List ℕ) → xs′ ≡ completed xs (readQueue f) (entryAt xs e .place) (endWords (entryAt xs e .place)) → Mid (Owed n) f o xs′ blocks buffers x c
+      unfolding endWords reqWords waitsRead waitsWrite lies
+      mid-now xs′ u =
+          rw (u, N .entry) (step-finish (owed-knows n) (W .mid) (N .place) (N .acc) (N .opens) false 2 (reading (N .words) (N .limit) (N .keeps)) (readDone 2 0 []) (N .asks) refl
+          (readEnds (omega arith) (omega arith)) buffers
+          (fine-walks .endings n (N .place) 2 (readDone 2 0 []) (N .acc) (reading (N .words) (N .limit) (N .keeps)) b (N .opens) (N .asks) (readEnds (omega arith) (omega arith)) (W .mid .good))
+          (keep refl (sym (ap lies (N .asks)))))
+
+      pub next-ended : (xs′ : List ℕ) → xs′ ≡ completed xs (readQueue f) (entryAt xs e .place) (endWords (entryAt xs e .place)) → Walk (Owed n) f o xs′ blocks buffers x from slot (left - 1)
+      next-ended xs′ u = record {
+        file = c;
+        kept = W .kept;
+        rest = N .others;
+        mid = mid-now xs′ u;
+        queue = queue-now;
+        at = W .at ∙ ap (slotAt (readQueue f)) (sym same-kept);
+        few = omega (arith, W .few, ap length (N .first));
+        same = sym (ends-one (N .place) (N .others) b (N .acc) (N .words) (N .limit) (N .keeps) (N .opens) (N .asks) (bit-not-one (N .acc .extended) (λ z. h (extended-is ∙ z))))
+            ∙ ap (λ (l : List ℕ). endReaders l b) (sym (N .first)) ∙ W .same;
+      }

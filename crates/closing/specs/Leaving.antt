@@ -1,0 +1,31 @@
+-- A close in its midst. A memory that a function is not lent stands under a quantifier.
+use Prim.Native.Nat.{ℕ, _<_}
+use mathlib.Core.Path.{_≡_}
+use mathlib.Core.List.{List}
+use Rattle.rules.specs.Limits.{entries}
+use Rattle.rules.specs.State.{Built}
+use Rattle.segment.specs.Table.{nth}
+use Rattle.midst.specs.declared.File as hand
+use Rattle.midst.specs.Mid.{Start, Mid}
+use Rattle.midst.proofs.Walks.{Owed}
+use Rattle.closing.specs.Walk.{Walk}
+
+-- the writer with the ID n has gone, and its close record is owed
+abbrev pub Gone : ℕ → List ℕ → Type 0
+Gone f xs = (n : ℕ) × (blocks : List ℕ) × (buffers : List ℕ) × (x : hand.File) × (o : Start) × (b : Built) × Mid (Owed n) f o xs blocks buffers x b
+
+-- what is done then to the segment alone
+abbrev pub Goes : (Built → Built) → ℕ → List ℕ → List ℕ → Type 0
+Goes g f xs xs′ =
+    (n : ℕ) (blocks buffers : List ℕ) (x : hand.File) (o : Start) (b : Built) → Mid (Owed n) f o xs blocks buffers x b → Mid (Owed n) f o xs′ blocks buffers x (g b)
+
+-- the walk stands at the entry e
+abbrev pub Stops : ℕ → List ℕ → ℕ → ℕ → Type 0
+Stops f xs slot e =
+    ((n : ℕ) × (blocks : List ℕ) × (buffers : List ℕ) × (x : hand.File) × (o : Start) × (b : Built) × (left : ℕ) × Walk (Owed n) f o xs blocks buffers x b slot left)
+    × (e ≡ nth xs slot) × (e < entries)
+
+-- from the segment xs₀ on, the walk has come to this slot
+abbrev pub Walked : ℕ → List ℕ → List ℕ → ℕ → ℕ → Type 0
+Walked f xs₀ xs slot left =
+    (n : ℕ) (blocks buffers : List ℕ) (x : hand.File) (o : Start) (b : Built) → Mid (Owed n) f o xs₀ blocks buffers x b → Walk (Owed n) f o xs blocks buffers x b slot left

@@ -1,0 +1,80 @@
+// "for the last writer, every waiting reader without extended wait, in queue order, completes with status 2"
+ghost use mathlib.Core.Path.{_≡_};
+ghost use mathlib.Core.List.{List};
+ghost use Prim.Native.Nat.{ℕ, _-_, _<_};
+ghost use lib.ListN.{length};
+ghost use Rattle.rules.specs.Limits.{entries};
+ghost use Rattle.rules.specs.State.{Built};
+ghost use Rattle.rules.specs.Close.{endReaders, lastGone};
+ghost use Rattle.segment.specs.Layout.{segmentBytes, readQueue};
+ghost use Rattle.requests.specs.Moves.{entryOf, completed};
+ghost use Rattle.midst.specs.declared.File as hand;
+ghost use Rattle.midst.specs.Mid.{Start};
+ghost use Rattle.midst.proofs.Walks.{Owed};
+ghost use Rattle.closing.specs.Walk.{endWords, Walk};
+ghost use Rattle.closing.specs.Leaving.{Gone, Goes, Stops};
+use judges::sides::WRITER;
+use judges::sides::count_side;
+use segment::Entry;
+use segment::layout;
+
+const END_OF_FILE: u16 = 2;
+
+// The waiting read of a place ends.
+fn end_read(segment: &mut [u8], f: usize, place: u16)
+    requires { ⌜ (length (now segment) ≡ segmentBytes) × (f < 8) × (place < 64) ⌝ }
+    requires { ⌜ entryOf (now segment) (readQueue f) place < entries ⌝ }
+    ensures { λ _. ⌜ now (segment .exit) ≡ completed (now (segment .entry)) (readQueue f) place (endWords place) ⌝ }
+{
+    let done = Entry {
+        place,
+        unit: 0,
+        limit: 0,
+        keep: 0,
+        status: END_OF_FILE,
+        log: 0,
+        size: 0,
+        seconds: 0,
+    };
+    requests::complete(segment, layout::READ_QUEUES + f, done);
+}
+
+// The reader whose entry e stands at the slot: it waits on, and the walk goes on behind it, or it ends, and the next one stands at the slot.
+fn pass(segment: &mut [u8], f: usize, slot: usize, e: u16) -> usize
+    requires { ⌜ Stops f (now segment) slot e ⌝ }
+    ensures { λ r. ⌜ ((n : ℕ) (blocks buffers : List ℕ) (x : hand.File) (o : Start) (b : Built) (left : ℕ) → Walk (Owed n) f o (now (segment .entry)) blocks buffers x b slot left → Walk (Owed n) f o (now (segment .exit)) blocks buffers x b r (left - 1)) ⌝ }
+{
+    let place = segment::entry_place(segment, e);
+    let row = segment::read_place(segment, place as usize);
+    if row.extended == 1 {
+        return segment::link_at(e);
+    }
+    end_read(segment, f, place);
+    slot
+}
+
+fn end_readers(segment: &mut [u8], f: usize)
+    requires { ⌜ Gone f (now segment) ⌝ }
+    ensures { λ _. ⌜ Goes (λ (b : Built). endReaders (b .rq) b) f (now (segment .entry)) (now (segment .exit)) ⌝ }
+{
+    let mut slot = layout::READ_QUEUES + f;
+    let mut left = layout::ENTRIES;
+    while 0 < left {
+        let e = segment::get(segment, slot);
+        if layout::ENTRIES <= e {
+            return;
+        }
+        slot = pass(segment, f, slot, e);
+        left -= 1;
+    }
+}
+
+// The readers of file f when a writer has gone.
+pub fn last_gone(segment: &mut [u8], f: usize)
+    requires { ⌜ Gone f (now segment) ⌝ }
+    ensures { λ _. ⌜ Goes lastGone f (now (segment .entry)) (now (segment .exit)) ⌝ }
+{
+    if count_side(segment, f, WRITER) == 0 {
+        end_readers(segment, f);
+    }
+}

@@ -1,0 +1,99 @@
+-- A control that is accepted, and the abort.
+use Prim.Native.Nat.{ℕ, _+_, _*_, _<_}
+use mathlib.Core.Path.{_≡_, refl, sym, _∙_}
+use mathlib.Core.Bool.{true, false, true≢false}
+use mathlib.Core.List.{List}
+use mathlib.Core.Option.{some}
+use lib.ListN.{length}
+use Rattle.kinds.specs.declared.Answer.the-variants.{Controlled, Status}
+use Rattle.kinds.specs.declared.Control.{Control}
+use Rattle.kinds.specs.declared.Control.the-variants.{Timeout, Verify, Abort, Extended, Typed, Keep}
+use Rattle.rules.specs.Limits.{files, places, entries}
+use Rattle.rules.specs.State.{Req, idle, reading, writing, readDone, writeDone, Acc, Built}
+use Rattle.rules.specs.Requests.{accAt, cancel}
+use Rattle.rules.specs.Reply.{Out, status}
+use Rattle.rules.specs.Calls.{ask}
+use Rattle.rules.specs.Calls as calls
+use Rattle.rules.specs.Desk.{Desk, on, fileOf, answered}
+use Rattle.rules.specs.Allocation.{Alloc}
+use Rattle.segment.specs.Layout.{segmentBytes}
+use Rattle.segment.specs.Fields.{fileAt, placeAt}
+use Rattle.buffers.specs.Buffer.{buffersBytes}
+use Rattle.requests.specs.Moves.{entryOf, cancelled}
+use Rattle.laws.specs.Outstanding.{uncollected}
+use Rattle.memory.specs.Stands.{Bytes}
+use Rattle.memory.specs.Fine.{Fine, StandsFor}
+use Rattle.midst.specs.File.{fileOfRow}
+use Rattle.midst.specs.Mid.{Mid}
+use Rattle.midst.specs.Outcome.{refusalOf, Done}
+use Rattle.midst.specs.Accepted.{ControlKnown}
+use Rattle.midst.proofs.Begins.{mid-begin}
+use Rattle.midst.proofs.Changes.{mid-below}
+use Rattle.midst.proofs.Accepted.{accepted-control, accepted-abort}
+use Rattle.judges.specs.Requests.{queueOf, outstandingAt, outstandingOf}
+use Rattle.controls.specs.Removed.{isWaiting, emptied}
+use Rattle.controls.specs.Acts.{Taken}
+use Rattle.controls.proofs.Stood.{start, begins-rowed, stays-done}
+use Rattle.controls.proofs.Cancels.{waiting-awaits, waits-is, removable, removed, removed-rowed}
+
+-- the accessor of a control that is accepted
+known-at : (p : ℕ) (c : Control) (b : Built) (o : Out) → ControlKnown p (some c) b o → (a : Acc) × (accAt b p ≡ some a)
+unfolding ControlKnown
+known-at p (Timeout v) b o k = (k .a, k .at)
+known-at p (Verify v) b o k = (k .a, k .at)
+known-at p (Abort v) b o k = (k .a, k .at)
+known-at p (Extended v) b o k = (k .a, k .at)
+known-at p (Typed v) b o k = (k .a, k .at)
+known-at p (Keep v) b o k = (k .a, k .at)
+
+-- one that does not wait is completed
+completes : (q : Req) → isWaiting (outstandingOf q) ≡ false → (q ≡ idle → ⊥) → uncollected q ≡ 1
+unfolding isWaiting outstandingOf uncollected
+completes idle e n = absurd (n refl)
+completes (reading w l k) e n = absurd (true≢false e)
+completes (writing w d) e n = absurd (true≢false e)
+completes (readDone st l d) e n = refl
+completes (writeDone st l) e n = refl
+
+-- the memories' lengths, and file and place
+pub record Sized (f p : ℕ) (xs buffers : List ℕ) : Type 0 where
+  pub segment : length xs ≡ segmentBytes
+  pub buffers-size : length buffers ≡ buffersBytes
+  pub file : f < files
+  pub place : p < places
+
+pub taken-sized : (f p : ℕ) (c : Control) (xs buffers : List ℕ) → Taken f (calls.control p (some c)) xs buffers → Sized f p xs buffers
+taken-sized f p c xs buffers (blocks, d, s, S, r) =
+    let A = accepted-control d f p (some c) r in
+    let M : Mid Fine f (start d s blocks buffers) xs blocks buffers (fileOfRow (fileAt xs f)) (A .b) = mid-begin S f (A .b) (A .file) (A .stands) in
+    let k = known-at p c (A .b) _ (A .known) in
+    record { segment = S .stands .segment .size; buffers-size = S .stands .bodies .buffers-size; file = A .file; place = mid-below M p (k .0) (k .1) }
+
+pub abort-removable : (f p v : ℕ) (xs buffers : List ℕ) → Taken f (calls.control p (some (Abort v))) xs buffers → (side : ℕ) → side ≡ placeAt xs (places * f + p) .side
+    → isWaiting (outstandingAt xs f p side) ≡ true → entryOf xs (queueOf f side) (places * f + p) < entries
+abort-removable f p v xs buffers (blocks, d, s, S, r) side k w =
+    let A = accepted-abort d f p v r in
+    removable (mid-begin S f (A .b) (A .file) (A .stands)) p (A .known .a) (A .known .at) side k w
+
+module _ {xs blocks buffers : List ℕ} {d : Desk} {s : Alloc} (S : StandsFor xs blocks buffers d s) (f p v : ℕ)
+    (r : refusalOf (answered d (on f (calls.control p (some (Abort v)))) .reply) ≡ 0) (side : ℕ) (k : side ≡ placeAt xs (places * f + p) .side) where
+  pub abort-waits : isWaiting (outstandingAt xs f p side) ≡ true → (xs′ buffers′ : List ℕ) → xs′ ≡ cancelled xs (queueOf f side) (places * f + p)
+      → buffers′ ≡ emptied side (places * f + p) buffers → Bytes xs′ → Bytes buffers′
+      → Done f d s (ask (fileOf d f) (calls.control p (some (Abort v)))) blocks buffers xs′ blocks buffers′ Controlled
+  abort-waits w xs′ buffers′ u z bs bf =
+      let A = accepted-abort d f p v r in
+      let M : Mid Fine f (start d s blocks buffers) xs blocks buffers (fileOfRow (fileAt xs f)) (A .b) = mid-begin S f (A .b) (A .file) (A .stands) in
+      stays-done S f xs′ buffers′ (fileOfRow (fileAt xs f)) (cancel p (A .b)) Controlled _
+      (A .known .waits (waiting-awaits (A .known .a .req) (sym (waits-is M p (A .known .a) (A .known .at) side k) ∙ w)))
+      (removed M p (A .known .a) (A .known .at) side k w xs′ buffers′ u z)
+      (removed-rowed M p (A .known .a) (A .known .at) side k w xs′ u (begins-rowed S f (A .b) (A .file) (A .stands))) bs bf
+
+  pub abort-completed : isWaiting (outstandingAt xs f p side) ≡ false
+      → Done f d s (ask (fileOf d f) (calls.control p (some (Abort v)))) blocks buffers xs blocks buffers (Status 5 2)
+  unfolding status
+  abort-completed w =
+      let A = accepted-abort d f p v r in
+      let M : Mid Fine f (start d s blocks buffers) xs blocks buffers (fileOfRow (fileAt xs f)) (A .b) = mid-begin S f (A .b) (A .file) (A .stands) in
+      stays-done S f xs buffers (fileOfRow (fileAt xs f)) (A .b) (Status 5 2) _
+      (A .known .completed (completes (A .known .a .req) (sym (waits-is M p (A .known .a) (A .known .at) side k) ∙ w) (A .known .outstands)))
+      M (begins-rowed S f (A .b) (A .file) (A .stands)) (S .stands .segment .bytes) (S .stands .bodies .buffers-bytes)

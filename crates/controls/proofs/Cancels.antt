@@ -1,0 +1,114 @@
+-- In the midst of a call the waiting request of an accessor is removed.
+use Prim.Native.Nat.{ℕ, _+_, _*_, _<_}
+use mathlib.Core.Path.{_≡_, refl, sym, ap, _∙_}
+use mathlib.Core.Bool.{Bool, true, false, cond, true≢false}
+use mathlib.Core.List.{List}
+use mathlib.Core.Option.{some}
+use native.Mathlib.Omega.{arith}
+use lib.Dec.{eqb}
+use lib.ListN.{set}
+use Rattle.tally.specs.Count.{bit}
+use Rattle.rules.specs.Limits.{places, entries}
+use Rattle.rules.specs.State.{Req, idle, reading, writing, readDone, writeDone, Acc, Built, built}
+use Rattle.rules.specs.Requests.{accAt, cancel}
+use Rattle.rules.specs.Memories.{lies}
+use Rattle.rules.specs.Allocation.{placeOf, allotAll}
+use Rattle.segment.specs.Layout.{readQueue, writeQueue}
+use Rattle.segment.specs.Fields.{placeAt, placeRowOf}
+use Rattle.requests.specs.Moves.{entryOf, cancelled}
+use Rattle.laws.specs.Outstanding.{waitsRead, waitsWrite, awaits}
+use Rattle.laws.specs.Sides.{Fitting}
+use Rattle.memory.specs.Image as image
+use Rattle.memory.specs.Fine.{Fine}
+use Rattle.midst.specs.declared.File as hand
+use Rattle.midst.specs.Seg.{queueAt}
+use Rattle.midst.specs.Mid.{Start, Mid}
+use Rattle.midst.proofs.Begins.{mid-file, mid-place}
+use Rattle.midst.proofs.Changes.{fine-knows, Laid, keep, clear, mid-below}
+use Rattle.midst.proofs.Requests.{step-cancel-entry, step-cancel}
+use Rattle.midst.proofs.Terms.{waitsAt}
+use Rattle.midst.proofs.Walks.{fine-walks}
+use Rattle.midst.proofs.Stays.{Rowed, rowed-cancel}
+use Rattle.judges.specs.Requests.{queueOf, outstandingAt, outstandingOf}
+use Rattle.judges.specs.Sides.{sideOf}
+use Rattle.judges.proofs.Waits.{outstanding-boxes}
+use Rattle.controls.specs.Removed.{isWaiting, emptied}
+
+-- the side that a row has
+two : (w : Bool) → eqb (1 + bit w) 2 ≡ w
+two true = refl
+two false = refl
+
+-- a waiting request waits in the queue of its side
+waits-side : (w : Bool) (q : Req) → Fitting w q → isWaiting (outstandingOf q) ≡ true → waitsAt w q ≡ 1
+unfolding Fitting isWaiting outstandingOf waitsRead waitsWrite
+waits-side w idle F e = absurd (true≢false (sym e))
+waits-side w (reading u l k) F e = rw F
+waits-side w (writing u d) F e = rw F
+waits-side w (readDone st l d) F e = absurd (true≢false (sym e))
+waits-side w (writeDone st l) F e = absurd (true≢false (sym e))
+
+pub waiting-awaits : (q : Req) → isWaiting (outstandingOf q) ≡ true → awaits q ≡ 1
+unfolding isWaiting outstandingOf waitsRead waitsWrite
+waiting-awaits idle e = absurd (true≢false (sym e))
+waiting-awaits (reading u l k) e = refl
+waiting-awaits (writing u d) e = refl
+waiting-awaits (readDone st l d) e = absurd (true≢false (sym e))
+waiting-awaits (writeDone st l) e = absurd (true≢false (sym e))
+
+-- no data lie in a reader's buffer while its request waits
+reads-nothing : (q : Req) → waitsRead q ≡ 1 → lies idle ≡ lies q
+unfolding waitsRead lies
+reads-nothing idle h = refl
+reads-nothing (reading w l k) h = refl
+reads-nothing (writing w d) h = absurd (omega arith)
+reads-nothing (readDone st l d) h = absurd (omega arith)
+reads-nothing (writeDone st l) h = refl
+
+laid : (w : Bool) (f p : ℕ) (q : Req) (ys : List ℕ) → waitsAt w q ≡ 1 → Laid f p q idle ys (cond w (emptied 2 (placeOf f p) ys) ys)
+unfolding emptied lies
+laid true f p q ys h = clear refl refl
+laid false f p q ys h = keep refl (reads-nothing q h)
+
+module _ {f : ℕ} {o : Start} {xs blocks buffers : List ℕ} {x : hand.File} {b : Built} (M : Mid Fine f o xs blocks buffers x b) (p : ℕ) (a : Acc) (e : accAt b p ≡ some a)
+    (side : ℕ) (k : side ≡ placeAt xs (places * f + p) .side) where
+  side-is : side ≡ 1 + bit (a .writer)
+  unfolding placeOf placeRowOf image.placeWords
+  side-is = k ∙ ap (λ r. r .side) (mid-place M p (mid-below M p a e)) ∙ ap (λ z. placeRowOf (image.placeWords z) .side) e
+
+  queue-is : queueOf f side ≡ queueAt (a .writer) f
+  queue-is = ap (queueOf f) side-is ∙ ap (λ (t : Bool). cond t (writeQueue f) (readQueue f)) (two (a .writer))
+
+  -- the lists say whether the request waits
+  pub waits-is : isWaiting (outstandingAt xs f p side) ≡ isWaiting (outstandingOf (a .req))
+  unfolding sideOf
+  waits-is =
+      ap isWaiting (ap (outstandingAt xs f p) side-is
+      ∙ outstanding-boxes (set (o .desk) f (built b)) (allotAll f (b .past) (o .alloc)) (M .segment .boxes) f (M .file) b (mid-file M) (M .good .queues) p a (mid-below M p a e) e (M .good .sides p a e))
+
+  module _ (w : isWaiting (outstandingAt xs f p side) ≡ true) where
+    waits : waitsAt (a .writer) (a .req) ≡ 1
+    waits = waits-side (a .writer) (a .req) (M .good .sides p a e .request) (sym waits-is ∙ w)
+
+    pub removable : entryOf xs (queueOf f side) (places * f + p) < entries
+    unfolding placeOf
+    removable = rw queue-is (step-cancel-entry fine-knows M p a e (a .writer) waits)
+
+    emptied-is : emptied side (places * f + p) buffers ≡ cond (a .writer) (emptied 2 (placeOf f p) buffers) buffers
+    unfolding emptied placeOf
+    emptied-is = ap (λ n. emptied n (places * f + p) buffers) side-is ∙ go (a .writer)
+      where
+        go : (t : Bool) → emptied (1 + bit t) (places * f + p) buffers ≡ cond t (emptied 2 (placeOf f p) buffers) buffers
+        go true = refl
+        go false = refl
+
+    pub removed : (xs′ buffers′ : List ℕ) → xs′ ≡ cancelled xs (queueOf f side) (places * f + p) → buffers′ ≡ emptied side (places * f + p) buffers
+        → Mid Fine f o xs′ blocks buffers′ x (cancel p b)
+    unfolding placeOf
+    removed xs′ buffers′ u v =
+        rw (u, v, queue-is, emptied-is) (step-cancel fine-knows M p a e (a .writer) waits _
+        (fine-walks .cancels p a b e (waiting-awaits (a .req) (sym waits-is ∙ w)) (M .good)) (laid (a .writer) f p (a .req) buffers waits))
+
+    pub removed-rowed : (xs′ : List ℕ) → xs′ ≡ cancelled xs (queueOf f side) (places * f + p) → Rowed xs f b → Rowed xs′ f (cancel p b)
+    unfolding placeOf
+    removed-rowed xs′ u r = rw (u, queue-is) (rowed-cancel M r fine-knows p a e (a .writer) waits)

@@ -1,0 +1,4 @@
+pub mod Stood
+pub mod Cancels
+pub mod Settings
+pub mod Aborts

@@ -1,0 +1,19 @@
+-- A waiting request, and what is left of it when it is removed.
+use Prim.Native.Nat.{ℕ, _*_}
+use mathlib.Core.Bool.{Bool, true, false, cond}
+use mathlib.Core.List.{List}
+use lib.Dec.{eqb}
+use lib.Seq.{sets}
+use Rattle.words.specs.Word.{zeros}
+use Rattle.rules.specs.Limits.{bufferBytes}
+use Rattle.judges.specs.declared.outstanding.Outstanding.{Outstanding}
+use Rattle.judges.specs.declared.outstanding.Outstanding.the-variants.{Nothing, Waiting, Completed}
+
+unfoldable pub isWaiting : Outstanding → Bool
+isWaiting Nothing = false
+isWaiting Waiting = true
+isWaiting Completed = false
+
+-- the record buffers when the request of a place of that side is gone: a writer's data lay there
+unfoldable pub emptied : ℕ → ℕ → List ℕ → List ℕ
+emptied side i ys = cond (eqb side 2) (sets ys (bufferBytes * i) (zeros bufferBytes)) ys
