@@ -36,11 +36,11 @@ cancel-at : (p : ℕ) (a : Acc) (b : Built) → accAt b p ≡ some a → accAt (
 unfolding accAt cancel say leave withTimers requeue alterAcc withAccs withQueues
 cancel-at p a b e = getD-alter-same (withReq idle) a (b .accs) p e
 
-begun-at : (p : ℕ) (a : Acc) (b : Built) → accAt b p ≡ some a → accAt (alterAcc p begun b) p ≡ some (begun a)
+pub begun-at : (p : ℕ) (a : Acc) (b : Built) → accAt b p ≡ some a → accAt (alterAcc p begun b) p ≡ some (begun a)
 unfolding accAt alterAcc withAccs
 begun-at p a b e = getD-alter-same begun a (b .accs) p e
 
-begun-mild : Mild begun
+pub begun-mild : Mild begun
 unfolding Mild begun isWriter
 begun-mild a = (refl, refl, refl, refl)
 
@@ -52,7 +52,7 @@ is-idle (writing w d) e = absurd (true≢false (sym e))
 is-idle (readDone s l d) e = absurd (true≢false (sym e))
 is-idle (writeDone s l) e = absurd (true≢false (sym e))
 
-readable-bytes : (n : ℕ) → readable n ≡ true → countBytes n ≤ mostReadBytes
+pub readable-bytes : (n : ℕ) → readable n ≡ true → countBytes n ≤ mostReadBytes
 unfolding readable countBytes
 readable-bytes n = by-cases (inWords n)
     (λ t. rw t (λ e. omega (arith, leb-true n mostReadWords e)))

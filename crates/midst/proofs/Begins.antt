@@ -151,15 +151,15 @@ module _ {I : Built → Type 0} {f : ℕ} {o : Start} {xs blocks buffers : List 
 
 -- it ends
 
-hushed-alike : (b : Built) → Alike (built b) (built (hushed b))
+pub hushed-alike : (b : Built) → Alike (built b) (built (hushed b))
 unfolding hushed accOf accAt rqOf wqOf
 hushed-alike b = record { reads = refl; writes = refl; reqs = λ p. refl }
 
-hushed-acc : (b : Built) (p : ℕ) → accOf (built b) p ≡ accOf (built (hushed b)) p
+pub hushed-acc : (b : Built) (p : ℕ) → accOf (built b) p ≡ accOf (built (hushed b)) p
 unfolding hushed accOf accAt
 hushed-acc b p = refl
 
-hushed-bytes : (b : Built) (share buffers : List ℕ) → share ≡ b .store .share → buffers ≡ fileBuffers (b .accs) → FileBytes (built (hushed b)) share buffers
+pub hushed-bytes : (b : Built) (share buffers : List ℕ) → share ≡ b .store .share → buffers ≡ fileBuffers (b .accs) → FileBytes (built (hushed b)) share buffers
 unfolding hushed FileBytes
 hushed-bytes b share buffers e h = (e, h)
 

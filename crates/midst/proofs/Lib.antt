@@ -25,3 +25,4 @@ pub mod Accepted
 pub mod Refused
 pub mod Keeps
 pub mod Stays
+pub mod Still

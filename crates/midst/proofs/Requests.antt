@@ -26,7 +26,7 @@ use Rattle.laws.proofs.Outstanding.{outstanding-most}
 use Rattle.laws.proofs.Sieve.{countT-sieve}
 use Rattle.laws.proofs.Midst.{mid-wait, mid-walks}
 use Rattle.buffers.specs.Buffer.{filled}
-use Rattle.memory.specs.Image.{reqWords}
+use Rattle.memory.specs.Image.{reqWords, fileWords}
 use Rattle.midst.specs.declared.File as hand
 use Rattle.midst.specs.Seg.{Seg, queueAt}
 use Rattle.midst.specs.Mid.{Start, Mid}
@@ -187,6 +187,15 @@ module _ {I : Built → Type 0} {f : ℕ} {o : Start} {xs blocks buffers : List 
     freed-all : allotAll f (freed p b .past) (o .alloc) ≡ goesAt i t
     unfolding freed say requeue alterAcc withAccs withQueues allot
     freed-all = allot-snoc f (b .past) (collects p) (o .alloc)
+
+    -- the segment with all rows, where the file's own stands as it is
+    pub step-free-rows : {k : ℕ} → Seg xs (set (o .desk) f (built b)) (allotAll f (b .past) (o .alloc)) k
+        → Seg (collected xs (placeOf f p)) (set (o .desk) f (built (freed p b))) (allotAll f (freed p b .past) (o .alloc)) k
+    unfolding freed say requeue alterAcc withAccs withQueues fileWords
+    step-free-rows {k} S =
+        let h : outstanding (a .req) ≡ 1 = omega (arith, outstanding-most (a .req)) in
+        reset _ (o .desk) f b (freed p b) (goesAt i t) _ k freed-all
+        (seg-collect (placed h) done (omega (arith, ticks, M .allots .matches .agrees .timed p, ap awaits asked)) S (freed p b) refl refl refl (λ _. refl) .1)
 
     pub step-free : {J : Built → Type 0} (buffers′ : List ℕ) → J (freed p b) → Laid f p (a .req) idle buffers buffers′
         → Mid J f o (collected xs (placeOf f p)) blocks buffers′ x (freed p b)

@@ -1,0 +1,9 @@
+pub mod Fits
+pub mod Ports
+pub mod Collects
+pub mod Tests
+pub mod Begun
+pub mod Writes
+pub mod Founds
+pub mod Handing
+pub mod Rests

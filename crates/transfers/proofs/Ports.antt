@@ -1,0 +1,147 @@
+-- What the reply port of a place, and its record buffer, show of the request at the place.
+use Prim.Native.Nat.{ℕ, _-_, _≤_, _<_}
+use mathlib.Core.Path.{_≡_, refl, sym, ap, _∙_}
+use mathlib.Core.Logic.{_⊎_, inl, inr}
+use mathlib.Core.List.{List, [], _∷_, map}
+use mathlib.Core.Option.{Option, none, some}
+use native.Mathlib.Omega.{arith}
+use lib.ListN.{length, getD, take}
+use lib.Seq.{take-append-seam}
+use Rattle.words.specs.Word.{zeros}
+use Rattle.rules.specs.Limits.{files, places, entries, bufferBytes, leastRefusal}
+use Rattle.rules.specs.State.{Req, idle, reading, writing, readDone, writeDone, Acc, Built, File, built}
+use Rattle.rules.specs.Requests.{accAt}
+use Rattle.rules.specs.Memories.{lies, buffer}
+use Rattle.rules.specs.Reply.{status}
+use Rattle.rules.specs.Transfer.{collected, collect}
+use Rattle.rules.specs.Desk.{Desk, fileOf}
+use Rattle.rules.specs.Allocation.{Alloc, placeOf, heldAt, ownEntry, portOf}
+use Rattle.laws.specs.Outstanding.{uncollected}
+use Rattle.laws.specs.Bounds.{Bounded}
+use Rattle.laws.proofs.Bounds.{bounds-at, length-buffer}
+use Rattle.segment.specs.Layout.{replyPort}
+use Rattle.segment.specs.Table.{nth, dataOf}
+use Rattle.segment.specs.Fields.{entryOf, entryAt}
+use Rattle.ports.specs.Lists.{Chain}
+use Rattle.buffers.specs.Buffer.{bufferAt, filled}
+use Rattle.buffers.proofs.Filled.{buffer-some}
+use Rattle.memory.specs.Image.{accOf, reqOf, reqWords, listOf, portWords, boxOf}
+use Rattle.memory.specs.Stands as stands
+use Rattle.memory.specs.Fine.{StandsFor}
+use Rattle.memory.proofs.Image.{placeAcc-of, listOf-port, boxOf-port}
+use Rattle.memory.proofs.Frames.{bufferAt-is}
+use Rattle.midst.proofs.Begins.{mid-begin}
+use Rattle.midst.proofs.Changes.{fine-knows, mid-below}
+use Rattle.midst.proofs.Requests.{step-free-entry}
+use Rattle.midst.proofs.Terms.{port-one}
+use Rattle.midst.proofs.Lists.{place-under}
+
+-- a completed request: its status and log, the bytes that it brings, and how these stand in the memories
+pub record Completed (xs buffers : List ℕ) (f p : ℕ) (b : Built) (q : Req) : Type 0 where
+  pub status : ℕ
+  pub log : ℕ
+  pub bytes : List ℕ
+  pub ended : uncollected q ≡ 1
+  pub rule : collect p q b ≡ collected status log bytes p b
+  pub entry : entryAt xs (nth xs (replyPort (placeOf f p)))
+      ≡ record { place = placeOf f p; unit = 0; limit = 0; keep = 0; status = status; log = log; size = length bytes; seconds = 0 }
+  pub lie : take (length bytes) (bufferAt (placeOf f p) buffers) ≡ bytes
+  pub short : length bytes ≤ bufferBytes
+  pub low : status < leastRefusal
+
+-- a request that is outstanding waits, and the port is empty; or it is completed
+abbrev pub Shows : List ℕ → List ℕ → ℕ → ℕ → Built → Req → Type 0
+Shows xs buffers f p b q =
+    ((entries ≤ nth xs (replyPort (placeOf f p))) × (collect p q b ≡ status 6 1 b)) ⊎ ((nth xs (replyPort (placeOf f p)) < entries) × Completed xs buffers f p b q)
+
+module _ {xs blocks buffers : List ℕ} {d : Desk} {s : Alloc} (S : StandsFor xs blocks buffers d s) (f p : ℕ) (hf : f < files) (b : Built) (is : fileOf d f ≡ built b) (a : Acc)
+    (at : accAt b p ≡ some a) where
+  abbrev i : ℕ
+  i = placeOf f p
+
+  open-place : p < places
+  open-place = mid-below (mid-begin S f b hf is) p a at
+
+  port-list : listOf d s (replyPort i) ≡ portOf (a .req) i s
+  unfolding accOf reqOf
+  port-list =
+      listOf-port d s i (place-under f p hf open-place) ∙ ap (λ (o : Option Acc). portOf (reqOf o) i s) (placeAcc-of d f p open-place ∙ ap (λ (y : File). accOf y p) is ∙ at)
+
+  port-box : boxOf d s (replyPort i) ≡ portWords i (a .req)
+  unfolding accOf reqOf
+  port-box =
+      boxOf-port d s i (place-under f p hf open-place) ∙ ap (λ (o : Option Acc). portWords i (reqOf o)) (placeAcc-of d f p open-place ∙ ap (λ (y : File). accOf y p) is ∙ at)
+
+  port-chain : Chain xs (replyPort i) (portOf (a .req) i s)
+  port-chain = rw port-list at (S .stands .segment .chains (replyPort i) (omega (arith, place-under f p hf open-place)))
+
+  port-data : map (dataOf xs) (portOf (a .req) i s) ≡ portWords i (a .req)
+  port-data = ap (map (dataOf xs)) (sym port-list) ∙ S .stands .segment .boxes (replyPort i) (omega (arith, place-under f p hf open-place)) ∙ port-box
+
+  -- what lies in its buffer
+  buffer-lies : bufferAt i buffers ≡ filled (lies (a .req))
+  unfolding stands.bufferAt accAt placeOf
+  buffer-lies =
+      let M = mid-begin S f b hf is in
+      bufferAt-is f buffers (b .accs) (M .allots .matches .agrees .eight)
+      (λ y k. length-buffer (b .geo .words) (getD (b .accs) y none) (M .good .room .geo .words-high) (M .good .bounds y)) (M .buffer) p open-place
+      ∙ ap buffer at ∙ buffer-some a
+
+  taken : (v : List ℕ) → lies (a .req) ≡ v → take (length v) (bufferAt i buffers) ≡ v
+  unfolding filled
+  taken v e = ap (take (length v)) (buffer-lies ∙ ap filled e) ∙ take-append-seam v (zeros (bufferBytes - length v))
+
+  -- a completed request, whose port is not empty
+  module _ (ended : uncollected (a .req) ≡ 1) where
+    port-full : nth xs (replyPort i) < entries
+    port-full = step-free-entry fine-knows (mid-begin S f b hf is) p a at ended
+
+    port-entry : entryAt xs (nth xs (replyPort i)) ≡ entryOf (reqWords i (a .req))
+    unfolding Chain entryAt
+    port-entry =
+        let k = port-one i (a .req) s ended in
+        let c : Chain xs (replyPort i) (ownEntry (heldAt s i) ∷ []) = rw (k .0) at port-chain in
+        let m : map (dataOf xs) (ownEntry (heldAt s i) ∷ []) ≡ reqWords i (a .req) ∷ [] = ap (map (dataOf xs)) (sym (k .0)) ∙ port-data ∙ k .1 in
+        ap (λ (e : ℕ). entryOf (dataOf xs e)) (c .0) ∙ ap (λ (l : List (List ℕ)). entryOf (getD l 0 [])) m
+
+  port-none : (q : Req) → a .req ≡ q → portOf q i s ≡ [] → entries ≤ nth xs (replyPort i)
+  unfolding Chain
+  port-none q e k =
+      let c : Chain xs (replyPort i) [] = rw (ap (λ (r : Req). portOf r i s) e ∙ k) at port-chain in
+      omega (arith, c)
+
+  pub shows : (q : Req) → a .req ≡ q → (q ≡ idle → ⊥) → Shows xs buffers f p b q
+  unfolding collect portOf reqWords entryOf uncollected lies Bounded
+  shows idle e n = absurd (n refl)
+  shows (reading w l k) e n = inl (port-none (reading w l k) e refl, refl)
+  shows (writing w v) e n = inl (port-none (writing w v) e refl, refl)
+  shows (readDone st log v) e n =
+      inr (
+        port-full (ap uncollected e),
+        record {
+          status = st;
+          log = log;
+          bytes = v;
+          ended = refl;
+          rule = refl;
+          entry = port-entry (ap uncollected e) ∙ ap (λ (r : Req). entryOf (reqWords i r)) e;
+          lie = taken v (ap lies e);
+          short = bounds-at p a (readDone st log v) b at e (mid-begin S f b hf is .good .bounds) .0;
+          low = bounds-at p a (readDone st log v) b at e (mid-begin S f b hf is .good .bounds) .1;
+        },
+      )
+  shows (writeDone st log) e n =
+      inr (
+        port-full (ap uncollected e),
+        record {
+          status = st;
+          log = log;
+          bytes = [];
+          ended = refl;
+          rule = refl;
+          entry = port-entry (ap uncollected e) ∙ ap (λ (r : Req). entryOf (reqWords i r)) e;
+          lie = refl;
+          short = omega arith;
+          low = bounds-at p a (writeDone st log) b at e (mid-begin S f b hf is .good .bounds);
+        },
+      )

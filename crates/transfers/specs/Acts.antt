@@ -1,0 +1,39 @@
+-- "Read, write, open and close first act, which fixes their answer, then the file settles."
+use Prim.Native.Nat.{ℕ, _≤_}
+use mathlib.Core.Path.{_≡_}
+use mathlib.Core.List.{List}
+use lib.ListN.{length, set}
+use lib.Seq.{sets}
+use Rattle.kinds.specs.declared.Answer.{Answer}
+use Rattle.rules.specs.Limits.{bufferBytes}
+use Rattle.rules.specs.State.{Built, built}
+use Rattle.rules.specs.Settle.{settle}
+use Rattle.rules.specs.Reply.{answers, Out, hushed, leaves}
+use Rattle.rules.specs.Desk.{Desk}
+use Rattle.rules.specs.Allocation.{Alloc, allotAll}
+use Rattle.memory.specs.Stands.{Bodies, Stands}
+use Rattle.memory.specs.Fine.{Fine}
+use Rattle.midst.specs.declared.File as hand
+use Rattle.midst.specs.Mid.{Start, Apart, Mid}
+
+abbrev pub start : Desk → Alloc → List ℕ → List ℕ → Start
+start d s blocks buffers = record { desk = d; alloc = s; blocks = blocks; buffers = buffers }
+
+-- a call of file f, which comes to x, has acted: its answer is a with these bytes, and the file in hand is about to settle
+pub record Acts (f : ℕ) (o : Start) (x : Out) (xs blocks buffers : List ℕ) (file : hand.File) (a : Answer) (bytes : List ℕ) : Type 0 where
+  pub acted : Built
+  pub mid : Mid Fine f o xs blocks buffers file acted
+  pub out : x ≡ leaves (answers a bytes) (settle acted)
+
+-- a read has: n bytes of data stand from byte 4 of the answer memory on
+pub record Hands (f : ℕ) (o : Start) (x : Out) (xs blocks buffers memory memory′ : List ℕ) (file : hand.File) (a : Answer) (n : ℕ) : Type 0 where
+  pub bytes : List ℕ
+  pub acts : Acts f o x xs blocks buffers file a bytes
+  pub size : n ≡ length bytes
+  pub most : n ≤ bufferBytes
+  pub behind : memory′ ≡ sets memory 4 bytes
+
+-- the memories stand for the desk with b as its file f
+pub record Left (f : ℕ) (o : Start) (xs blocks buffers : List ℕ) (b : Built) : Type 0 where
+  pub stands : Bodies (o .blocks) (o .buffers) (o .desk) → Stands xs blocks buffers (set (o .desk) f (built (hushed b))) (allotAll f (b .past) (o .alloc))
+  pub apart : Apart f (o .blocks) (o .buffers) blocks buffers

@@ -1,0 +1,81 @@
+// "Collect of a waiting request answers 1; of a completed one its status, and frees it."
+ghost use mathlib.Core.Path.{_≡_};
+ghost use mathlib.Core.List.{List};
+ghost use Prim.Native.Nat.{ℕ, _*_, _<_};
+ghost use lib.ListN.{length};
+ghost use lib.Seq.{sets};
+ghost use Rattle.words.specs.Word.{zeros};
+ghost use Rattle.segment.specs.Layout.{segmentBytes, replyPort};
+ghost use Rattle.segment.specs.Table.{nth};
+ghost use Rattle.rules.specs.Limits.{entries, bufferBytes, answerRoom};
+ghost use Rattle.rules.specs.Calls.{ask};
+ghost use Rattle.rules.specs.Calls as calls;
+ghost use Rattle.rules.specs.Desk.{Desk, on, fileOf, answered};
+ghost use Rattle.rules.specs.Allocation.{Alloc};
+ghost use Rattle.requests.specs.Moves.{collected};
+ghost use Rattle.buffers.specs.Buffer.{buffersBytes};
+ghost use Rattle.memory.specs.Fine.{StandsFor};
+ghost use Rattle.midst.specs.Outcome.{refusalOf, Sound, Gave, Accepted};
+use crate::COLLECT;
+use crate::DATA_AT;
+use crate::Given;
+use crate::WAITING;
+use kinds::Answer;
+use kinds::limits::PLACES;
+use segment::layout;
+
+// The completed request of a place goes, and nothing lies in the place's buffer.
+fn free(segment: &mut [u8], buffers: &mut [u8], place: usize)
+    requires { ⌜ (length (now segment) ≡ segmentBytes) × (length (now buffers) ≡ buffersBytes) × (place < 64) × (nth (now segment) (replyPort place) < entries) ⌝ }
+    ensures segment { λ _. ⌜ now (segment .exit) ≡ collected (now (segment .entry)) place ⌝ }
+    ensures buffers { λ _. ⌜ now (buffers .exit) ≡ sets (now (buffers .entry)) (bufferBytes * place) (zeros bufferBytes) ⌝ }
+{
+    buffers::clear_at(buffers, place);
+    requests::collect(segment, place as u16);
+}
+
+// The file's row and its share stay as they are.
+pub fn collect(
+    segment: &mut [u8],
+    buffers: &mut [u8],
+    answer: &mut [u8],
+    f: usize,
+    acc: usize,
+) -> Given
+    requires { ⌜ ((blocks : List ℕ) × Sound (now segment) blocks (now buffers) × Accepted f (calls.collect acc) (now segment) blocks (now buffers)) ⌝ }
+    requires { ⌜ length (now answer) ≡ answerRoom ⌝ }
+    ensures { λ r. ⌜ ((blocks : List ℕ) (d : Desk) (s : Alloc) → StandsFor (now (segment .entry)) blocks (now (buffers .entry)) d s → refusalOf (answered d (on f (calls.collect acc)) .reply) ≡ 0 → Gave f d s (ask (fileOf d f) (calls.collect acc)) blocks (now (buffers .entry)) (now (answer .entry)) (now (segment .exit)) blocks (now (buffers .exit)) (now (answer .exit)) (r .answer) (r .size)) ⌝ }
+{
+    let place = PLACES * f + acc;
+    let e = segment::get(segment, layout::REPLY_PORTS + place);
+    if e >= layout::ENTRIES {
+        return Given {
+            answer: Answer::Status {
+                operation: COLLECT,
+                status: WAITING,
+            },
+            size: 0,
+        };
+    }
+    let m = segment::read_entry(segment, e);
+    if m.status != 0 {
+        free(segment, buffers, place);
+        return Given {
+            answer: Answer::Status {
+                operation: COLLECT,
+                status: m.status as u8,
+            },
+            size: 0,
+        };
+    }
+    words::copy(
+        answer,
+        DATA_AT,
+        buffers::lies(buffers, place, m.size as usize),
+    );
+    free(segment, buffers, place);
+    Given {
+        answer: Answer::Collected { log: m.log },
+        size: m.size,
+    }
+}

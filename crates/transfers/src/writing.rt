@@ -1,0 +1,131 @@
+// A write: its record is put, or it waits, or it ends.
+ghost use mathlib.Core.Path.{_≡_};
+ghost use mathlib.Core.List.{[]};
+ghost use Prim.Native.Nat.{_<_};
+ghost use lib.ListN.{length};
+ghost use Rattle.segment.specs.Layout.{segmentBytes};
+ghost use Rattle.rules.specs.Count.{countBytes};
+ghost use Rattle.rules.specs.Calls.{ask};
+ghost use Rattle.rules.specs.Calls as calls;
+ghost use Rattle.rules.specs.Desk.{Desk, fileOf};
+ghost use Rattle.rules.specs.Allocation.{Alloc};
+ghost use Rattle.blocks.specs.Ring.{Ranged};
+ghost use Rattle.memory.specs.Fine.{StandsFor};
+ghost use Rattle.midst.specs.Outcome.{Sound, Accepted, Done};
+ghost use Rattle.transfers.specs.Rows.{admits};
+ghost use Rattle.transfers.specs.Acts.{start, Acts};
+use crate::END;
+use crate::WAITING;
+use crate::WRITE;
+use crate::rest;
+use crate::waiting::begin;
+use crate::waiting::may_wait;
+use crate::waiting::wait_write;
+use blocks::memory::put_at;
+use blocks::ring::Ring;
+use counts::in_words;
+use counts::log_of;
+use judges::sides::READER;
+use judges::sides::WRITER;
+use judges::sides::count_side;
+use kinds::Answer;
+use kinds::limits::PLACES;
+use midst::File;
+use midst::take_file;
+use segment::layout;
+use settling::fits;
+
+const DATA: u16 = 0;
+
+// The answer is fixed, and the file in hand is about to settle.
+pub struct Acted {
+    pub answer: Answer,
+    pub file: File,
+}
+
+// Whether a write is taken at once: it fits and has no writers waiting ahead.
+fn taken_now(segment: &[u8], f: usize, ring: Ring) -> bool
+    requires { ⌜ (length (now segment) ≡ segmentBytes) × (f < 8) × Ranged ring ⌝ }
+    ensures { λ r. ⌜ r ≡ admits (now (segment .entry)) f ring ⌝ }
+{
+    if segment::get(segment, layout::WRITE_QUEUES + f) < layout::ENTRIES {
+        return false;
+    }
+    fits(ring, count_side(segment, f, WRITER))
+}
+
+// "first act, which fixes their answer".
+fn act(
+    segment: &mut [u8],
+    blocks: &mut [u8],
+    buffers: &mut [u8],
+    f: usize,
+    acc: usize,
+    count: u16,
+    data: &[u8],
+) -> Acted
+    requires { ⌜ Sound (now segment) (now blocks) (now buffers) × Accepted f (calls.write acc count (now «data»)) (now segment) (now blocks) (now buffers) ⌝ }
+    requires { ⌜ length (now «data») ≡ countBytes count ⌝ }
+    ensures { λ r. ⌜ ((d : Desk) (s : Alloc) → StandsFor (now (segment .entry)) (now (blocks .entry)) (now (buffers .entry)) d s → Acts f (start d s (now (blocks .entry)) (now (buffers .entry))) (ask (fileOf d f) (calls.write acc count (now («data» .entry)))) (now (segment .exit)) (now (blocks .exit)) (now (buffers .exit)) (r .file) (r .answer) []) ⌝ }
+{
+    let place = PLACES * f + acc;
+    let row = segment::read_place(segment, place);
+    let file = take_file(segment, f);
+    let at_once = taken_now(segment, f, file.ring);
+    let waits = may_wait(segment, f, READER, row);
+    begin(segment, place, row);
+    if at_once {
+        let ring = put_at(blocks, f, file.ring, file.words, DATA, row.id, data);
+        let log = log_of(in_words(count), data.len() as u16);
+        return Acted {
+            answer: Answer::Written { log },
+            file: File {
+                words: file.words,
+                ring,
+            },
+        };
+    }
+    if waits {
+        wait_write(
+            segment,
+            buffers,
+            f,
+            place,
+            row.timeout,
+            in_words(count),
+            data,
+        );
+        return Acted {
+            answer: Answer::Status {
+                operation: WRITE,
+                status: WAITING,
+            },
+            file,
+        };
+    }
+    Acted {
+        answer: Answer::Status {
+            operation: WRITE,
+            status: END,
+        },
+        file,
+    }
+}
+
+pub fn write(
+    segment: &mut [u8],
+    blocks: &mut [u8],
+    buffers: &mut [u8],
+    f: usize,
+    acc: usize,
+    count: u16,
+    data: &[u8],
+) -> Answer
+    requires { ⌜ Sound (now segment) (now blocks) (now buffers) × Accepted f (calls.write acc count (now «data»)) (now segment) (now blocks) (now buffers) ⌝ }
+    requires { ⌜ length (now «data») ≡ countBytes count ⌝ }
+    ensures { λ r. ⌜ ((d : Desk) (s : Alloc) → StandsFor (now (segment .entry)) (now (blocks .entry)) (now (buffers .entry)) d s → Done f d s (ask (fileOf d f) (calls.write acc count (now («data» .entry)))) (now (blocks .entry)) (now (buffers .entry)) (now (segment .exit)) (now (blocks .exit)) (now (buffers .exit)) r) ⌝ }
+{
+    let acted = act(segment, blocks, buffers, f, acc, count, data);
+    rest(segment, blocks, buffers, f, acted.file);
+    acted.answer
+}
