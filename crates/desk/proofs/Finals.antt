@@ -16,9 +16,9 @@ use Rattle.midst.specs.Outcome.{refusalOf}
 use Rattle.sound.specs.Sound.{soundly}
 use Rattle.desk.specs.Answered.{usable, Responds, Answered}
 
-module _ (xs blocks buffers memory frame : List ℕ) where
-  -- 29
+-- 29
 
+module _ (xs blocks buffers memory : List ℕ) where
   pub short-memory : (length memory ≡ answerRoom → ⊥) → usable xs blocks buffers memory ≡ false
   unfolding usable
   short-memory h = rw (ne-eqb (length memory) answerRoom h) refl
@@ -31,6 +31,7 @@ module _ (xs blocks buffers memory frame : List ℕ) where
   unfolding usable
   both-fit e h = true-and _ _ (eq-eqb (length memory) answerRoom e) h
 
+module _ (xs blocks buffers memory frame : List ℕ) where
   pub unfit : usable xs blocks buffers memory ≡ false → Answered xs blocks buffers memory frame xs blocks buffers memory 0
   unfit h = record {
     unfit = λ _. (refl, refl, refl, refl, refl);

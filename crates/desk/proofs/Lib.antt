@@ -6,3 +6,5 @@ pub mod Refuses
 pub mod Finals
 pub mod Same
 pub mod Writes
+pub mod Events
+pub mod Serves

@@ -1,10 +1,11 @@
 -- A frame that is a write has its data behind its first five bytes.
-use Prim.Native.Nat.{ℕ, _+_, _≤_}
+use Prim.Native.Nat.{ℕ, _+_, _-_, _≤_}
 use mathlib.Core.Path.{_≡_, subst}
 use mathlib.Core.List.{List}
 use native.Mathlib.Omega.{arith}
 use lib.Dec.{eqb}
-use lib.ListN.{length, getD, drop, length-drop}
+use lib.ListN.{length, getD, take, drop, length-drop}
+use lib.Seq.{take-all}
 use borrow.Author.Tests.{eqb-true}
 use Rattle.words.specs.Word.{wordAt}
 use Rattle.kinds.specs.declared.Event.the-variants.{Build, Open, Read, Write, Control, Collect, Close, Time, Counts}
@@ -60,3 +61,7 @@ module _ (fr : List ℕ) where
   pub write-long : (f p n : ℕ) → frameOf fr ≡ Event (Write f p n) → (5 ≤ length fr) × (length (drop 5 fr) ≡ countBytes n)
   unfolding Long
   write-long f p n e = subst Long e frame-long
+
+  -- all behind the first five bytes
+  pub rest-is : take (length fr - 5) (drop 5 fr) ≡ drop 5 fr
+  rest-is = take-all (length fr - 5) (drop 5 fr) (omega (arith, length-drop 5 fr))

@@ -1,2 +1,61 @@
-// One event.
+// One event: the memories are looked at, the frame is taken apart, the call is judged on shared memory, and only then done.
+mod acts;
 mod refusals;
+
+use acts::act;
+use frames::decode;
+use frames::encode;
+use judges::judge;
+use kinds::Frame;
+use kinds::Event;
+use refusals::refuse;
+use refusals::refuse_event;
+use sound::sound;
+ghost use mathlib.Core.Path.{_≡_};
+ghost use mathlib.Core.List.{List};
+ghost use Prim.Native.Nat.{_≤_};
+ghost use lib.ListN.{length};
+ghost use Rattle.kinds.specs.declared.Frame.the-variants as what;
+ghost use Rattle.rules.specs.Frames.{frameOf};
+ghost use Rattle.rules.specs.Limits.{answerRoom};
+ghost use Rattle.rules.specs.Desk.{Desk};
+ghost use Rattle.rules.specs.Desk as rules;
+ghost use Rattle.rules.specs.Allocation.{Alloc};
+ghost use Rattle.memory.specs.Fine.{StandsFor};
+ghost use Rattle.midst.specs.Outcome.{Sound, refusalOf};
+ghost use Rattle.desk.specs.Answered.{Responds, Answered};
+
+// "264 bytes for its answer".
+pub const ANSWER_BYTES: usize = 264;
+
+// An accepted event is done and answered.
+fn serve(segment: &mut [u8], blocks: &mut [u8], buffers: &mut [u8], answer: &mut [u8], event: Event, frame: &[u8]) -> usize
+    requires { ⌜ Sound (now segment) (now blocks) (now buffers) × (length (now answer) ≡ answerRoom) × (frameOf (now «frame») ≡ what.Event «event») ⌝ }
+    requires { ⌜ ((d : Desk) (s : Alloc) → StandsFor (now segment) (now blocks) (now buffers) d s → refusalOf (rules.respond d (rules.event (now «frame»)) .reply) ≡ 0) ⌝ }
+    ensures { λ r. ⌜ ((d : Desk) (s : Alloc) → StandsFor (now (segment .entry)) (now (blocks .entry)) (now (buffers .entry)) d s → Responds d s (rules.event (now («frame» .entry))) (now (blocks .entry)) (now (buffers .entry)) (now (answer .entry)) (now (segment .exit)) (now (blocks .exit)) (now (buffers .exit)) (now (answer .exit)) r) ⌝ }
+{
+    let given = act(segment, blocks, buffers, answer, event, frame);
+    let told = given.answer;
+    encode(told, answer) + given.size as usize
+}
+
+// The answer to a frame; its length is the result, and its bytes stand from the first byte of the answer memory.
+pub fn event(segment: &mut [u8], blocks: &mut [u8], buffers: &mut [u8], answer: &mut [u8], frame: &[u8]) -> usize
+    ensures { λ r. ⌜ Answered (now (segment .entry)) (now (blocks .entry)) (now (buffers .entry)) (now (answer .entry)) (now («frame» .entry)) (now (segment .exit)) (now (blocks .exit)) (now (buffers .exit)) (now (answer .exit)) r ⌝ }
+{
+    if answer.len() != ANSWER_BYTES {
+        return 0;
+    }
+    if !sound(segment, blocks, buffers) {
+        return 0;
+    }
+    let said = decode(frame);
+    let Frame::Event(event) = said else {
+        return refuse(segment, said, answer);
+    };
+    let number = judge(segment, event);
+    if number != 0 {
+        return refuse_event(event, number, answer);
+    }
+    serve(segment, blocks, buffers, answer, event, frame)
+}
