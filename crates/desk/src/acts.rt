@@ -34,7 +34,14 @@ fn plain(answer: Answer) -> Given
 }
 
 // The data of a record, if there are any, stand in the answer memory where the answer's own bytes will end.
-pub fn act(segment: &mut [u8], blocks: &mut [u8], buffers: &mut [u8], answer: &mut [u8], event: Event, frame: &[u8]) -> Given
+pub fn act(
+    segment: &mut [u8],
+    blocks: &mut [u8],
+    buffers: &mut [u8],
+    answer: &mut [u8],
+    event: Event,
+    frame: &[u8],
+) -> Given
     requires { ⌜ Sound (now segment) (now blocks) (now buffers) × (length (now answer) ≡ answerRoom) × (frameOf (now «frame») ≡ what.Event «event») ⌝ }
     requires { ⌜ ((d : Desk) (s : Alloc) → StandsFor (now segment) (now blocks) (now buffers) d s → refusalOf (rules.respond d (rules.event (now «frame»)) .reply) ≡ 0) ⌝ }
     ensures { λ r. ⌜ ((d : Desk) (s : Alloc) → StandsFor (now (segment .entry)) (now (blocks .entry)) (now (buffers .entry)) d s → Acted d s (rules.event (now («frame» .entry))) (now (blocks .entry)) (now (buffers .entry)) (now (answer .entry)) (now (segment .exit)) (now (blocks .exit)) (now (buffers .exit)) (now (answer .exit)) (r .answer) (r .size)) ⌝ }
@@ -46,18 +53,67 @@ pub fn act(segment: &mut [u8], blocks: &mut [u8], buffers: &mut [u8], answer: &m
             factor,
             records,
             extents,
-        } => plain(build(segment, blocks, buffers, file as usize, words, factor, records, extents)),
+        } => plain(build(
+            segment,
+            blocks,
+            buffers,
+            file as usize,
+            words,
+            factor,
+            records,
+            extents,
+        )),
         Event::Open {
             file,
             access,
             share,
             multi,
-        } => plain(open(segment, blocks, buffers, file as usize, access, share, multi)),
-        Event::Read { file, acc, count } => read(segment, blocks, buffers, answer, file as usize, acc as usize, count),
-        Event::Write { file, acc, count } => plain(write(segment, blocks, buffers, file as usize, acc as usize, count, &frame[DATA..])),
-        Event::Control { file, acc, control: asked } => plain(control(segment, buffers, file as usize, acc as usize, asked)),
-        Event::Collect { file, acc } => collect(segment, buffers, answer, file as usize, acc as usize),
-        Event::Close { file, acc } => plain(close(segment, blocks, buffers, file as usize, acc as usize)),
+        } => plain(open(
+            segment,
+            blocks,
+            buffers,
+            file as usize,
+            access,
+            share,
+            multi,
+        )),
+        Event::Read { file, acc, count } => read(
+            segment,
+            blocks,
+            buffers,
+            answer,
+            file as usize,
+            acc as usize,
+            count,
+        ),
+        Event::Write { file, acc, count } => plain(write(
+            segment,
+            blocks,
+            buffers,
+            file as usize,
+            acc as usize,
+            count,
+            &frame[DATA..],
+        )),
+        Event::Control {
+            file,
+            acc,
+            control: asked,
+        } => plain(control(segment, buffers, file as usize, acc as usize, asked)),
+        Event::Collect { file, acc } => collect(
+            segment,
+            buffers,
+            answer,
+            file as usize,
+            acc as usize,
+        ),
+        Event::Close { file, acc } => plain(close(
+            segment,
+            blocks,
+            buffers,
+            file as usize,
+            acc as usize,
+        )),
         Event::Time { seconds } => {
             pass_time(segment, buffers, seconds);
             plain(Answer::Passed)

@@ -6,8 +6,8 @@ use acts::act;
 use frames::decode;
 use frames::encode;
 use judges::judge;
-use kinds::Frame;
 use kinds::Event;
+use kinds::Frame;
 use refusals::refuse;
 use refusals::refuse_event;
 use sound::sound;
@@ -29,7 +29,14 @@ ghost use Rattle.desk.specs.Answered.{Responds, Answered};
 pub const ANSWER_BYTES: usize = 264;
 
 // An accepted event is done and answered.
-fn serve(segment: &mut [u8], blocks: &mut [u8], buffers: &mut [u8], answer: &mut [u8], event: Event, frame: &[u8]) -> usize
+fn serve(
+    segment: &mut [u8],
+    blocks: &mut [u8],
+    buffers: &mut [u8],
+    answer: &mut [u8],
+    event: Event,
+    frame: &[u8],
+) -> usize
     requires { ⌜ Sound (now segment) (now blocks) (now buffers) × (length (now answer) ≡ answerRoom) × (frameOf (now «frame») ≡ what.Event «event») ⌝ }
     requires { ⌜ ((d : Desk) (s : Alloc) → StandsFor (now segment) (now blocks) (now buffers) d s → refusalOf (rules.respond d (rules.event (now «frame»)) .reply) ≡ 0) ⌝ }
     ensures { λ r. ⌜ ((d : Desk) (s : Alloc) → StandsFor (now (segment .entry)) (now (blocks .entry)) (now (buffers .entry)) d s → Responds d s (rules.event (now («frame» .entry))) (now (blocks .entry)) (now (buffers .entry)) (now (answer .entry)) (now (segment .exit)) (now (blocks .exit)) (now (buffers .exit)) (now (answer .exit)) r) ⌝ }
@@ -40,7 +47,13 @@ fn serve(segment: &mut [u8], blocks: &mut [u8], buffers: &mut [u8], answer: &mut
 }
 
 // The answer to a frame; its length is the result, and its bytes stand from the first byte of the answer memory.
-pub fn event(segment: &mut [u8], blocks: &mut [u8], buffers: &mut [u8], answer: &mut [u8], frame: &[u8]) -> usize
+pub fn event(
+    segment: &mut [u8],
+    blocks: &mut [u8],
+    buffers: &mut [u8],
+    answer: &mut [u8],
+    frame: &[u8],
+) -> usize
     ensures { λ r. ⌜ Answered (now (segment .entry)) (now (blocks .entry)) (now (buffers .entry)) (now (answer .entry)) (now («frame» .entry)) (now (segment .exit)) (now (blocks .exit)) (now (buffers .exit)) (now (answer .exit)) r ⌝ }
 {
     if answer.len() != ANSWER_BYTES {

@@ -5,7 +5,13 @@ ghost use Rattle.desk.specs.Answered.{Answered};
 
 // One event: the answer's length; 0 where a lent memory has the wrong length or unsound content, and then nothing is written.
 #[no_mangle]
-pub extern "C" fn tendrilhook_event(segment: &mut [u8], blocks: &mut [u8], buffers: &mut [u8], answer: &mut [u8], frame: &[u8]) -> usize
+pub extern "C" fn tendrilhook_event(
+    segment: &mut [u8],
+    blocks: &mut [u8],
+    buffers: &mut [u8],
+    answer: &mut [u8],
+    frame: &[u8],
+) -> usize
     ensures { λ r. ⌜ Answered (now (segment .entry)) (now (blocks .entry)) (now (buffers .entry)) (now (answer .entry)) (now («frame» .entry)) (now (segment .exit)) (now (blocks .exit)) (now (buffers .exit)) (now (answer .exit)) r ⌝ }
 {
     desk::event(segment, blocks, buffers, answer, frame)
