@@ -4,9 +4,16 @@
 //!   opinion replay                the calls of a session on standard input, answered anew
 //!   opinion run                   the event program on standard input
 //!   opinion coverage SEED K N     K sessions of N calls: how often each thing occurred
+//!
+//! Built with the feature `library`, which links the proved desk (tools/check-host builds it):
+//!
+//!   opinion library SEED K N      K sessions of N calls, and what goes with them, on both
+//!   opinion library-run           the event program on standard input, answered by the library
 
 mod coverage;
 mod generator;
+#[cfg(feature = "library")]
+mod library;
 mod model;
 mod session;
 #[cfg(test)]
@@ -16,7 +23,8 @@ use model::desk::Desk;
 use std::io::{Read, Write};
 
 const USAGE: &str = "opinion session SEED N | opinion replay | opinion run \
-                     | opinion coverage SEED SESSIONS N";
+                     | opinion coverage SEED SESSIONS N \
+                     | opinion library SEED SESSIONS N | opinion library-run";
 
 fn main() {
     let arguments: Vec<String> = std::env::args().skip(1).collect();
@@ -28,6 +36,13 @@ fn main() {
         ["coverage", seed, sessions, n] => {
             coverage::coverage_text(number(seed), number(sessions), number(n)).into_bytes()
         }
+        #[cfg(feature = "library")]
+        ["library", seed, sessions, n] => {
+            let agree = library::compare_all(number(seed), number(sessions), number(n) as usize);
+            std::process::exit(if agree { 0 } else { 1 });
+        }
+        #[cfg(feature = "library")]
+        ["library-run"] => library::answer_lines(&lines(&input())),
         _ => {
             eprintln!("{USAGE}");
             std::process::exit(2);
@@ -50,16 +65,22 @@ fn input() -> Vec<u8> {
     input
 }
 
-/// Lines ended by LF (the last may lack it); one answer a line.
+/// Lines ended by LF (the last may lack it).
+fn lines(input: &[u8]) -> Vec<Vec<u8>> {
+    let text = input.strip_suffix(b"\n").unwrap_or(input);
+    match input.is_empty() {
+        true => Vec::new(),
+        false => text.split(|b| *b == b'\n').map(|line| line.to_vec()).collect(),
+    }
+}
+
+/// One answer a line.
 fn run(input: &[u8]) -> Vec<u8> {
     let mut output = Vec::new();
     let mut desk = Desk::fresh();
-    let text = input.strip_suffix(b"\n").unwrap_or(input);
-    if !input.is_empty() {
-        for line in text.split(|b| *b == b'\n') {
-            output.extend(desk.line(line));
-            output.push(b'\n');
-        }
+    for line in lines(input) {
+        output.extend(desk.line(&line));
+        output.push(b'\n');
     }
     output
 }

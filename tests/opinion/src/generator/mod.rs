@@ -1,9 +1,9 @@
 //! Random sessions: a generator of calls that looks at the model's state to reach deep states.
 
 mod bad;
-mod frames;
+pub mod frames;
 mod ordinary;
-mod random;
+pub mod random;
 mod sheets;
 
 use crate::model::desk::Desk;
@@ -81,6 +81,14 @@ impl Generator {
             crowded,
             timeouts,
         }
+    }
+
+    /// All eight files in play, with many accessors each.
+    #[cfg(feature = "library")]
+    pub fn at_all_files(mut self) -> Generator {
+        self.files = (0..8).collect();
+        self.crowded = true;
+        self
     }
 
     /// Remembers good sheets, to load them later.

@@ -168,7 +168,7 @@ impl Generator {
         };
         let share = match f.share_in_force() {
             Some(1) => self.random.pick(&[0, 1]),
-            Some(in_force) => in_force,
+            Some(in_force) => in_force as u8,
             None => self.random.pick(&self.shares),
         };
         let mut access = self.random.pick(&[0, 0, 1, 2, 3]);
@@ -200,7 +200,7 @@ impl Generator {
             2..=4 if !timers.is_empty() => {
                 let timer = timers[self.random.below(timers.len().min(3))];
                 let left = (timer.due - desk.entries.clock) as usize;
-                self.random.pick(&[left, left, left - 1, left + 1]).min(65535)
+                self.random.pick(&[left, left, left.saturating_sub(1), left + 1]).min(65535)
             }
             _ => self.random.between(1, 4),
         };

@@ -7,7 +7,7 @@ pub struct Accessor {
     /// None for a reader.
     pub writer_id: Option<u16>,
     /// 1, 2 or 3 (0 counts as 1).
-    pub share: u8,
+    pub share: u16,
     /// Control 4, 0 is off.
     pub timeout: u16,
     /// Control 45.
@@ -24,7 +24,7 @@ pub struct Accessor {
 impl Accessor {
     /// Settings and the grace of the first operation start anew at each open
     /// (docs/DECISIONS.md, R14).
-    pub(super) fn new(writer_id: Option<u16>, share: u8) -> Accessor {
+    pub(super) fn new(writer_id: Option<u16>, share: u16) -> Accessor {
         Accessor {
             writer_id,
             share,

@@ -74,7 +74,7 @@ impl MessageFile {
     }
 
     /// All accessors open together give the same share; None with nobody open.
-    pub fn share_in_force(&self) -> Option<u8> {
+    pub fn share_in_force(&self) -> Option<u16> {
         self.accessors.iter().flatten().next().map(|a| a.share)
     }
 

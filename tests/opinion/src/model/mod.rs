@@ -17,6 +17,10 @@ pub mod file;
 pub mod geometry;
 pub mod limits;
 pub mod line;
+#[cfg(any(test, feature = "library"))]
+mod lists;
+#[cfg(any(test, feature = "library"))]
+pub mod loading;
 mod look;
 mod memories;
 pub mod notes;
@@ -24,6 +28,8 @@ mod open;
 pub mod record;
 pub mod request;
 mod ring;
+#[cfg(any(test, feature = "library"))]
+pub mod segment;
 mod settle;
 pub mod sheet;
 mod soundness;

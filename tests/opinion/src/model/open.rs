@@ -36,9 +36,9 @@ impl Desk {
         }
         let writes = access > 0;
         // Share 0 counts as 1.
-        let share = if share == 0 { 1 } else { share };
+        let share = if share == 0 { 1 } else { u16::from(share) };
         // 40: multiaccess 3, another share, or a second accessor the share forbids.
-        if multi == 3 || f.share_in_force().map_or(false, |in_force| in_force != share) {
+        if multi == 3 || f.accessors.iter().flatten().any(|a| a.share != share) {
             return Err(FORBIDDEN);
         }
         let forbidden =

@@ -1,5 +1,6 @@
 //! Cases worked out by hand from document 01, and random sessions with every check on.
 
+mod memories;
 mod reading;
 mod refusals;
 mod room;

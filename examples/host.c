@@ -1,0 +1,175 @@
+/*
+ * A host in C: three stages of a chain and two message files between them.
+ *
+ *     station  --> file 0 -->  relay  --> file 1 -->  chart
+ *
+ * The relay moves each record from file 0 to file 1. At the end the host makes some calls that are refused. It prints each call: what it is for,
+ * the frame, the answer, and what that says. `examples/build` builds it; examples/host.out is what it prints.
+ */
+#include "tendrilhook.h"
+
+#include <stdio.h>
+#include <stdlib.h>
+#include <string.h>
+
+enum { BUILD = 1, OPEN, READ, WRITE, CONTROL, COLLECT, CLOSE, TIME, COUNTS };
+enum { TO_READ = 0, TO_APPEND = 3, EXCLUSIVE = 1, ANY_MULTI = 0 };
+enum { MOST_FRAME = 261, IN_FILE = 0, OUT_FILE = 1 };
+
+/* The desk: these three memories, and nothing else. */
+static uint8_t segment[TENDRILHOOK_SEGMENT_BYTES];
+static uint8_t blocks[TENDRILHOOK_BLOCKS_BYTES];
+static uint8_t buffers[TENDRILHOOK_BUFFERS_BYTES];
+
+/* The last answer and its length. */
+static uint8_t answer[TENDRILHOOK_ANSWER_BYTES];
+static size_t answered;
+
+static const char *in_words(int status)
+{
+    switch (status) {
+    case TENDRILHOOK_DONE: return "done";
+    case TENDRILHOOK_WAITING: return "waiting";
+    case TENDRILHOOK_END_OF_FILE: return "end of file";
+    case TENDRILHOOK_TIMED_OUT: return "timed out";
+    case TENDRILHOOK_UNSOUND: return "refused: these are not the memories of a desk";
+    case TENDRILHOOK_BAD_FRAME: return "refused: not a frame";
+    case TENDRILHOOK_NO_FILE: return "refused: no such file";
+    case TENDRILHOOK_NOT_OPEN: return "refused: not open";
+    case TENDRILHOOK_OUTSTANDING: return "refused: a request is outstanding";
+    case TENDRILHOOK_WRONG_SIDE: return "refused: the wrong side of the file";
+    case TENDRILHOOK_OUT_OF_RANGE: return "refused: a number out of range";
+    default: return "refused";
+    }
+}
+
+static void print_bytes(const uint8_t *bytes, size_t length, int width)
+{
+    for (size_t i = 0; i < length; i++) printf("%02X", (unsigned)bytes[i]);
+    printf("%*s", width > 2 * (int)length ? width - 2 * (int)length : 0, "");
+}
+
+/* Sends a frame and says what came of it; the status, 29 for an answer of length 0. */
+static int call(const char *purpose, const uint8_t *frame, size_t length)
+{
+    answered = tendrilhook_event(segment, sizeof segment, blocks, sizeof blocks, buffers, sizeof buffers,
+                                 answer, sizeof answer, frame, length);
+    int status = answered == 0 ? TENDRILHOOK_UNSOUND : answer[1];
+    printf("%-36s ", purpose);
+    print_bytes(frame, length, 28);
+    printf("-> ");
+    print_bytes(answer, answered, 24);
+    printf("%2d %s\n", status, in_words(status));
+    return status;
+}
+
+/* Frames are small: a few numbers, each a byte or a word, high byte first. */
+static void put_word(uint8_t *bytes, int word)
+{
+    bytes[0] = (uint8_t)((unsigned)word >> 8 & 255);
+    bytes[1] = (uint8_t)((unsigned)word & 255);
+}
+
+static int build(const char *purpose, int file, int words, int factor, int records, int extents)
+{
+    uint8_t frame[8] = { BUILD, (uint8_t)file };
+    put_word(frame + 2, words);
+    frame[4] = (uint8_t)factor;
+    put_word(frame + 5, records);
+    frame[7] = (uint8_t)extents;
+    return call(purpose, frame, sizeof frame);
+}
+
+/* The accessor that was opened. */
+static int open_file(const char *purpose, int file, int access)
+{
+    const uint8_t frame[5] = { OPEN, (uint8_t)file, (uint8_t)access, EXCLUSIVE, ANY_MULTI };
+    if (call(purpose, frame, sizeof frame) != TENDRILHOOK_DONE) exit(EXIT_FAILURE);
+    return answer[2];
+}
+
+/* A read of at most so many bytes: a count below 0 is in bytes. */
+static int read_record(const char *purpose, int file, int accessor, int bytes)
+{
+    uint8_t frame[5] = { READ, (uint8_t)file, (uint8_t)accessor };
+    put_word(frame + 3, -bytes);
+    return call(purpose, frame, sizeof frame);
+}
+
+static int write_record(const char *purpose, int file, int accessor, const uint8_t *data, size_t length)
+{
+    uint8_t frame[MOST_FRAME] = { WRITE, (uint8_t)file, (uint8_t)accessor };
+    put_word(frame + 3, -(int)length);
+    memcpy(frame + 5, data, length);
+    return call(purpose, frame, 5 + length);
+}
+
+/* Collect, close. */
+static int ask(const char *purpose, int operation, int file, int accessor)
+{
+    const uint8_t frame[3] = { (uint8_t)operation, (uint8_t)file, (uint8_t)accessor };
+    return call(purpose, frame, sizeof frame);
+}
+
+/* The record that the last answer brought stands behind operation, status and log. */
+static void print_record(void)
+{
+    printf("    the record: %.*s\n", (int)answered - 4, (const char *)answer + 4);
+}
+
+/* The relay: each record of file 0 is written to file 1, until file 0 ends. There is room for all of them; else a write would be answered 1, and
+   collected later, as the chart's read is. */
+static void relay(int reader, int writer)
+{
+    while (read_record("relay takes a record from file 0", IN_FILE, reader, 16) == TENDRILHOOK_DONE) {
+        uint8_t record[TENDRILHOOK_ANSWER_BYTES];
+        size_t length = answered - 4;
+        memcpy(record, answer + 4, length);
+        if (write_record("relay hands it on to file 1", OUT_FILE, writer, record, length) != TENDRILHOOK_DONE) exit(EXIT_FAILURE);
+    }
+}
+
+int main(void)
+{
+    static const char *const readings[] = { "wind 12", "wind 17", "rain 3" };
+
+    int status = tendrilhook_fresh(segment, sizeof segment, blocks, sizeof blocks, buffers, sizeof buffers);
+    printf("a fresh desk: %d %s\n\n", status, in_words(status));
+
+    /* Records of 8 words, 2 to a block, room for 4 and for the records of an open and a close. */
+    build("build file 0", IN_FILE, 8, 2, 4, 1);
+    build("build file 1", OUT_FILE, 8, 2, 4, 1);
+    int station = open_file("station opens file 0 to append", IN_FILE, TO_APPEND);
+    int taker = open_file("relay opens file 0 to read", IN_FILE, TO_READ);
+    int giver = open_file("relay opens file 1 to append", OUT_FILE, TO_APPEND);
+    int chart = open_file("chart opens file 1 to read", OUT_FILE, TO_READ);
+
+    printf("\nchart reads before there is anything, and waits\n");
+    read_record("chart reads from file 1", OUT_FILE, chart, 16);
+    ask("chart asks for the outcome", COLLECT, OUT_FILE, chart);
+
+    printf("\nstation writes its readings and goes\n");
+    for (size_t i = 0; i < sizeof readings / sizeof readings[0]; i++)
+        write_record("station writes to file 0", IN_FILE, station, (const uint8_t *)readings[i], strlen(readings[i]));
+    ask("station closes file 0", CLOSE, IN_FILE, station);
+
+    printf("\nrelay moves what is there\n");
+    relay(taker, giver);
+    ask("relay closes file 0", CLOSE, IN_FILE, taker);
+    ask("relay closes file 1", CLOSE, OUT_FILE, giver);
+
+    printf("\nchart collects the read that waited, and reads on\n");
+    if (ask("chart asks for the outcome", COLLECT, OUT_FILE, chart) == TENDRILHOOK_DONE) print_record();
+    while (read_record("chart reads from file 1", OUT_FILE, chart, 16) == TENDRILHOOK_DONE) print_record();
+
+    printf("\nbad calls change nothing, and say why\n");
+    write_record("chart writes, but opened to read", OUT_FILE, chart, (const uint8_t *)"fog", 3);
+    read_record("chart asks for 261 bytes", OUT_FILE, chart, 261);
+    read_record("a read from file 5", 5, 0, 16);
+    call("a frame that is cut off", (const uint8_t *)"\x03\x01", 2);
+    segment[0] ^= 1;
+    ask("a bit of the segment is changed", CLOSE, OUT_FILE, chart);
+    segment[0] ^= 1;
+    ask("and changed back: chart closes", CLOSE, OUT_FILE, chart);
+    return 0;
+}

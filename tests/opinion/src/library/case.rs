@@ -1,0 +1,130 @@
+//! A case: calls that reach a desk, bytes changed behind the library's back, and the calls that
+//! are compared.  One that fails is made smaller, and printed so that it can be tried again.
+
+use super::twin::{text, Difference, Twin};
+use crate::model::desk::Desk;
+use crate::model::limits::LINE_BYTES;
+use crate::model::segment::Memories;
+
+#[derive(Clone, Copy, PartialEq, Debug)]
+pub enum Part {
+    Segment,
+    Blocks,
+    Buffers,
+}
+
+/// A byte that is set to another value.
+#[derive(Clone, Debug)]
+pub struct Change {
+    pub part: Part,
+    pub at: usize,
+    pub byte: u8,
+}
+
+#[derive(Clone, Default)]
+pub struct Case {
+    /// Frames that the model alone is sent, to reach a desk.
+    pub before: Vec<Vec<u8>>,
+    pub changes: Vec<Change>,
+    /// Frames that both are sent.
+    pub frames: Vec<Vec<u8>>,
+}
+
+impl Case {
+    /// Where library and model differ, if they do.
+    pub fn difference(&self) -> Option<Difference> {
+        match self.start() {
+            Ok(mut twin) => self.frames.iter().find_map(|frame| twin.event(frame).err()),
+            Err(difference) => Some(difference),
+        }
+    }
+
+    fn start(&self) -> Result<Twin, Difference> {
+        if self.before.is_empty() && self.changes.is_empty() {
+            return Twin::fresh();
+        }
+        let mut desk = Desk::fresh();
+        for frame in &self.before {
+            desk.event(frame);
+        }
+        let mut memories = desk.memories();
+        apply(&self.changes, &mut memories);
+        Ok(Twin::of(&memories))
+    }
+
+    /// Frames and changes are dropped while it still fails.
+    pub fn shrunk(mut self) -> Case {
+        loop {
+            let size = self.size();
+            self = shrink(self, |case| &mut case.frames);
+            self = shrink(self, |case| &mut case.changes);
+            self = shrink(self, |case| &mut case.before);
+            if self.size() == size {
+                return self;
+            }
+        }
+    }
+
+    fn size(&self) -> usize {
+        self.before.len() + self.changes.len() + self.frames.len()
+    }
+
+    /// What to send, a line a frame as the event program takes it, and where the two differ.
+    pub fn report(&self) -> String {
+        let mut lines = Vec::new();
+        if !self.before.is_empty() {
+            lines.push("these frames reach the desk:".to_string());
+            lines.extend(self.before.iter().map(|frame| line(frame)));
+        }
+        if !self.changes.is_empty() {
+            lines.push("then these bytes are changed:".to_string());
+            lines.extend(self.changes.iter().map(|c| {
+                format!("{:?} byte {} becomes {:02X}", c.part, c.at, c.byte).to_lowercase()
+            }));
+        }
+        lines.push("these frames show the difference, at the last one:".to_string());
+        lines.extend(self.frames.iter().map(|frame| line(frame)));
+        lines.push(self.difference().unwrap_or_else(|| "it does not show again".to_string()));
+        lines.join("\n")
+    }
+}
+
+pub fn apply(changes: &[Change], memories: &mut Memories) {
+    for change in changes {
+        let memory = match change.part {
+            Part::Segment => &mut memories.segment,
+            Part::Blocks => &mut memories.blocks,
+            Part::Buffers => &mut memories.buffers,
+        };
+        memory[change.at] = change.byte;
+    }
+}
+
+/// Drops halves, quarters, ... and single items of one of a case's lists.
+fn shrink<T: Clone>(mut case: Case, list: fn(&mut Case) -> &mut Vec<T>) -> Case {
+    let mut run = list(&mut case).len();
+    while run > 0 {
+        let mut from = 0;
+        while from < list(&mut case).len() {
+            let mut smaller = case.clone();
+            let items = list(&mut smaller);
+            let end = (from + run).min(items.len());
+            items.drain(from..end);
+            if smaller.difference().is_some() {
+                case = smaller;
+            } else {
+                from += run;
+            }
+        }
+        run /= 2;
+    }
+    case
+}
+
+fn line(frame: &[u8]) -> String {
+    match frame.len() {
+        0 => "(an empty line)".to_string(),
+        n if n > LINE_BYTES => format!("({n} bytes, more than a line) {} ...", text(&frame[..16])),
+        _ => text(frame),
+    }
+}

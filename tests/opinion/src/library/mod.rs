@@ -1,0 +1,95 @@
+//! The library of the proved desk, linked, is held to the model: every answer, every byte of the
+//! memories it is lent, and the bytes around them.
+//!
+//! The library exports two calls, so a session has events alone.  Where memories are not sound by
+//! docs/SEGMENT.md, nothing at all may change; where they are, though no run reaches them, the
+//! model is started from them and has to be met too.
+
+mod case;
+mod damage;
+mod frames;
+mod header;
+mod host;
+mod lengths;
+mod lent;
+mod sessions;
+mod tally;
+mod twin;
+
+use crate::model::desk::Desk;
+use crate::model::line::{digits, frame_of_line};
+use case::Case;
+use host::Host;
+use std::io::Write;
+use tally::Tally;
+
+/// A lent memory has the wrong length or unsound content.
+pub const UNSOUND: u8 = 29;
+
+/// So many seeds of a part may fail before it is given up.
+const ENOUGH: usize = 3;
+
+/// Compares all there is, in sessions of so many calls; false where anything differs.
+pub fn compare_all(seed: u64, sessions: u64, calls: usize) -> bool {
+    let (some, few) = ((sessions + 3) / 4, (sessions + 49) / 50);
+    let parts = [
+        once("header", header::compare_header()),
+        once("fresh desks", lengths::fresh_desks(seed)),
+        once("wrong lengths", lengths::wrong_lengths(seed)),
+        for_seeds("sessions", seed, sessions, |one, tally| sessions::session(one, calls, tally)),
+        for_seeds("full", seed, few, |one, tally| sessions::full_session(one, calls, tally)),
+        for_seeds("frames", seed, few, frames::all_frames),
+        for_seeds("damage", seed, some, |one, tally| sessions::damaged_session(one, 10, tally)),
+    ];
+    parts.iter().all(|agrees| *agrees)
+}
+
+fn once(what: &str, compared: Result<u64, String>) -> bool {
+    match &compared {
+        Ok(times) => println!("library: {what}: {times} agree"),
+        Err(difference) => println!("library: {what}: {difference}"),
+    }
+    compared.is_ok()
+}
+
+fn for_seeds(
+    what: &str,
+    first: u64,
+    n: u64,
+    compare: impl Fn(u64, &mut Tally) -> Result<(), Case>,
+) -> bool {
+    print!("library: {what}: seeds {first} to {}: ", first + n - 1);
+    // A call that does not return leaves the line standing.
+    let _ = std::io::stdout().flush();
+    let mut tally = Tally::default();
+    let mut failed = 0;
+    for seed in first..first + n {
+        if let Err(case) = compare(seed, &mut tally) {
+            println!(
+                "\nlibrary and model differ, {what}, seed {seed}:\n{}",
+                case.shrunk().report()
+            );
+            failed += 1;
+        }
+        if failed == ENOUGH {
+            return false;
+        }
+    }
+    println!("{}", tally.text());
+    failed == 0
+}
+
+/// The event program, on the library: a line in, the answer's digits out.
+pub fn answer_lines(lines: &[Vec<u8>]) -> Vec<u8> {
+    let mut output = Vec::new();
+    let mut host = Host::new(&Desk::fresh().memories());
+    for line in lines {
+        let frame = frame_of_line(line).unwrap_or_default();
+        match host.event(&frame) {
+            Ok(answer) => output.extend(digits(&answer)),
+            Err(fault) => output.extend(fault.into_bytes()),
+        }
+        output.push(b'\n');
+    }
+    output
+}

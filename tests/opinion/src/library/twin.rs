@@ -1,0 +1,143 @@
+//! The library and the model side by side: each call is made on both, and all that it leaves is
+//! compared.
+
+use super::host::Host;
+use crate::model::desk::Desk;
+use crate::model::limits::{BUFFER_BYTES, PLACES, SHARE_BYTES};
+use crate::model::line::digits;
+use crate::model::loading::Unsound;
+use crate::model::segment::{file_row, place_row, Memories, ENTRY_WORDS, LISTS, ROW_WORDS};
+use crate::model::status::DONE;
+
+/// How the two differ.
+pub type Difference = String;
+
+pub struct Twin {
+    host: Host,
+    model: Result<Desk, Unsound>,
+    /// What the library's memories must be.
+    memories: Memories,
+}
+
+impl Twin {
+    /// The library's own fresh desk beside the model's.
+    pub fn fresh() -> Result<Twin, Difference> {
+        let mut memories = Desk::fresh().memories();
+        for part in [&mut memories.segment, &mut memories.blocks, &mut memories.buffers] {
+            part.iter_mut().enumerate().for_each(|(at, byte)| *byte = (at * 7 + at / 251) as u8);
+        }
+        Twin::made_fresh(&memories)
+    }
+
+    /// The library makes a fresh desk of memories with any bytes in them.
+    pub fn made_fresh(memories: &Memories) -> Result<Twin, Difference> {
+        let mut host = Host::new(memories);
+        let status = host.fresh()?;
+        if status != DONE {
+            return Err(format!("fresh: status {status}"));
+        }
+        let model = Desk::fresh();
+        let twin = Twin { memories: model.memories(), model: Ok(model), host };
+        twin.compare_memories()?;
+        Ok(twin)
+    }
+
+    /// Both start from these memories, sound or not.
+    pub fn of(memories: &Memories) -> Twin {
+        Twin {
+            host: Host::new(memories),
+            model: Desk::load_memories(memories),
+            memories: memories.clone(),
+        }
+    }
+
+    /// The model's desk, or why the memories are not sound.
+    pub fn model(&self) -> Result<&Desk, Unsound> {
+        self.model.as_ref().map_err(|why| *why)
+    }
+
+    /// Both go back to a desk and its memories.
+    pub fn reset(&mut self, desk: &Desk, memories: &Memories) {
+        self.host.set(memories);
+        self.model = Ok(desk.clone());
+        self.memories = memories.clone();
+    }
+
+    /// Makes a call on both; the answer, or how the two differ.
+    pub fn event(&mut self, frame: &[u8]) -> Result<Vec<u8>, Difference> {
+        let expected = match &mut self.model {
+            Ok(desk) => {
+                let answer = desk.event(frame);
+                self.memories = desk.memories_over(&self.memories);
+                answer
+            }
+            Err(_) => Vec::new(),
+        };
+        let answer = self.host.event(frame)?;
+        if answer != expected {
+            return Err(format!("answer: library {}, model {}", text(&answer), text(&expected)));
+        }
+        self.compare_memories()?;
+        Ok(answer)
+    }
+
+    fn compare_memories(&self) -> Result<(), Difference> {
+        compare(self.host.segment(), &self.memories.segment, segment_place)?;
+        compare(self.host.blocks(), &self.memories.blocks, |at| {
+            format!("blocks, byte {at}: share {}, its byte {}", at / SHARE_BYTES, at % SHARE_BYTES)
+        })?;
+        compare(self.host.buffers(), &self.memories.buffers, |at| {
+            let place = at / BUFFER_BYTES;
+            let (file, accessor) = (place / PLACES, place % PLACES);
+            let byte = at % BUFFER_BYTES;
+            format!("buffers, byte {at}: file {file}, accessor {accessor}, its byte {byte}")
+        })
+    }
+}
+
+fn compare(
+    library: &[u8],
+    model: &[u8],
+    place: impl Fn(usize) -> String,
+) -> Result<(), Difference> {
+    if library == model {
+        return Ok(());
+    }
+    let differing: Vec<usize> = (0..model.len()).filter(|at| library[*at] != model[*at]).collect();
+    let first = differing[0];
+    let (one, other) = (library[first], model[first]);
+    let all = differing.len();
+    Err(format!("{}: library {one:02X}, model {other:02X} ({all} bytes differ)", place(first)))
+}
+
+/// Where a byte of the segment lies, in the words of docs/SEGMENT.md.
+fn segment_place(at: usize) -> String {
+    let word = at / 2;
+    let named = |names: [&'static str; 8], from: usize| names[(word - from) % ROW_WORDS];
+    let what = if word < LISTS {
+        format!("head of list {word}")
+    } else if word < file_row(0) {
+        let names = [
+            "link", "place", "unit", "limit", "keep", "status", "log", "size", "seconds", "word 9",
+        ];
+        let (entry, part) = ((word - LISTS) / ENTRY_WORDS, (word - LISTS) % ENTRY_WORDS);
+        format!("entry {entry}, {}", names[part])
+    } else if word < place_row(0) {
+        let names = ["R", "B", "D", "block", "spent", "held", "word 6", "word 7"];
+        let file = (word - file_row(0)) / ROW_WORDS;
+        format!("row of file {file}, {}", named(names, file_row(0)))
+    } else {
+        let names = ["side", "ID", "share", "timeout", "extended", "typed", "keep", "first"];
+        let place = (word - place_row(0)) / ROW_WORDS;
+        format!("row of place {place}, {}", named(names, place_row(0)))
+    };
+    format!("segment, byte {at}: {what}")
+}
+
+/// Digits, or a word for no bytes.
+pub fn text(bytes: &[u8]) -> String {
+    match bytes {
+        [] => "none (29)".to_string(),
+        _ => String::from_utf8_lossy(&digits(bytes)).into_owned(),
+    }
+}
