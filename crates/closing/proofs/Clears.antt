@@ -12,40 +12,30 @@ use Rattle.rules.specs.State.{Req, idle, reading, writing, readDone, writeDone,
 use Rattle.rules.specs.Requests.{accAt, withReq, withAccs, withQueues, withTimers, alterAcc, say, requeue, leave, cancel}
 use Rattle.rules.specs.Settle.{settle}
 use Rattle.rules.specs.Close.{closed}
-use Rattle.rules.specs.Reply.{Reply, answers, Out, leaves, done}
+use Rattle.rules.specs.Reply.{answers, Out, leaves, done}
 use Rattle.rules.specs.Calls.{ask}
 use Rattle.rules.specs.Calls as calls
 use Rattle.rules.specs.Desk.{Desk, on, fileOf, answered}
 use Rattle.rules.specs.Allocation.{Alloc}
-use Rattle.segment.specs.Layout.{rowAt, fileRow, segmentBytes}
-use Rattle.segment.specs.Table.{fill}
+use Rattle.segment.specs.Layout.{segmentBytes}
 use Rattle.segment.specs.Fields.{fileAt, placeAt}
 use Rattle.buffers.specs.Buffer.{buffersBytes}
 use Rattle.requests.specs.Moves.{entryOf, cancelled}
 use Rattle.laws.specs.Outstanding.{uncollected}
 use Rattle.laws.proofs.Accessors.{getD-alter-same}
-use Rattle.memory.specs.Stands.{Bytes, Bodies}
 use Rattle.memory.specs.Fine.{Fine, StandsFor}
 use Rattle.midst.specs.declared.File as hand
-use Rattle.midst.specs.File.{fileOfRow, fileRowWords}
+use Rattle.midst.specs.File.{fileOfRow}
 use Rattle.midst.specs.Mid.{Start, Mid}
 use Rattle.midst.specs.Outcome.{refusalOf, Outcome, Done}
 use Rattle.midst.specs.Accepted.{CloseKnown, Accepted}
-use Rattle.midst.proofs.Begins.{mid-begin, mid-end}
+use Rattle.midst.proofs.Begins.{mid-begin}
 use Rattle.midst.proofs.Changes.{mid-below}
 use Rattle.midst.proofs.Accepted.{accepted-close}
 use Rattle.judges.specs.Requests.{queueOf, outstandingAt, outstandingOf}
 use Rattle.controls.specs.Removed.{isWaiting, emptied}
 use Rattle.controls.proofs.Stood.{start}
 use Rattle.controls.proofs.Cancels.{waiting-awaits, waits-is, removable, removed}
-
--- the file has settled, and its row is written
-pub rests : {f : ℕ} {o : Start} {xs blocks buffers : List ℕ} {x : hand.File} {b : Built} → Mid Fine f o xs blocks buffers x b → (xs′ : List ℕ)
-    → xs′ ≡ fill xs (rowAt (fileRow f)) (fileRowWords x) → Bytes xs′ → Bytes blocks → Bytes buffers → Bodies (o .blocks) (o .buffers) (o .desk) → (r : Reply)
-    → Outcome f (o .desk) (o .alloc) (leaves r b) (o .blocks) (o .buffers) xs′ blocks buffers
-unfolding leaves
-rests {f} {o} {xs} {blocks} {buffers} {x} {b} M xs′ e bs bb bf B r =
-    record { stands = rw e (mid-end M B (rw e at bs) bb bf); apart = M .apart }
 
 -- no request, or one that waits
 quiet : (q : Req) → isWaiting (outstandingOf q) ≡ false → uncollected q ≡ 0 → q ≡ idle

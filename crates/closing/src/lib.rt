@@ -9,8 +9,6 @@ ghost use lib.ListN.{length};
 ghost use Rattle.rules.specs.Limits.{files, places, entries};
 ghost use Rattle.rules.specs.State.{idle, Acc, Built};
 ghost use Rattle.rules.specs.Requests.{accAt, putRec};
-ghost use Rattle.rules.specs.Reply.{Reply, leaves};
-ghost use Rattle.rules.specs.Settle.{settle};
 ghost use Rattle.rules.specs.Close.{closeRec, lastGone, closed};
 ghost use Rattle.rules.specs.Calls.{ask};
 ghost use Rattle.rules.specs.Calls as calls;
@@ -21,12 +19,10 @@ ghost use Rattle.buffers.specs.Buffer.{buffersBytes};
 ghost use Rattle.requests.specs.Moves.{entryOf, cancelled};
 ghost use Rattle.judges.specs.Requests.{queueOf, outstandingAt};
 ghost use Rattle.controls.specs.Removed.{isWaiting, emptied};
-ghost use Rattle.memory.specs.Stands.{Bodies};
 ghost use Rattle.memory.specs.Fine.{Fine, StandsFor};
 ghost use Rattle.midst.specs.Mid.{Start, Mid};
-ghost use Rattle.midst.specs.Outcome.{Sound, Accepted, Outcome, Done};
+ghost use Rattle.midst.specs.Outcome.{Sound, Accepted, Done};
 ghost use Rattle.midst.proofs.Walks.{Owed};
-ghost use Rattle.settling.specs.Turns.{Amid};
 
 mod readers;
 
@@ -37,11 +33,10 @@ use judges::sides::WRITER;
 use kinds::Answer;
 use kinds::limits::PLACES;
 use midst::File;
-use midst::put_file;
 use midst::take_file;
 use readers::last_gone;
 use segment::PlaceRow;
-use settling::settle;
+use settling::rest;
 
 // A close record's type.
 const CLOSE: u16 = 2;
@@ -94,15 +89,6 @@ fn leave(segment: &mut [u8], blocks: &mut [u8], f: usize, acc: usize, file: File
         return file;
     }
     part(segment, blocks, f, file, row.id)
-}
-
-// What is left of a call that settles: the file settles, and goes back into its row.
-fn rest(segment: &mut [u8], blocks: &mut [u8], buffers: &mut [u8], f: usize, file: File)
-    requires { ⌜ Amid f (now segment) (now blocks) (now buffers) file ⌝ }
-    ensures { λ _. ⌜ ((o : Start) (b : Built) → Mid Fine f o (now (segment .entry)) (now (blocks .entry)) (now (buffers .entry)) file b → Bodies (o .blocks) (o .buffers) (o .desk) → (r : Reply) → Outcome f (o .desk) (o .alloc) (leaves r (settle b)) (o .blocks) (o .buffers) (now (segment .exit)) (now (blocks .exit)) (now (buffers .exit))) ⌝ }
-{
-    let settled = settle(segment, blocks, buffers, f, file);
-    put_file(segment, f, settled);
 }
 
 pub fn close(

@@ -7,20 +7,15 @@ ghost use Rattle.segment.specs.Table.{fill};
 ghost use Rattle.segment.specs.Fields.{placeWords, fileAt};
 ghost use Rattle.rules.specs.Limits.{files, places};
 ghost use Rattle.rules.specs.State.{Built, built};
-ghost use Rattle.rules.specs.Reply.{Reply, leaves};
-ghost use Rattle.rules.specs.Settle.{settle};
 ghost use Rattle.rules.specs.Open.{purged, openReader, openWriter};
 ghost use Rattle.rules.specs.Desk.{Desk, fileOf};
 ghost use Rattle.rules.specs.Allocation.{Alloc};
 ghost use Rattle.blocks.specs.Ring.{Ranged};
-ghost use Rattle.memory.specs.Stands.{Bodies};
-ghost use Rattle.memory.specs.Fine.{Fine, StandsFor};
+ghost use Rattle.memory.specs.Fine.{StandsFor};
 ghost use Rattle.midst.specs.File.{fileOfRow};
-ghost use Rattle.midst.specs.Mid.{Start, Mid};
-ghost use Rattle.midst.specs.Outcome.{Sound, Outcome, Done};
+ghost use Rattle.midst.specs.Outcome.{Sound, Done};
 ghost use Rattle.opening.specs.Finding.{newRow};
 ghost use Rattle.opening.specs.Opens.{Each, Reads, Writes, taken};
-ghost use Rattle.settling.specs.Turns.{Amid};
 use crate::finding::free_id;
 use crate::finding::free_place;
 use blocks::memory::put_at;
@@ -31,10 +26,9 @@ use judges::sides::count_side;
 use kinds::Answer;
 use kinds::limits::PLACES;
 use midst::File;
-use midst::put_file;
 use midst::take_file;
 use segment::PlaceRow;
-use settling::settle;
+use settling::rest;
 
 // The access that purges, and the type of an open record.
 const PURGES: u8 = 1;
@@ -76,15 +70,6 @@ fn take(segment: &[u8], f: usize, access: u8) -> File
         words: file.words,
         ring: ring.purged(),
     }
-}
-
-// What is left of a call that settles: the file settles, and goes back into its row.
-fn rest(segment: &mut [u8], blocks: &mut [u8], buffers: &mut [u8], f: usize, file: File)
-    requires { ⌜ Amid f (now segment) (now blocks) (now buffers) file ⌝ }
-    ensures { λ _. ⌜ ((o : Start) (b : Built) → Mid Fine f o (now (segment .entry)) (now (blocks .entry)) (now (buffers .entry)) file b → Bodies (o .blocks) (o .buffers) (o .desk) → (r : Reply) → Outcome f (o .desk) (o .alloc) (leaves r (settle b)) (o .blocks) (o .buffers) (now (segment .exit)) (now (blocks .exit)) (now (buffers .exit))) ⌝ }
-{
-    let settled = settle(segment, blocks, buffers, f, file);
-    put_file(segment, f, settled);
 }
 
 // A reader enters, with this share.

@@ -6,3 +6,4 @@ pub mod FirstWriter
 pub mod WriteTurns
 pub mod Rests
 pub mod Loops
+pub mod Outs

@@ -1,15 +1,19 @@
 // "then the file settles: while something can be done, serve the first waiting reader, else the first waiting writer."
-// The file is in hand, and the settled file is handed back; the memories are those of a call in its midst.
+// The file is in hand, and the settled file is handed back or put into its row; the memories are those of a call in its midst.
 ghost use Rattle.rules.specs.State.{Built};
 ghost use Rattle.rules.specs.Settle.{settle};
+ghost use Rattle.rules.specs.Reply.{Reply, leaves};
+ghost use Rattle.memory.specs.Stands.{Bodies};
 ghost use Rattle.memory.specs.Fine.{Fine};
 ghost use Rattle.midst.specs.Mid.{Start, Mid};
+ghost use Rattle.midst.specs.Outcome.{Outcome};
 ghost use Rattle.settling.specs.Turns.{Amid};
 
 mod readers;
 mod writers;
 
 use midst::File;
+use midst::put_file;
 use readers::serve_reader;
 pub use readers::taken;
 pub use writers::fits;
@@ -47,4 +51,13 @@ pub fn settle(
         break file;
     };
     settled
+}
+
+// What is left of a call that has acted: the file settles, and goes back into its row.
+pub fn rest(segment: &mut [u8], blocks: &mut [u8], buffers: &mut [u8], f: usize, file: File)
+    requires { ⌜ Amid f (now segment) (now blocks) (now buffers) file ⌝ }
+    ensures { λ _. ⌜ ((o : Start) (b : Built) → Mid Fine f o (now (segment .entry)) (now (blocks .entry)) (now (buffers .entry)) file b → Bodies (o .blocks) (o .buffers) (o .desk) → (r : Reply) → Outcome f (o .desk) (o .alloc) (leaves r (settle b)) (o .blocks) (o .buffers) (now (segment .exit)) (now (blocks .exit)) (now (buffers .exit))) ⌝ }
+{
+    let settled = settle(segment, blocks, buffers, f, file);
+    put_file(segment, f, settled);
 }

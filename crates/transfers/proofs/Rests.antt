@@ -1,38 +1,28 @@
 -- A call has acted, the file has settled, and its row is written back: what the call comes to.
 use Prim.Native.Nat.{ℕ}
-use mathlib.Core.Path.{_≡_, sym, ap, subst}
+use mathlib.Core.Path.{sym, ap, subst}
 use mathlib.Core.List.{List, []}
 use Rattle.kinds.specs.declared.Answer.{Answer}
 use Rattle.rules.specs.State.{Built}
 use Rattle.rules.specs.Settle.{settle}
-use Rattle.rules.specs.Reply.{Out, leaves}
+use Rattle.rules.specs.Reply.{Reply, Out, answers, leaves}
 use Rattle.rules.specs.Desk.{Desk}
 use Rattle.rules.specs.Allocation.{Alloc}
-use Rattle.segment.specs.Layout.{rowAt, fileRow}
-use Rattle.segment.specs.Table.{fill}
-use Rattle.memory.specs.Stands.{Bytes, Bodies}
+use Rattle.memory.specs.Stands.{Bodies}
 use Rattle.memory.specs.Fine.{Fine}
 use Rattle.midst.specs.declared.File as hand
-use Rattle.midst.specs.File.{fileRowWords}
 use Rattle.midst.specs.Mid.{Start, Mid}
 use Rattle.midst.specs.Outcome.{Outcome, Done, Gave}
-use Rattle.midst.proofs.Begins.{mid-end}
-use Rattle.transfers.specs.Acts.{start, Acts, Hands, Left}
-
--- the row is written back
-pub left-of : {f : ℕ} {o : Start} {xs blocks buffers : List ℕ} {x : hand.File} {b : Built} → Mid Fine f o xs blocks buffers x b → (xs′ : List ℕ)
-    → xs′ ≡ fill xs (rowAt (fileRow f)) (fileRowWords x) → Bytes xs′ → Bytes blocks → Bytes buffers → Left f o xs′ blocks buffers b
-left-of {f} {o} {xs} {blocks} {buffers} {x} {b} M xs′ e bytes blocks-bytes buffers-bytes =
-    subst (λ (ys : List ℕ). Left f o ys blocks buffers b) (sym e) (record { stands = λ B. mid-end M B (subst Bytes e bytes) blocks-bytes buffers-bytes; apart = M .apart })
+use Rattle.transfers.specs.Acts.{start, Acts, Hands}
 
 -- from the act to the settled file
 module _ {f : ℕ} {d : Desk} {s : Alloc} {x : Out} {blocks buffers xs₁ blocks₁ buffers₁ xs′ blocks′ buffers′ : List ℕ} {file : hand.File} {a : Answer}
-    (settles : (o : Start) (b : Built) → Mid Fine f o xs₁ blocks₁ buffers₁ file b → Left f o xs′ blocks′ buffers′ (settle b)) (B : Bodies blocks buffers d) where
+    (settles : (o : Start) (b : Built) → Mid Fine f o xs₁ blocks₁ buffers₁ file b → Bodies (o .blocks) (o .buffers) (o .desk) → (r : Reply)
+    → Outcome f (o .desk) (o .alloc) (leaves r (settle b)) (o .blocks) (o .buffers) xs′ blocks′ buffers′)
+    (B : Bodies blocks buffers d) where
   outcome-of : {bytes : List ℕ} → Acts f (start d s blocks buffers) x xs₁ blocks₁ buffers₁ file a bytes → Outcome f d s x blocks buffers xs′ blocks′ buffers′
-  unfolding leaves
-  outcome-of A =
-      let L = settles (start d s blocks buffers) (A .acted) (A .mid) in
-      subst (λ (y : Out). Outcome f d s y blocks buffers xs′ blocks′ buffers′) (sym (A .out)) (record { stands = L .stands B; apart = L .apart })
+  outcome-of {bytes} A =
+      subst (λ (y : Out). Outcome f d s y blocks buffers xs′ blocks′ buffers′) (sym (A .out)) (settles (start d s blocks buffers) (A .acted) (A .mid) B (answers a bytes))
 
   pub done-of : Acts f (start d s blocks buffers) x xs₁ blocks₁ buffers₁ file a [] → Done f d s x blocks buffers xs′ blocks′ buffers′ a
   unfolding leaves

@@ -2,19 +2,18 @@
 use Prim.Native.Nat.{ℕ, _≤_}
 use mathlib.Core.Path.{_≡_}
 use mathlib.Core.List.{List}
-use lib.ListN.{length, set}
+use lib.ListN.{length}
 use lib.Seq.{sets}
 use Rattle.kinds.specs.declared.Answer.{Answer}
 use Rattle.rules.specs.Limits.{bufferBytes}
-use Rattle.rules.specs.State.{Built, built}
+use Rattle.rules.specs.State.{Built}
 use Rattle.rules.specs.Settle.{settle}
-use Rattle.rules.specs.Reply.{answers, Out, hushed, leaves}
+use Rattle.rules.specs.Reply.{answers, Out, leaves}
 use Rattle.rules.specs.Desk.{Desk}
-use Rattle.rules.specs.Allocation.{Alloc, allotAll}
-use Rattle.memory.specs.Stands.{Bodies, Stands}
+use Rattle.rules.specs.Allocation.{Alloc}
 use Rattle.memory.specs.Fine.{Fine}
 use Rattle.midst.specs.declared.File as hand
-use Rattle.midst.specs.Mid.{Start, Apart, Mid}
+use Rattle.midst.specs.Mid.{Start, Mid}
 
 abbrev pub start : Desk → Alloc → List ℕ → List ℕ → Start
 start d s blocks buffers = record { desk = d; alloc = s; blocks = blocks; buffers = buffers }
@@ -32,8 +31,3 @@ pub record Hands (f : ℕ) (o : Start) (x : Out) (xs blocks buffers memory memor
   pub size : n ≡ length bytes
   pub most : n ≤ bufferBytes
   pub behind : memory′ ≡ sets memory 4 bytes
-
--- the memories stand for the desk with b as its file f
-pub record Left (f : ℕ) (o : Start) (xs blocks buffers : List ℕ) (b : Built) : Type 0 where
-  pub stands : Bodies (o .blocks) (o .buffers) (o .desk) → Stands xs blocks buffers (set (o .desk) f (built (hushed b))) (allotAll f (b .past) (o .alloc))
-  pub apart : Apart f (o .blocks) (o .buffers) blocks buffers

@@ -1,14 +1,5 @@
 // Read, write and collect, where the call is not refused: they first act, which fixes their answer, then the file settles. Collect does not settle.
-ghost use Rattle.rules.specs.State.{Built};
-ghost use Rattle.rules.specs.Settle.{settle};
-ghost use Rattle.memory.specs.Fine.{Fine};
-ghost use Rattle.midst.specs.Mid.{Start, Mid};
-ghost use Rattle.settling.specs.Turns.{Amid};
-ghost use Rattle.transfers.specs.Acts.{Left};
 use kinds::Answer;
-use midst::File;
-use midst::put_file;
-use settling::settle;
 
 mod collecting;
 mod reading;
@@ -38,12 +29,3 @@ const COLLECT: u8 = 6;
 const WAITING: u8 = 1;
 
 const END: u8 = 2;
-
-// "then the file settles", and its row is written back.
-fn rest(segment: &mut [u8], blocks: &mut [u8], buffers: &mut [u8], f: usize, file: File)
-    requires { ⌜ Amid f (now segment) (now blocks) (now buffers) file ⌝ }
-    ensures { λ _. ⌜ ((o : Start) (b : Built) → Mid Fine f o (now (segment .entry)) (now (blocks .entry)) (now (buffers .entry)) file b → Left f o (now (segment .exit)) (now (blocks .exit)) (now (buffers .exit)) (settle b)) ⌝ }
-{
-    let settled = settle(segment, blocks, buffers, f, file);
-    put_file(segment, f, settled);
-}

@@ -25,7 +25,6 @@ use crate::END;
 use crate::Given;
 use crate::READ;
 use crate::WAITING;
-use crate::rest;
 use crate::waiting::begin;
 use crate::waiting::may_wait;
 use crate::waiting::wait_read;
@@ -42,6 +41,7 @@ use kinds::Answer;
 use kinds::limits::PLACES;
 use midst::File;
 use midst::take_file;
+use settling::rest;
 use settling::taken;
 
 // The answer is fixed, with the data behind it, and the file in hand is about to settle.

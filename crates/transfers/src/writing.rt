@@ -17,7 +17,6 @@ ghost use Rattle.transfers.specs.Acts.{start, Acts};
 use crate::END;
 use crate::WAITING;
 use crate::WRITE;
-use crate::rest;
 use crate::waiting::begin;
 use crate::waiting::may_wait;
 use crate::waiting::wait_write;
@@ -34,6 +33,7 @@ use midst::File;
 use midst::take_file;
 use segment::layout;
 use settling::fits;
+use settling::rest;
 
 const DATA: u16 = 0;
 

@@ -5,7 +5,7 @@ use Rattle.transfers.proofs.reading.read.Tie as tie
 use Rattle.transfers.proofs.reading.read.Reads as reads
 use Rattle.transfers.proofs.reading.read.Lts as lts
 use Rattle.transfers.proofs.reading.act.Reads as act-reads
-use Rattle.transfers.proofs.rest.Reads as rest-reads
+use Rattle.settling.proofs.rest.Reads as rest-reads
 
 -- src/reading.rt:156:9
 act-requires : tie.Need-act-requires

@@ -4,7 +4,7 @@ use Rattle.transfers.proofs.writing.write.Statement.{statement}
 use Rattle.transfers.proofs.writing.write.Tie as tie
 use Rattle.transfers.proofs.writing.write.Reads as reads
 use Rattle.transfers.proofs.writing.write.Lts as lts
-use Rattle.transfers.proofs.rest.Reads as rest-reads
+use Rattle.settling.proofs.rest.Reads as rest-reads
 use Rattle.transfers.proofs.writing.act.Reads as act-reads
 
 -- src/writing.rt:128:9
