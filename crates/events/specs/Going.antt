@@ -1,0 +1,65 @@
+-- How the event program goes through its input: byte by byte, whatever the sizes of the reads.
+use mathlib.Core.Path.{_≡_}
+use mathlib.Core.Bool.{Bool, true, false}
+use mathlib.Core.List.{List, [], _∷_, _++_}
+use Prim.Native.Nat.{ℕ}
+use lib.Dec.{eqb}
+use lib.ListN.{length, take}
+use Rattle.rules.specs.Line.{lineFrame, lineOf}
+use Rattle.rules.specs.Desk.{Desk, Call, event, asked, freshDesk, Responded, respond, replyBytes}
+use Rattle.rules.specs.Allocation.{Alloc, freshAlloc, allocAsked}
+use Rattle.memory.specs.Fine.{StandsFor}
+
+-- a digit more than the longest line has: so much of a line shows that it is none, whatever follows
+abbrev pub mostHeld : ℕ
+mostHeld = 523
+
+-- the output that is written at once
+abbrev pub outBytes : ℕ
+outBytes = 65536
+
+-- the desk and its allocation, the bytes of a line that has not ended, and what was printed
+pub record Going : Type 0 where
+  pub desk : Desk
+  pub alloc : Alloc
+  pub part : List ℕ
+  pub printed : List ℕ
+
+unfoldable pub begins : Going
+begins = record { desk = freshDesk; alloc = freshAlloc; part = []; printed = [] }
+
+-- the line ends, and is answered by a line
+unfoldable pub lineEnds : Going → Going
+lineEnds g =
+    let c : Call = event (lineFrame (g .part)) in
+    let r : Responded = respond (g .desk) c in
+    record { desk = r .desk; alloc = allocAsked (g .desk) (asked c) (g .alloc); part = []; printed = g .printed ++ lineOf (replyBytes (r .reply)) }
+
+unfoldable pub byte : Going → ℕ → Going
+byte g b =
+    elim (eqb b 10) [
+      | true ↦ lineEnds g
+      | false ↦ record { desk = g .desk; alloc = g .alloc; part = g .part ++ (b ∷ []); printed = g .printed }
+    ]
+
+unfoldable pub goes : Going → List ℕ → Going
+goes g [] = g
+goes g (b ∷ t) = goes (byte g b) t
+
+-- what was printed is written, and no longer held
+unfoldable pub written : Going → Going
+written g = record { desk = g .desk; alloc = g .alloc; part = g .part; printed = [] }
+
+-- "lines ended by LF (the last may lack it)"
+unfoldable pub ends : Going → Going
+ends g = elim (eqb (length (g .part)) 0) [ true ↦ g | false ↦ lineEnds g ]
+
+-- the memories stand for its desk, and the first m bytes of `out` are what it printed
+pub record Printed (g : Going) (segment blocks buffers out : List ℕ) (m : ℕ) : Type 0 where
+  pub stands : StandsFor segment blocks buffers (g .desk) (g .alloc)
+  pub filled : take m out ≡ g .printed
+
+-- and the first n bytes of `line` are those of its line, as far as they are kept
+pub record At (g : Going) (segment blocks buffers line out : List ℕ) (n m : ℕ) : Type 0 where
+  pub printed : Printed g segment blocks buffers out m
+  pub held : take n line ≡ take mostHeld (g .part)

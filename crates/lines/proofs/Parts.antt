@@ -1,0 +1,49 @@
+-- The parts that are handed on, and what is printed.
+use Prim.Native.Nat.{ℕ, _+_, _*_, _-_, _≤_}
+use mathlib.Core.Path.{_≡_, ap, sym, _∙_, subst}
+use mathlib.Core.List.{List, [], _∷_, _++_}
+use native.Mathlib.Omega.{arith}
+use lib.ListN.{length, set, take, drop}
+use lib.Seq.{sets, sets-eq, take-at}
+use Rattle.words.specs.Word.{zeros}
+use Rattle.words.proofs.Runs.{sets-at, sets-part}
+use Rattle.rules.specs.Limits.{answerRoom}
+use Rattle.rules.specs.Line.{digitsOf, lineFrame, lineOf}
+use Rattle.desk.specs.Answered.{Answered}
+use Rattle.hex.proofs.Trip.{length-digits}
+use Rattle.lines.specs.Asked.{Asked}
+
+-- a part from the first byte on
+pub front : (n : ℕ) (l : List ℕ) → take (n - 0) l ≡ take n l
+front n l =
+    let e : n - 0 ≡ n = omega arith in
+    ap (λ (k : ℕ). take k l) e
+
+-- what stands from the first byte on is what was put there
+pub put-first : (xs vs : List ℕ) (n : ℕ) → n ≡ length vs → length vs ≤ length xs → take n (sets xs 0 vs) ≡ vs
+put-first xs vs n e h = rw (sets-eq vs xs 0 (omega arith)) (take-at vs (drop (0 + length vs) xs) n (sym e))
+
+pub frame-decoded : (line zs frame : List ℕ) (n : ℕ) → n ≡ length (lineFrame line) → frame ≡ sets zs 0 (lineFrame line) → n ≤ length zs → take (n - 0) frame ≡ lineFrame line
+frame-decoded line zs frame n s e h = front n frame ∙ rw e (put-first zs (lineFrame line) n s (omega arith))
+
+-- the digits and LF, behind what the output holds; `back` is the part of it that was lent on
+pub line-printed : (bytes out back : List ℕ) (used r : ℕ) → r ≡ 2 * length bytes → used + (2 * length bytes + 1) ≤ length out
+    → back ≡ sets (take (length out - used) (drop used out)) 0 (digitsOf bytes)
+    → set (take used out ++ (back ++ drop (length out - used) (drop used out))) (used + r) 10 ≡ sets out used (lineOf bytes)
+unfolding lineOf
+line-printed bytes out back used r e h q =
+    let l = length-digits bytes in
+    rw (q, sets-part (digitsOf bytes) out used (length out - used) (omega arith) (omega arith))
+    (sets-at (digitsOf bytes) (10 ∷ []) out used (used + r) (omega arith))
+
+pub line-asked : (segment blocks buffers line out frame segment′ blocks′ buffers′ answer out′ : List ℕ) (used n r : ℕ)
+    → Answered segment blocks buffers (zeros answerRoom) frame segment′ blocks′ buffers′ answer n → frame ≡ lineFrame line
+    → out′ ≡ sets out used (lineOf (take (n - 0) answer)) → r ≡ used + (2 * n + 1)
+    → Asked segment blocks buffers line out segment′ blocks′ buffers′ out′ used r
+line-asked segment blocks buffers line out frame segment′ blocks′ buffers′ answer out′ used n r a e o k = record {
+  answer = answer;
+  size = n;
+  event = subst (λ (f : List ℕ). Answered segment blocks buffers (zeros answerRoom) f segment′ blocks′ buffers′ answer n) e a;
+  printed = o ∙ ap (λ (x : List ℕ). sets out used (lineOf x)) (front n answer);
+  end = k;
+}

@@ -1,0 +1,80 @@
+use Rattle.words.specs.Word.{zeros}
+use Rattle.lines.proofs.Parts.{frame-decoded, line-asked}
+use Rattle.lines.proofs.Room.{answer-fits}
+use native.Mathlib.Omega.{arith}
+use mathlib.Core.Path.{_≡_, refl, _∙_}
+use borrow.Author.Needs.{needs}
+use Rattle.lines.proofs.answer_line.Statement.{statement}
+use Rattle.lines.proofs.answer_line.Tie as tie
+
+slice-aggregate-decode : tie.Need-slice-aggregate-decode
+slice-aggregate-decode c = search needs
+
+decode-requires : tie.Need-decode-requires
+decode-requires c κs = search needs
+
+slice-aggregate-event : tie.Need-slice-aggregate-event
+slice-aggregate-event c = search needs
+
+sub-event : tie.Need-sub-event
+sub-event c = search needs
+
+part-event-start : tie.Need-part-event-start
+part-event-start c = search needs
+
+part-event-end : tie.Need-part-event-end
+part-event-end c = search needs
+
+event-requires : tie.Need-event-requires
+event-requires c κs = search needs
+
+sub-print-line : tie.Need-sub-print-line
+sub-print-line c = search needs
+
+part-print-line-start : tie.Need-part-print-line-start
+part-print-line-start c = search needs
+
+part-print-line-end : tie.Need-part-print-line-end
+part-print-line-end c = omega (arith, answer-fits _ _ _ _ _ _ _ _ _ _ (λ i. c .before .before .before .before .before .before .before .before .before .before .before .before .before .before .before .before .before .before .before .before .before .before .slice-known .given i .fits) (λ i. c .before .before .before .before .before .before .before .before .before .before .before .before .before .before .before .before .before .before .before .before .before .slice-known2 .given i .fits) (λ i. c .before .before .before .before .before .before .before .before .before .before .before .before .before .before .before .before .before .before .before .before .slice-known3 .given i .fits) (c .before .before .before .before .before .before .before .before .event .ensures))
+
+print-line-requires : tie.Need-print-line-requires
+print-line-requires c κs = omega (arith, answer-fits _ _ _ _ _ _ _ _ _ _ (λ i. c .before .before .before .before .before .before .before .before .before .before .before .before .before .before .before .before .before .before .before .before .before .before .before .before .slice-known .given i .fits) (λ i. c .before .before .before .before .before .before .before .before .before .before .before .before .before .before .before .before .before .before .before .before .before .before .before .slice-known2 .given i .fits) (λ i. c .before .before .before .before .before .before .before .before .before .before .before .before .before .before .before .before .before .before .before .before .before .before .slice-known3 .given i .fits) (c .before .before .before .before .before .before .before .before .before .before .event .ensures), c .before .before .before .before .before .before .before .before .before .before .before .before .before .before .before .before .before .before .before .before .before .before .before .before .before .pre)
+
+same-length : tie.Need-same-length
+same-length c = search needs
+
+same-length-2 : tie.Need-same-length-2
+same-length-2 c = search needs
+
+same-length-3 : tie.Need-same-length-3
+same-length-3 c = search needs
+
+same-length-4 : tie.Need-same-length-4
+same-length-4 c = search needs
+
+returns : tie.Need-returns
+unfolding zeros
+returns c =
+    let fits = answer-fits _ _ _ _ _ _ _ _ _ _ (λ i. c .before .before .before .before .before .before .before .before .before .before .before .before .before .before .before .before .before .before .before .before .before .before .before .before .before .before .before .slice-known .given i .fits) (λ i. c .before .before .before .before .before .before .before .before .before .before .before .before .before .before .before .before .before .before .before .before .before .before .before .before .before .before .slice-known2 .given i .fits) (λ i. c .before .before .before .before .before .before .before .before .before .before .before .before .before .before .before .before .before .before .before .before .before .before .before .before .before .slice-known3 .given i .fits) (c .before .before .before .before .before .before .before .before .before .before .before .before .before .event .ensures) in
+    ((omega (arith, c .before .before .print-line .ensures .0), omega (arith, c .before .before .print-line .ensures .0, fits)), line-asked _ _ _ _ _ _ _ _ _ _ _ _ _ _ (c .before .before .before .before .before .before .before .before .before .before .before .before .before .event .ensures) (frame-decoded _ _ _ _ (c .before .before .before .before .before .before .before .before .before .before .before .before .before .before .before .before .before .before .before .before .before .decode .ensures .0) (c .before .before .before .before .before .before .before .before .before .before .before .before .before .before .before .before .before .before .before .before .before .decode .ensures .1 .0) (c .before .before .before .before .before .before .before .before .before .before .before .before .before .before .before .before .before .before .before .before .before .decode .ensures .1 .1)) (c .before .before .print-line .ensures .1) (omega (arith, c .before .before .print-line .ensures .0, fits)))
+
+pub answer-line-spec : {M : Type 1} → statement M
+answer-line-spec =
+    tie.close
+    (tie.spec
+    slice-aggregate-decode
+    decode-requires
+    slice-aggregate-event
+    sub-event
+    part-event-start
+    part-event-end
+    event-requires
+    sub-print-line
+    part-print-line-start
+    part-print-line-end
+    print-line-requires
+    same-length
+    same-length-2
+    same-length-3
+    same-length-4
+    returns)

@@ -1,0 +1,46 @@
+use native.Mathlib.Omega.{arith}
+use Rattle.lines.proofs.Parts.{line-printed}
+use borrow.Author.Needs.{needs}
+use Rattle.lines.proofs.print_line.Statement.{statement}
+use Rattle.lines.proofs.print_line.Tie as tie
+
+sub-encode : tie.Need-sub-encode
+sub-encode c = search needs
+
+part-encode-start : tie.Need-part-encode-start
+part-encode-start c = search needs
+
+part-encode-end : tie.Need-part-encode-end
+part-encode-end c = search needs
+
+encode-requires : tie.Need-encode-requires
+encode-requires c κs = search needs
+
+add-end : tie.Need-add-end
+add-end c = search needs
+
+slice-write-out : tie.Need-slice-write-out
+slice-write-out c = search needs
+
+add-result : tie.Need-add-result
+add-result c = search needs
+
+same-length : tie.Need-same-length
+same-length c = search needs
+
+returns : tie.Need-returns
+returns c = (omega arith, line-printed _ (c .before .before .before .before .before .before .args .out .now) _ _ _ (c .before .before .encode .ensures .0) (c .before .before .before .before .before .before .pre) (c .before .before .encode .ensures .1))
+
+pub print-line-spec : {M : Type 1} → statement M
+print-line-spec =
+    tie.close
+    (tie.spec
+    sub-encode
+    part-encode-start
+    part-encode-end
+    encode-requires
+    add-end
+    slice-write-out
+    add-result
+    same-length
+    returns)

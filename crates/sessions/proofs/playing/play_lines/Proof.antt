@@ -1,0 +1,80 @@
+use borrow.Author.Needs.{needs}
+use mathlib.Core.Path.{_≡_}
+use native.Mathlib.Omega.{arith}
+use Prim.Native.Nat.{_≤_, _-_}
+use lib.ListN.{length}
+use Rattle.sessions.proofs.playing.play_lines.Statement.{statement}
+use Rattle.sessions.proofs.playing.play_lines.Tie as tie
+
+abbrev Inv-loop : tie.InvT-loop
+Inv-loop segment₀ blocks₀ buffers₀ table at₀ from₀ segment blocks buffers at from =
+    (from ≤ length table)
+    × (length segment ≡ length segment₀)
+    × (length blocks ≡ length blocks₀)
+    × (length buffers ≡ length buffers₀)
+
+abbrev μ-loop : tie.MeasureT-loop
+μ-loop segment₀ blocks₀ buffers₀ table at₀ from₀ segment blocks buffers at from = length table - from
+
+loop-holds : tie.Need-loop-holds Inv-loop μ-loop
+loop-holds c = search needs
+
+find-requires : tie.Need-find-requires Inv-loop μ-loop
+find-requires c κs = search needs
+
+sub-play-line : tie.Need-sub-play-line Inv-loop μ-loop
+sub-play-line c = search needs
+
+part-play-line-start : tie.Need-part-play-line-start Inv-loop μ-loop
+part-play-line-start c = search needs
+
+part-play-line-end : tie.Need-part-play-line-end Inv-loop μ-loop
+part-play-line-end c = search needs
+
+play-line-requires : tie.Need-play-line-requires Inv-loop μ-loop
+play-line-requires c κs = search needs
+
+behind-requires : tie.Need-behind-requires Inv-loop μ-loop
+behind-requires c κs = search needs
+
+loop-less : tie.Need-loop-less Inv-loop μ-loop
+loop-less c = omega (arith, c .behind .ensures .1 (c .before .before .before .before .before .before .before .before .before .before .before .before .before .before .loop .from) (c .before .before .before .before .before .before .before .before .before .before .before .before .find .ensures .0) (c .before .before .before .before .before .before .before .before .before .before .before .before .before .loop-test .taken), c .before .before .before .before .before .before .before .before .before .before .before .before .before .loop-test .taken)
+
+loop-again : tie.Need-loop-again Inv-loop μ-loop
+loop-again c = search needs
+
+end-requires : tie.Need-end-requires Inv-loop μ-loop
+end-requires c κs = search needs
+
+same-length : tie.Need-same-length Inv-loop μ-loop
+same-length c = search needs
+
+same-length-2 : tie.Need-same-length-2 Inv-loop μ-loop
+same-length-2 c = search needs
+
+same-length-3 : tie.Need-same-length-3 Inv-loop μ-loop
+same-length-3 c = search needs
+
+returns : tie.Need-returns Inv-loop μ-loop
+returns c = search needs
+
+pub play-lines-spec : {M : Type 1} → statement M
+play-lines-spec =
+    tie.close
+    (tie.spec
+    Inv-loop
+    μ-loop
+    loop-holds
+    find-requires
+    sub-play-line
+    part-play-line-start
+    part-play-line-end
+    play-line-requires
+    behind-requires
+    loop-less
+    loop-again
+    end-requires
+    same-length
+    same-length-2
+    same-length-3
+    returns)
