@@ -1,0 +1,9 @@
+pub mod Lines
+pub mod Frames
+pub mod Room
+pub mod Sheets
+pub mod Trip
+pub mod Plain
+pub mod Stands
+pub mod Desks
+pub mod Carried

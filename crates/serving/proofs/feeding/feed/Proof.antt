@@ -1,0 +1,109 @@
+use Rattle.serving.proofs.Steps.{goes-at, some-taken}
+use borrow.Author.Needs.{needs}
+use mathlib.Core.Path.{_≡_}
+use Prim.Native.Nat.{_≤_, _<_, _-_}
+use native.Mathlib.Omega.{arith}
+use lib.ListN.{length, take}
+use Rattle.serving.specs.Going.{mostHeld, outBytes, Going, goes, At}
+use Rattle.serving.proofs.feeding.feed.Statement.{statement}
+use Rattle.serving.proofs.feeding.feed.Tie as tie
+
+abbrev Inv-loop : tie.InvT-loop
+Inv-loop segment₀ blocks₀ buffers₀ line₀ out₀ chunk held at₀ i₀ segment blocks buffers line out at i =
+    (i ≤ length chunk)
+    × (length segment ≡ length segment₀)
+    × (length blocks ≡ length blocks₀)
+    × (length buffers ≡ length buffers₀)
+    × (length line ≡ length line₀)
+    × (length out ≡ length out₀)
+    × (at .held ≤ mostHeld)
+    × (at .used ≤ outBytes)
+    × (i ≡ 0 → at .used ≡ 0)
+    × ((g : Going) → At g segment₀ blocks₀ buffers₀ line₀ out₀ held 0 → At (goes g (take i chunk)) segment blocks buffers line out (at .held) (at .used))
+
+abbrev μ-loop : tie.MeasureT-loop
+μ-loop segment₀ blocks₀ buffers₀ line₀ out₀ chunk held at₀ i₀ segment blocks buffers line out at i = length chunk - i
+
+loop-holds : tie.Need-loop-holds Inv-loop μ-loop
+unfolding goes
+loop-holds c = search needs
+
+sub-if1 : tie.Need-sub-if1 Inv-loop μ-loop
+sub-if1 c = search needs
+
+same-length : tie.Need-same-length Inv-loop μ-loop
+same-length c = search needs
+
+same-length-2 : tie.Need-same-length-2 Inv-loop μ-loop
+same-length-2 c = search needs
+
+same-length-3 : tie.Need-same-length-3 Inv-loop μ-loop
+same-length-3 c = search needs
+
+same-length-4 : tie.Need-same-length-4 Inv-loop μ-loop
+same-length-4 c = search needs
+
+same-length-5 : tie.Need-same-length-5 Inv-loop μ-loop
+same-length-5 c = search needs
+
+returns : tie.Need-returns Inv-loop μ-loop
+returns c = ((omega arith, c .before .before .before .loop .inv .6, c .before .before .before .loop .inv .7), (λ h. some-taken _ _ (c .before .before .before .loop .inv .8) (omega arith), c .before .before .before .loop .inv .9))
+
+shared-slice-read-feed-byte : tie.Need-shared-slice-read-feed-byte Inv-loop μ-loop
+shared-slice-read-feed-byte c = search needs
+
+feed-byte-requires : tie.Need-feed-byte-requires Inv-loop μ-loop
+feed-byte-requires c κs = search needs
+
+add-i : tie.Need-add-i Inv-loop μ-loop
+add-i c = search needs
+
+loop-less : tie.Need-loop-less Inv-loop μ-loop
+loop-less c = search needs
+
+loop-again : tie.Need-loop-again Inv-loop μ-loop
+loop-again c = (search needs, search needs, search needs, search needs, search needs, search needs, c .before .before .before .before .before .before .before .before .before .before .feed-byte .ensures .0 .0, c .before .before .before .before .before .before .before .before .before .before .feed-byte .ensures .0 .1, (λ e. absurd (omega (arith, e))), λ g a. goes-at g _ _ _ _ _ _ _ _ _ (c .before .before .before .before .before .before .before .before .before .before .before .before .before .before .before .before .before .before .before .loop-test .taken) (c .before .before .before .before .before .before .before .before .before .before .feed-byte .ensures .1 _ (c .before .before .before .before .before .before .before .before .before .before .before .before .before .before .before .before .before .before .before .before .loop .inv .9 g a)))
+
+same-length-6 : tie.Need-same-length-6 Inv-loop μ-loop
+same-length-6 c = search needs
+
+same-length-7 : tie.Need-same-length-7 Inv-loop μ-loop
+same-length-7 c = search needs
+
+same-length-8 : tie.Need-same-length-8 Inv-loop μ-loop
+same-length-8 c = search needs
+
+same-length-9 : tie.Need-same-length-9 Inv-loop μ-loop
+same-length-9 c = search needs
+
+same-length-10 : tie.Need-same-length-10 Inv-loop μ-loop
+same-length-10 c = search needs
+
+returns-2 : tie.Need-returns-2 Inv-loop μ-loop
+returns-2 c = ((omega arith, c .before .loop .inv .6, c .before .loop .inv .7), (λ h. omega (arith, h), c .before .loop .inv .9))
+
+pub feed-spec : {M : Type 1} → statement M
+feed-spec =
+    tie.close
+    (tie.spec
+    Inv-loop
+    μ-loop
+    loop-holds
+    sub-if1
+    same-length
+    same-length-2
+    same-length-3
+    same-length-4
+    same-length-5
+    returns
+    shared-slice-read-feed-byte
+    feed-byte-requires
+    add-i
+    loop-less
+    loop-again
+    same-length-6
+    same-length-7
+    same-length-8
+    same-length-9
+    same-length-10
+    returns-2)

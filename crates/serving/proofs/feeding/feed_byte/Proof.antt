@@ -1,0 +1,62 @@
+use native.Mathlib.Omega.{arith}
+use Rattle.serving.proofs.Steps.{line-answered, frame-held, line-at, byte-at}
+use borrow.Author.Needs.{needs}
+use Rattle.serving.proofs.feeding.feed_byte.Statement.{statement}
+use Rattle.serving.proofs.feeding.feed_byte.Tie as tie
+
+sub-answer-line : tie.Need-sub-answer-line
+sub-answer-line c = search needs
+
+part-answer-line-start : tie.Need-part-answer-line-start
+part-answer-line-start c = search needs
+
+part-answer-line-end : tie.Need-part-answer-line-end
+part-answer-line-end c = search needs
+
+answer-line-requires : tie.Need-answer-line-requires
+answer-line-requires c κs = search needs
+
+same-length : tie.Need-same-length
+same-length c = search needs
+
+same-length-2 : tie.Need-same-length-2
+same-length-2 c = search needs
+
+same-length-3 : tie.Need-same-length-3
+same-length-3 c = search needs
+
+same-length-4 : tie.Need-same-length-4
+same-length-4 c = search needs
+
+same-length-5 : tie.Need-same-length-5
+same-length-5 c = search needs
+
+returns : tie.Need-returns
+returns c = ((omega arith, omega (arith, c .before .before .before .before .before .before .before .before .answer-line .ensures .0 .1)), λ g a. line-at g _ _ _ _ _ _ _ (c .before .before .before .before .before .before .before .before .before .before .before .before .before .before .before .if1 .taken) (line-answered g _ _ _ _ _ _ _ _ _ _ _ (c .before .before .before .before .before .before .before .before .answer-line .ensures .1) (omega (arith, c .before .before .before .before .before .before .before .before .before .before .before .before .before .before .before .before .before .before .before .before .before .pre .1, c .before .before .before .before .before .before .before .before .before .before .before .before .before .before .before .before .before .before .before .before .before .pre .3)) (c .before .before .before .before .before .before .before .before .answer-line .ensures .0 .1) (frame-held g _ _ _ _ _ _ _ a) (a .printed)))
+
+keep-requires : tie.Need-keep-requires
+keep-requires c κs = search needs
+
+same-length-6 : tie.Need-same-length-6
+same-length-6 c = search needs
+
+returns-2 : tie.Need-returns-2
+returns-2 c = ((c .before .before .keep .ensures .1, omega (arith, c .before .before .before .before .before .before .before .before .before .before .pre .3)), λ g a. byte-at g _ _ _ _ _ _ _ _ _ _ (c .before .before .before .before .if1 .left) (c .before .before .keep .ensures .0) a)
+
+pub feed-byte-spec : {M : Type 1} → statement M
+feed-byte-spec =
+    tie.close
+    (tie.spec
+    sub-answer-line
+    part-answer-line-start
+    part-answer-line-end
+    answer-line-requires
+    same-length
+    same-length-2
+    same-length-3
+    same-length-4
+    same-length-5
+    returns
+    keep-requires
+    same-length-6
+    returns-2)

@@ -1,0 +1,50 @@
+use native.Mathlib.Omega.{arith}
+use Rattle.serving.proofs.Steps.{line-answered, frame-held, ends-none, ends-line}
+use borrow.Author.Needs.{needs}
+use Rattle.serving.proofs.feeding.finish.Statement.{statement}
+use Rattle.serving.proofs.feeding.finish.Tie as tie
+
+returns : tie.Need-returns
+returns c = (omega arith, λ g a. ends-none g _ _ _ _ _ _ _ (c .before .before .before .before .before .before .pre .0) (c .before .before .before .before .before .before .pre .2) (c .if1 .taken) a)
+
+sub-answer-line : tie.Need-sub-answer-line
+sub-answer-line c = search needs
+
+part-answer-line-start : tie.Need-part-answer-line-start
+part-answer-line-start c = search needs
+
+part-answer-line-end : tie.Need-part-answer-line-end
+part-answer-line-end c = search needs
+
+answer-line-requires : tie.Need-answer-line-requires
+answer-line-requires c κs = search needs
+
+same-length : tie.Need-same-length
+same-length c = search needs
+
+same-length-2 : tie.Need-same-length-2
+same-length-2 c = search needs
+
+same-length-3 : tie.Need-same-length-3
+same-length-3 c = search needs
+
+same-length-4 : tie.Need-same-length-4
+same-length-4 c = search needs
+
+returns-2 : tie.Need-returns-2
+returns-2 c = (omega (arith, c .before .before .before .before .before .before .before .before .answer-line .ensures .0 .1), λ g a. ends-line g _ _ _ _ _ _ _ _ _ _ _ _ (c .before .before .before .before .before .before .before .before .before .before .before .before .before .before .before .before .before .before .before .before .pre .0) (c .before .before .before .before .before .before .before .before .before .before .before .before .before .before .before .before .before .before .before .before .pre .2) (c .before .before .before .before .before .before .before .before .before .before .before .before .before .before .if1 .left) a (line-answered g _ _ _ _ _ _ _ _ _ _ _ (c .before .before .before .before .before .before .before .before .answer-line .ensures .1) (omega (arith, c .before .before .before .before .before .before .before .before .before .before .before .before .before .before .before .before .before .before .before .before .pre .1)) (c .before .before .before .before .before .before .before .before .answer-line .ensures .0 .1) (frame-held g _ _ _ _ _ _ _ a) (a .printed)))
+
+pub finish-spec : {M : Type 1} → statement M
+finish-spec =
+    tie.close
+    (tie.spec
+    returns
+    sub-answer-line
+    part-answer-line-start
+    part-answer-line-end
+    answer-line-requires
+    same-length
+    same-length-2
+    same-length-3
+    same-length-4
+    returns-2)

@@ -1,0 +1,114 @@
+// From bytes of input to bytes of output: each line that ends is answered by the desk.
+use crate::held::keep;
+use lines::answer_line;
+ghost use mathlib.Core.Path.{_≡_};
+ghost use Prim.Native.Nat.{_+_, _≤_, _<_};
+ghost use lib.ListN.{length, take};
+ghost use Rattle.lines.specs.Asked.{mostAnswer};
+ghost use Rattle.serving.specs.Going.{mostHeld, outBytes, Going, byte, goes, ends, At};
+
+// A line ends with LF.
+const LF: u8 = 10;
+
+// The digits of the longest answer, and LF.
+const MOST_ANSWER: usize = 529;
+
+// The output that is written at once.
+const OUT_BYTES: usize = 65536;
+
+// How many bytes of the line are held, and how many of the output are filled.
+struct Filled {
+    held: usize,
+    used: usize,
+}
+
+// How many bytes of the input were taken, and what is held and filled behind them.
+pub struct Fed {
+    pub taken: usize,
+    pub held: usize,
+    pub used: usize,
+}
+
+// One byte of the input.
+fn feed_byte(
+    segment: &mut [u8],
+    blocks: &mut [u8],
+    buffers: &mut [u8],
+    line: &mut [u8],
+    out: &mut [u8],
+    at: Filled,
+    b: u8,
+) -> Filled
+    requires { ⌜ (length (now line) ≡ mostHeld) × (length (now out) ≡ outBytes) × (at .held ≤ mostHeld) × (at .used + mostAnswer ≤ outBytes) ⌝ }
+    ensures bound { λ r. ⌜ (r .held ≤ mostHeld) × (r .used ≤ outBytes) ⌝ }
+    ensures at { λ r. ⌜ ((g : Going) → At g (now (segment .entry)) (now (blocks .entry)) (now (buffers .entry)) (now (line .entry)) (now (out .entry)) (at .held) (at .used) → At (byte g b) (now (segment .exit)) (now (blocks .exit)) (now (buffers .exit)) (now (line .exit)) (now (out .exit)) (r .held) (r .used)) ⌝ }
+{
+    let held = at.held;
+    let used = at.used;
+    if b == LF {
+        let end = answer_line(segment, blocks, buffers, &line[0..held], out, used);
+        return Filled { held: 0, used: end };
+    }
+    let more = keep(line, held, b);
+    Filled {
+        held: more,
+        used: used,
+    }
+}
+
+// The bytes of a chunk, as many as the output has room for: one at least.
+pub fn feed(
+    segment: &mut [u8],
+    blocks: &mut [u8],
+    buffers: &mut [u8],
+    line: &mut [u8],
+    out: &mut [u8],
+    chunk: &[u8],
+    held: usize,
+) -> Fed
+    requires { ⌜ (length (now line) ≡ mostHeld) × (length (now out) ≡ outBytes) × (held ≤ mostHeld) ⌝ }
+    ensures bound { λ r. ⌜ (r .taken ≤ length (now (chunk .entry))) × (r .held ≤ mostHeld) × (r .used ≤ outBytes) ⌝ }
+    ensures some { λ r. ⌜ (0 < length (now (chunk .entry)) → 0 < r .taken) ⌝ }
+    ensures at { λ r. ⌜ ((g : Going) → At g (now (segment .entry)) (now (blocks .entry)) (now (buffers .entry)) (now (line .entry)) (now (out .entry)) held 0 → At (goes g (take (r .taken) (now (chunk .entry)))) (now (segment .exit)) (now (blocks .exit)) (now (buffers .exit)) (now (line .exit)) (now (out .exit)) (r .held) (r .used)) ⌝ }
+{
+    let mut at = Filled {
+        held: held,
+        used: 0,
+    };
+    let mut i = 0;
+    while i < chunk.len() {
+        if at.used > OUT_BYTES - MOST_ANSWER {
+            return Fed {
+                taken: i,
+                held: at.held,
+                used: at.used,
+            };
+        }
+        at = feed_byte(segment, blocks, buffers, line, out, at, chunk[i]);
+        i += 1;
+    }
+    Fed {
+        taken: i,
+        held: at.held,
+        used: at.used,
+    }
+}
+
+// The end of the input: the last line may lack its LF. How much of the output is filled.
+pub fn finish(
+    segment: &mut [u8],
+    blocks: &mut [u8],
+    buffers: &mut [u8],
+    line: &[u8],
+    out: &mut [u8],
+    held: usize,
+) -> usize
+    requires { ⌜ (length (now line) ≡ mostHeld) × (length (now out) ≡ outBytes) × (held ≤ mostHeld) ⌝ }
+    ensures bound { λ r. ⌜ r ≤ outBytes ⌝ }
+    ensures printed { λ r. ⌜ ((g : Going) → At g (now (segment .entry)) (now (blocks .entry)) (now (buffers .entry)) (now (line .entry)) (now (out .entry)) held 0 → take r (now (out .exit)) ≡ ends g .printed) ⌝ }
+{
+    if held == 0 {
+        return 0;
+    }
+    answer_line(segment, blocks, buffers, &line[0..held], out, 0)
+}

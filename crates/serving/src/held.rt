@@ -1,0 +1,22 @@
+// The line that is being read.
+ghost use mathlib.Core.Path.{_≡_};
+ghost use mathlib.Core.List.{[], _∷_, _++_};
+ghost use Prim.Native.Nat.{_≤_};
+ghost use lib.ListN.{length, take};
+ghost use Rattle.serving.specs.Going.{mostHeld};
+
+// A digit more than the longest line has: so much of a line shows that it is none, and no more of it is kept.
+const MOST_HELD: usize = 523;
+
+// One byte more of the line; how many are held then.
+pub fn keep(line: &mut [u8], held: usize, b: u8) -> usize
+    requires { ⌜ (length (now line) ≡ mostHeld) × (held ≤ mostHeld) ⌝ }
+    ensures bytes { λ r. ⌜ take r (now (line .exit)) ≡ take mostHeld (take held (now (line .entry)) ++ (b ∷ [])) ⌝ }
+    ensures bound { λ r. ⌜ r ≤ mostHeld ⌝ }
+{
+    if held < MOST_HELD {
+        line[held] = b;
+        return held + 1;
+    }
+    held
+}

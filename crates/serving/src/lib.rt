@@ -1,0 +1,142 @@
+// Frames on standard input, a hexadecimal line each, are asked of a desk; their answers go to standard output, a line each, as they come.
+mod feeding;
+mod held;
+
+use libc::STDIN_FILENO;
+use libc::STDOUT_FILENO;
+ghost use mathlib.Core.Path.{_≡_};
+ghost use mathlib.Core.Bool.{true};
+ghost use Prim.Native.Nat.{_≤_};
+ghost use lib.ListN.{length};
+ghost use Rattle.serving.specs.Going.{mostHeld, outBytes, Going, goes, written, At};
+
+// Answers are printed where the desk is served aloud; whether that went well.
+fn print(aloud: bool, answers: &[u8]) -> bool {
+    if aloud {
+        return io::write_all(STDOUT_FILENO, answers);
+    }
+    true
+}
+
+// What is held of a line behind a read, and whether to read on.
+struct Turn {
+    held: usize,
+    more: bool,
+}
+
+// A chunk of the input: its answers are written whenever the output is full, and at its end.
+fn answer_chunk(
+    segment: &mut [u8],
+    blocks: &mut [u8],
+    buffers: &mut [u8],
+    line: &mut [u8],
+    out: &mut [u8],
+    chunk: &[u8],
+    before: usize,
+    aloud: bool,
+) -> Turn
+    requires { ⌜ (length (now line) ≡ mostHeld) × (length (now out) ≡ outBytes) × (before ≤ mostHeld) ⌝ }
+    ensures bound { λ r. ⌜ r .held ≤ mostHeld ⌝ }
+    ensures at { λ r. ⌜ ((g : Going) → At (written g) (now (segment .entry)) (now (blocks .entry)) (now (buffers .entry)) (now (line .entry)) (now (out .entry)) before 0 → r .more ≡ true → At (written (goes g (now (chunk .entry)))) (now (segment .exit)) (now (blocks .exit)) (now (buffers .exit)) (now (line .exit)) (now (out .exit)) (r .held) 0) ⌝ }
+{
+    let mut held = before;
+    let mut at = 0;
+    while at < chunk.len() {
+        let fed = feeding::feed(segment, blocks, buffers, line, out, &chunk[at..], held);
+        let used = fed.used;
+        if !print(aloud, &out[0..used]) {
+            return Turn {
+                held: 0,
+                more: false,
+            };
+        }
+        held = fed.held;
+        at += fed.taken;
+    }
+    Turn {
+        held: held,
+        more: true,
+    }
+}
+
+// One read, and the answers to it. A read or a write that fails is the last.
+fn answer_read(
+    segment: &mut [u8],
+    blocks: &mut [u8],
+    buffers: &mut [u8],
+    line: &mut [u8],
+    out: &mut [u8],
+    chunk: &mut [u8],
+    held: usize,
+    aloud: bool,
+) -> Turn
+    requires { ⌜ (length (now line) ≡ mostHeld) × (length (now out) ≡ outBytes) × (held ≤ mostHeld) ⌝ }
+    ensures { λ r. ⌜ r .held ≤ mostHeld ⌝ }
+{
+    let got = libc::read(STDIN_FILENO, chunk);
+    if got < 0 {
+        return Turn {
+            held: 0,
+            more: false,
+        };
+    }
+    if got == 0 {
+        let used = feeding::finish(segment, blocks, buffers, line, out, held);
+        print(aloud, &out[0..used]);
+        return Turn {
+            held: 0,
+            more: false,
+        };
+    }
+    let n = io::count(got, chunk);
+    answer_chunk(
+        segment,
+        blocks,
+        buffers,
+        line,
+        out,
+        &chunk[0..n],
+        held,
+        aloud,
+    )
+}
+
+// All of the input. A proved loop ends, so it counts its reads down from a number that no run uses up.
+fn answer_all(
+    segment: &mut [u8],
+    blocks: &mut [u8],
+    buffers: &mut [u8],
+    line: &mut [u8],
+    out: &mut [u8],
+    chunk: &mut [u8],
+    aloud: bool,
+)
+    requires { ⌜ (length (now line) ≡ mostHeld) × (length (now out) ≡ outBytes) ⌝ }
+{
+    let mut held = 0;
+    let mut reads = u64::MAX;
+    while reads > 0 {
+        let turn = answer_read(segment, blocks, buffers, line, out, chunk, held, aloud);
+        if !turn.more {
+            return;
+        }
+        held = turn.held;
+        reads -= 1;
+    }
+}
+
+// All frames of standard input. Served aloud, their answers are printed.
+pub fn serve(segment: &mut [u8], blocks: &mut [u8], buffers: &mut [u8], aloud: bool) {
+    let mut line = [0u8; 523];
+    let mut out = [0u8; 65536];
+    let mut chunk = [0u8; 65536];
+    answer_all(
+        segment,
+        blocks,
+        buffers,
+        &mut line,
+        &mut out,
+        &mut chunk,
+        aloud,
+    );
+}
