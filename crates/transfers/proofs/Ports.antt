@@ -87,16 +87,16 @@ module _ {xs blocks buffers : List ℕ} {d : Desk} {s : Alloc} (S : StandsFor xs
       (λ y k. length-buffer (b .geo .words) (getD (b .accs) y none) (M .good .room .geo .words-high) (M .good .bounds y)) (M .buffer) p open-place
       ∙ ap buffer at ∙ buffer-some a
 
-  taken : (v : List ℕ) → lies (a .req) ≡ v → take (length v) (bufferAt i buffers) ≡ v
+  pub taken : (v : List ℕ) → lies (a .req) ≡ v → take (length v) (bufferAt i buffers) ≡ v
   unfolding filled
   taken v e = ap (take (length v)) (buffer-lies ∙ ap filled e) ∙ take-append-seam v (zeros (bufferBytes - length v))
 
   -- a completed request, whose port is not empty
   module _ (ended : uncollected (a .req) ≡ 1) where
-    port-full : nth xs (replyPort i) < entries
+    pub port-full : nth xs (replyPort i) < entries
     port-full = step-free-entry fine-knows (mid-begin S f b hf is) p a at ended
 
-    port-entry : entryAt xs (nth xs (replyPort i)) ≡ entryOf (reqWords i (a .req))
+    pub port-entry : entryAt xs (nth xs (replyPort i)) ≡ entryOf (reqWords i (a .req))
     unfolding Chain entryAt
     port-entry =
         let k = port-one i (a .req) s ended in

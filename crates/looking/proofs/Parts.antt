@@ -1,0 +1,92 @@
+-- From what is found to the part that look shows, and to its status.
+use Prim.Native.Nat.{ℕ, _+_, _-_, _≤_}
+use mathlib.Core.Path.{_≡_, refl, sym, ap, _∙_}
+use mathlib.Core.Bool.{true, false}
+use mathlib.Core.List.{List, []}
+use mathlib.Core.Option.{Option}
+use lib.ListN.{length, take, drop}
+use Rattle.rules.specs.Desk.{Desk, look, replyBytes}
+use Rattle.memory.specs.Stands.{Bytes}
+use Rattle.midst.specs.Outcome.{replyStatus}
+use Rattle.sound.specs.Sound.{soundly}
+use Rattle.sound.proofs.desk.Both.{sound-stands}
+use Rattle.shows.specs.Seen.{Seen, replyOf}
+use Rattle.shows.specs.Parts.{Part, bytesOf, partOf}
+use Rattle.shows.proofs.Seen.{seen-none, seen-some}
+use Rattle.words.proofs.Parts.{span}
+use Rattle.looking.specs.declared.finding.Shown.{Shown}
+use Rattle.looking.specs.declared.finding.Shown.the-variants.{Refused, Block, Buffer}
+use Rattle.looking.specs.Shown.{partShown, statusShown, Inside, Tells, OfReader, Finds, Stood}
+use Rattle.looking.proofs.Fits.{seen-fits}
+
+-- whatever the memories hold
+abbrev pub Shows : List ℕ → List ℕ → List ℕ → ℕ → ℕ → Shown → Type 0
+Shows xs blocks buffers f p x = (v : Option Desk) → Seen xs blocks buffers v → Tells (partOf v f p) (replyOf v (look f p)) x
+
+pub sound-stood : (xs blocks buffers : List ℕ) → Bytes xs → Bytes blocks → Bytes buffers → soundly xs blocks buffers ≡ true → Stood xs blocks
+sound-stood xs blocks buffers bs bb bf e = (buffers, sound-stands xs blocks buffers bs bb bf e)
+
+module _ (xs blocks buffers : List ℕ) (f p : ℕ) where
+  pub unsound-shows : soundly xs blocks buffers ≡ false → Shows xs blocks buffers f p (Refused 29)
+  unfolding partOf replyOf partShown statusShown replyStatus
+  unsound-shows e = seen-none (λ v. Tells (partOf v f p) (replyOf v (look f p)) (Refused 29)) e (record { shows = refl; status = refl })
+
+  module _ (bs : Bytes xs) (bb : Bytes blocks) (bf : Bytes buffers) (e : soundly xs blocks buffers ≡ true) where
+    pub sound-inside : (x : Shown) → Finds (OfReader f p) xs blocks x → Inside (length blocks) (length buffers) x
+    sound-inside x F =
+        let S = sound-stands xs blocks buffers bs bb bf e .2 in
+        rw (S .stands .bodies .blocks-size, S .stands .bodies .buffers-size) (F .inside)
+
+    pub sound-shows : (x : Shown) → Finds (OfReader f p) xs blocks x → Shows xs blocks buffers f p x
+    unfolding replyOf
+    sound-shows x F = seen-some (λ v. Tells (partOf v f p) (replyOf v (look f p)) x) e (λ d s S. F .tells buffers d s S)
+
+-- the part is within its memory
+pub block-inside : (m n : ℕ) (x : Shown) → Inside m n x → (at size : ℕ) → x ≡ Block at size → at + size ≤ m
+unfolding Inside
+block-inside m n x i at size e = let k : Inside m n (Block at size) = rw e at i in k
+
+pub buffer-inside : (m n : ℕ) (x : Shown) → Inside m n x → (at size : ℕ) → x ≡ Buffer at size → at + size ≤ n
+unfolding Inside
+buffer-inside m n x i at size e = let k : Inside m n (Buffer at size) = rw e at i in k
+
+module _ (xs blocks buffers : List ℕ) (f p : ℕ) (x : Shown) (F : Shows xs blocks buffers f p x) where
+  -- the bytes of the part are what look promises
+  abbrev Given : List ℕ → Type 0
+  Given ys =
+      ((v : Option Desk) → Seen xs blocks buffers v → ys ≡ bytesOf (partOf v f p) blocks buffers)
+      × ((v : Option Desk) → Seen xs blocks buffers v → ys ≡ replyBytes (replyOf v (look f p)))
+
+  given : (ys : List ℕ) → ys ≡ bytesOf (partShown x) blocks buffers → Given ys
+  given ys e = (part, λ v k. part v k ∙ seen-fits xs blocks buffers v k f p)
+    where
+      part : (v : Option Desk) → Seen xs blocks buffers v → ys ≡ bytesOf (partOf v f p) blocks buffers
+      part v k = e ∙ ap (λ (q : Part). bytesOf q blocks buffers) (F v k .shows)
+
+  pub refused-given : (n : ℕ) → x ≡ Refused n → Given []
+  unfolding partShown bytesOf
+  refused-given n e = given [] (rw e)
+
+  pub block-given : (at size : ℕ) → x ≡ Block at size → Given (take (at + size - at) (drop at blocks))
+  unfolding partShown bytesOf
+  block-given at size e = given (take (at + size - at) (drop at blocks)) (rw (e, span at size))
+
+  pub buffer-given : (at size : ℕ) → x ≡ Buffer at size → Given (take (at + size - at) (drop at buffers))
+  unfolding partShown bytesOf
+  buffer-given at size e = given (take (at + size - at) (drop at buffers)) (rw (e, span at size))
+
+  -- and so is the status
+  abbrev Said : ℕ → Type 0
+  Said n = (v : Option Desk) → Seen xs blocks buffers v → n ≡ replyStatus (replyOf v (look f p))
+
+  pub refused-said : (n : ℕ) → x ≡ Refused n → Said n
+  unfolding statusShown
+  refused-said n e v k = let i : statusShown x ≡ n = rw e in sym i ∙ F v k .status
+
+  pub block-said : (at size : ℕ) → x ≡ Block at size → Said 0
+  unfolding statusShown
+  block-said at size e v k = let i : statusShown x ≡ 0 = rw e in sym i ∙ F v k .status
+
+  pub buffer-said : (at size : ℕ) → x ≡ Buffer at size → Said 0
+  unfolding statusShown
+  buffer-said at size e v k = let i : statusShown x ≡ 0 = rw e in sym i ∙ F v k .status

@@ -1,0 +1,68 @@
+-- What was found to be shown, and how a desk of the rules bears it out.
+use Prim.Native.Nat.{ℕ, _+_, _≤_}
+use mathlib.Core.Path.{_≡_}
+use mathlib.Core.List.{List}
+use mathlib.Core.Option.{some}
+use Rattle.rules.specs.State.{Built, built}
+use Rattle.rules.specs.Reply.{Reply}
+use Rattle.rules.specs.Look.{lookFile}
+use Rattle.rules.specs.Desk.{Desk, look, fileOf, respond}
+use Rattle.rules.specs.Allocation.{Alloc}
+use Rattle.blocks.specs.Memory.{blocksBytes}
+use Rattle.buffers.specs.Buffer.{buffersBytes}
+use Rattle.memory.specs.Fine.{StandsFor}
+use Rattle.midst.specs.Outcome.{replyStatus, Sound}
+use Rattle.judges.specs.declared.outstanding.Outstanding.{Outstanding}
+use Rattle.judges.specs.declared.accessors.Accessor.the-variants.{Open}
+use Rattle.judges.specs.Accessors.{accessorAt}
+use Rattle.shows.specs.Parts.{Part, nothing, ofBlocks, ofBuffers, ofFile, partOf}
+use Rattle.looking.specs.declared.finding.Shown.{Shown}
+use Rattle.looking.specs.declared.finding.Shown.the-variants.{Refused, Block, Buffer}
+
+-- "Refused, it shows an empty part; a second call gives its status."
+unfoldable pub partShown : Shown → Part
+partShown (Refused n) = nothing
+partShown (Block at size) = ofBlocks at size
+partShown (Buffer at size) = ofBuffers at size
+
+unfoldable pub statusShown : Shown → ℕ
+statusShown (Refused n) = n
+statusShown (Block at size) = 0
+statusShown (Buffer at size) = 0
+
+-- it lies within so many bytes of blocks, and of record buffers
+unfoldable pub Inside : ℕ → ℕ → Shown → Type 0
+Inside blocks buffers (Refused n) = Unit {0}
+Inside blocks buffers (Block at size) = at + size ≤ blocks
+Inside blocks buffers (Buffer at size) = at + size ≤ buffers
+
+-- it is that part, with that reply's status
+pub record Tells (part : Part) (r : Reply) (x : Shown) : Type 0 where
+  pub shows : partShown x ≡ part
+  pub status : statusShown x ≡ replyStatus r
+
+-- so it is for file f of a desk, and for the reader that f and p name
+abbrev pub OfFile : ℕ → Desk → Shown → Type 0
+OfFile f d x = (b : Built) → fileOf d f ≡ built b → Tells (ofFile f b) (lookFile b .reply) x
+
+abbrev pub OfReader : ℕ → ℕ → Desk → Shown → Type 0
+OfReader f p d x = Tells (partOf (some d) f p) (respond d (look f p) .reply) x
+
+-- on every desk that the memories, with some buffers, stand for
+pub record Finds (Of : Desk → Shown → Type 0) (xs blocks : List ℕ) (x : Shown) : Type 0 where
+  pub inside : Inside blocksBytes buffersBytes x
+  pub tells : (buffers : List ℕ) (d : Desk) (s : Alloc) → StandsFor xs blocks buffers d s → Of d x
+
+-- the memories, with some buffers, stand for a desk
+abbrev pub Stood : List ℕ → List ℕ → Type 0
+Stood xs blocks = (buffers : List ℕ) × Sound xs blocks buffers
+
+-- and the accessor that f and p name is open, on that side and with that outstanding
+pub record Opens (xs blocks : List ℕ) (f p side : ℕ) (request : Outstanding) : Type 0 where
+  pub stood : Stood xs blocks
+  pub words : ℕ
+  pub named : accessorAt xs f p ≡ Open words side request
+
+-- a reader
+abbrev pub ReaderOpens : List ℕ → List ℕ → ℕ → ℕ → Outstanding → Type 0
+ReaderOpens xs blocks f p request = (side : ℕ) × Opens xs blocks f p side request × (side ≡ 2 → ⊥)

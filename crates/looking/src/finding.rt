@@ -1,0 +1,113 @@
+// What look shows, found as numbers: a refusal, or where the bytes lie and how many there are.
+use blocks::reading::Found;
+use judges::accessors::Accessor;
+use judges::accessors::accessor_of;
+use judges::outstanding::Outstanding;
+use judges::refusals;
+use judges::sides::WRITER;
+use kinds::limits::BUFFER_BYTES;
+use kinds::limits::FILES;
+use kinds::limits::PLACES;
+use kinds::limits::SHARE_BYTES;
+use segment::layout;
+ghost use mathlib.Core.Path.{_≡_};
+ghost use Prim.Native.Nat.{min};
+ghost use Rattle.rules.specs.Limits.{files};
+ghost use Rattle.judges.specs.declared.outstanding.Outstanding.the-variants.{Completed};
+ghost use Rattle.tallies.specs.Tallies.{FileStands};
+ghost use Rattle.looking.specs.Shown.{OfFile, OfReader, Finds, Stood, Opens, ReaderOpens};
+
+pub enum Shown {
+    Refused(u8),
+    // so many bytes of the blocks, or of the record buffers, from a place on
+    Block { at: usize, size: usize },
+    Buffer { at: usize, size: usize },
+}
+
+// Where a record's data begin: behind three words.
+const BODY: usize = 6;
+
+// The number of a file or a place as a byte. Those above 7 are refused alike.
+fn number(n: usize) -> u8
+    ensures { λ r. ⌜ r ≡ min n files ⌝ }
+{
+    if n < FILES {
+        return n as u8;
+    }
+    FILES as u8
+}
+
+// "the data bytes of the file's oldest data record".
+fn of_file(segment: &[u8], blocks: &[u8], f: usize) -> Shown
+    requires { ⌜ FileStands (now segment) (now blocks) f ⌝ }
+    ensures { λ r. ⌜ Finds (OfFile f) (now (segment .entry)) (now (blocks .entry)) r ⌝ }
+{
+    let file = midst::take_file(segment, f);
+    let share = blocks::memory::share(blocks, f);
+    let found = blocks::reading::oldest(share, file.ring, file.words);
+    match found {
+        Found::At(at) => {
+            let record = blocks::reading::header(share, at);
+            Shown::Block {
+                at: SHARE_BYTES * f + at + BODY,
+                size: record.size as usize,
+            }
+        }
+        Found::Nothing => Shown::Refused(refusals::NOTHING),
+    }
+}
+
+// "the record lying in that reader's buffer as it will be answered"; where the read brought none, that of the file.
+fn of_completed(segment: &[u8], blocks: &[u8], f: usize, acc: usize) -> Shown
+    requires { ⌜ ReaderOpens (now segment) (now blocks) f acc Completed ⌝ }
+    ensures { λ r. ⌜ Finds (OfReader f acc) (now (segment .entry)) (now (blocks .entry)) r ⌝ }
+{
+    let place = PLACES * f + acc;
+    let e = segment::get(segment, layout::REPLY_PORTS + place);
+    let request = segment::read_entry(segment, e);
+    if request.status != 0 {
+        return of_file(segment, blocks, f);
+    }
+    Shown::Buffer {
+        at: BUFFER_BYTES * place,
+        size: request.size as usize,
+    }
+}
+
+// Of an open accessor.
+fn of_accessor(
+    segment: &[u8],
+    blocks: &[u8],
+    f: usize,
+    acc: usize,
+    side: u16,
+    request: Outstanding,
+) -> Shown
+    requires { ⌜ Opens (now segment) (now blocks) f acc side request ⌝ }
+    ensures { λ r. ⌜ Finds (OfReader f acc) (now (segment .entry)) (now (blocks .entry)) r ⌝ }
+{
+    if side == WRITER {
+        return Shown::Refused(refusals::SIDE);
+    }
+    match request {
+        Outstanding::Nothing => of_file(segment, blocks, f),
+        Outstanding::Waiting => of_file(segment, blocks, f),
+        Outstanding::Completed => of_completed(segment, blocks, f, acc),
+    }
+}
+
+// Of the accessor that the call names.
+pub fn find(segment: &[u8], blocks: &[u8], file: usize, reader: usize) -> Shown
+    requires { ⌜ Stood (now segment) (now blocks) ⌝ }
+    ensures { λ r. ⌜ Finds (OfReader file reader) (now (segment .entry)) (now (blocks .entry)) r ⌝ }
+{
+    let named = accessor_of(segment, number(file), number(reader));
+    match named {
+        Accessor::Refused(refusal) => Shown::Refused(refusal),
+        Accessor::Open {
+            words: _,
+            side,
+            request,
+        } => of_accessor(segment, blocks, file, reader, side, request),
+    }
+}

@@ -1,0 +1,64 @@
+// Look: "It shows the record lying in that reader's buffer as it will be answered, else the data bytes of the file's oldest data record, as a part
+// of whichever memory holds it. Refused, it shows an empty part; a second call gives its status."
+// Nothing is asked of what is lent, and nothing is changed.
+mod finding;
+
+use finding::Shown;
+use finding::find;
+ghost use mathlib.Core.Path.{_≡_};
+ghost use mathlib.Core.Option.{Option};
+ghost use Prim.Native.Nat.{_≤_};
+ghost use lib.ListN.{length};
+ghost use Rattle.rules.specs.Limits.{bufferBytes};
+ghost use Rattle.rules.specs.Desk.{Desk, replyBytes};
+ghost use Rattle.rules.specs.Desk as rules;
+ghost use Rattle.midst.specs.Outcome.{replyStatus};
+ghost use Rattle.shows.specs.Seen.{Seen, replyOf};
+ghost use Rattle.shows.specs.Parts.{bytesOf, partOf};
+ghost use Rattle.looking.specs.Shown.{Inside, Tells};
+
+// A lent memory has the wrong length or unsound content.
+const UNSOUND: u8 = 29;
+
+// What is shown, whatever the memories hold.
+fn shown(segment: &[u8], blocks: &[u8], buffers: &[u8], file: usize, reader: usize) -> Shown
+    ensures inside { λ r. ⌜ Inside (length (now (blocks .entry))) (length (now (buffers .entry))) r ⌝ }
+    ensures tells { λ r. ⌜ ((v : Option Desk) → Seen (now (segment .entry)) (now (blocks .entry)) (now (buffers .entry)) v → Tells (partOf v file reader) (replyOf v (rules.look file reader)) r) ⌝ }
+{
+    if !sound::sound(segment, blocks, buffers) {
+        return Shown::Refused(UNSOUND);
+    }
+    find(segment, blocks, file, reader)
+}
+
+// The part that is shown, of the blocks or of the record buffers; an empty one where the call is refused.
+pub fn look<'a>(
+    segment: &[u8],
+    blocks: &'a [u8],
+    buffers: &'a [u8],
+    file: usize,
+    reader: usize,
+) -> &'a [u8]
+    ensures part { λ r. ⌜ ((v : Option Desk) → Seen (now (segment .entry)) (now (blocks .entry)) (now (buffers .entry)) v → now r ≡ bytesOf (partOf v file reader) (now (blocks .entry)) (now (buffers .entry))) ⌝ }
+    ensures shown { λ r. ⌜ ((v : Option Desk) → Seen (now (segment .entry)) (now (blocks .entry)) (now (buffers .entry)) v → now r ≡ replyBytes (replyOf v (rules.look file reader))) ⌝ }
+    ensures short { λ r. ⌜ length (now r) ≤ bufferBytes ⌝ }
+{
+    let what = shown(segment, blocks, buffers, file, reader);
+    match what {
+        Shown::Refused(_) => &blocks[0..0],
+        Shown::Block { at, size } => &blocks[at..at + size],
+        Shown::Buffer { at, size } => &buffers[at..at + size],
+    }
+}
+
+// Its status: 29, 31, 32, 34, 39, or 0.
+pub fn look_status(segment: &[u8], blocks: &[u8], buffers: &[u8], file: usize, reader: usize) -> u8
+    ensures { λ r. ⌜ ((v : Option Desk) → Seen (now (segment .entry)) (now (blocks .entry)) (now (buffers .entry)) v → r ≡ replyStatus (replyOf v (rules.look file reader))) ⌝ }
+{
+    let what = shown(segment, blocks, buffers, file, reader);
+    match what {
+        Shown::Refused(number) => number,
+        Shown::Block { at: _, size: _ } => 0,
+        Shown::Buffer { at: _, size: _ } => 0,
+    }
+}
