@@ -3,8 +3,9 @@
  *
  *     station  --> file 0 -->  relay  --> file 1 -->  chart
  *
- * The relay moves each record from file 0 to file 1. At the end the host makes some calls that are refused. It prints each call: what it is for,
- * the frame, the answer, and what that says. `examples/build` builds it; examples/host.out is what it prints.
+ * The relay moves each record from file 0 to file 1. On the way the host saves file 1 to the disk, and later a fresh desk has it from there. The
+ * host also makes some calls that are refused. It prints each call: what it is for, the frame, the answer, and what that says. `examples/build`
+ * builds it; examples/host.out is what it prints. Its argument is the path to save to; without one it takes a temporary file.
  */
 #include "tendrilhook.h"
 
@@ -39,6 +40,9 @@ static const char *in_words(int status)
     case TENDRILHOOK_OUTSTANDING: return "refused: a request is outstanding";
     case TENDRILHOOK_WRONG_SIDE: return "refused: the wrong side of the file";
     case TENDRILHOOK_OUT_OF_RANGE: return "refused: a number out of range";
+    case TENDRILHOOK_NOTHING_THERE: return "refused: nothing there";
+    case TENDRILHOOK_NOT_A_SHEET: return "refused: not a sheet";
+    case TENDRILHOOK_OUTPUT_TOO_SHORT: return "refused: the output is too short";
     default: return "refused";
     }
 }
@@ -117,6 +121,38 @@ static void print_record(void)
     printf("    the record: %.*s\n", (int)answered - 4, (const char *)answer + 4);
 }
 
+/* The three calls that are no events: what they are asked stands in the frame's place, and what they give in the answer's. */
+static void look(const char *purpose, size_t file, size_t reader)
+{
+    uint8_t record[TENDRILHOOK_RECORD_BYTES];
+    size_t length;
+    int status = tendrilhook_look(segment, sizeof segment, blocks, sizeof blocks, buffers, sizeof buffers,
+                                  file, reader, record, sizeof record, &length);
+    printf("%-36s %-28s-> ", purpose, "look");
+    print_bytes(record, length, 24);
+    printf("%2d %s\n", status, in_words(status));
+}
+
+static size_t save(const char *purpose, size_t file, uint8_t *output, size_t room)
+{
+    size_t length;
+    int status = tendrilhook_save(segment, sizeof segment, blocks, sizeof blocks, buffers, sizeof buffers, file, output, room, &length);
+    printf("%-36s save, room for %4zu bytes   -> %2zu bytes                %2d %s\n", purpose, room, length, status, in_words(status));
+    return length;
+}
+
+static void load(const char *purpose, size_t file, const uint8_t *text, size_t length)
+{
+    int status = tendrilhook_load(segment, sizeof segment, blocks, sizeof blocks, buffers, sizeof buffers, file, text, length);
+    printf("%-36s load, %2zu bytes              -> %24s%2d %s\n", purpose, length, "", status, in_words(status));
+}
+
+static void fresh(const char *purpose)
+{
+    int status = tendrilhook_fresh(segment, sizeof segment, blocks, sizeof blocks, buffers, sizeof buffers);
+    printf("%s: %d %s\n\n", purpose, status, in_words(status));
+}
+
 /* The relay: each record of file 0 is written to file 1, until file 0 ends. There is room for all of them; else a write would be answered 1, and
    collected later, as the chart's read is. */
 static void relay(int reader, int writer)
@@ -129,20 +165,13 @@ static void relay(int reader, int writer)
     }
 }
 
-int main(void)
+/* Station and relay do their work; chart's read waits for it. */
+static void stages(int chart)
 {
     static const char *const readings[] = { "wind 12", "wind 17", "rain 3" };
-
-    int status = tendrilhook_fresh(segment, sizeof segment, blocks, sizeof blocks, buffers, sizeof buffers);
-    printf("a fresh desk: %d %s\n\n", status, in_words(status));
-
-    /* Records of 8 words, 2 to a block, room for 4 and for the records of an open and a close. */
-    build("build file 0", IN_FILE, 8, 2, 4, 1);
-    build("build file 1", OUT_FILE, 8, 2, 4, 1);
     int station = open_file("station opens file 0 to append", IN_FILE, TO_APPEND);
     int taker = open_file("relay opens file 0 to read", IN_FILE, TO_READ);
     int giver = open_file("relay opens file 1 to append", OUT_FILE, TO_APPEND);
-    int chart = open_file("chart opens file 1 to read", OUT_FILE, TO_READ);
 
     printf("\nchart reads before there is anything, and waits\n");
     read_record("chart reads from file 1", OUT_FILE, chart, 16);
@@ -157,19 +186,79 @@ int main(void)
     relay(taker, giver);
     ask("relay closes file 0", CLOSE, IN_FILE, taker);
     ask("relay closes file 1", CLOSE, OUT_FILE, giver);
+}
 
-    printf("\nchart collects the read that waited, and reads on\n");
-    if (ask("chart asks for the outcome", COLLECT, OUT_FILE, chart) == TENDRILHOOK_DONE) print_record();
-    while (read_record("chart reads from file 1", OUT_FILE, chart, 16) == TENDRILHOOK_DONE) print_record();
-
-    printf("\nbad calls change nothing, and say why\n");
+static void bad_calls(int chart)
+{
     write_record("chart writes, but opened to read", OUT_FILE, chart, (const uint8_t *)"fog", 3);
     read_record("chart asks for 261 bytes", OUT_FILE, chart, 261);
     read_record("a read from file 5", 5, 0, 16);
     call("a frame that is cut off", (const uint8_t *)"\x03\x01", 2);
+    look("a look at a file that is empty", OUT_FILE, (size_t)chart);
     segment[0] ^= 1;
     ask("a bit of the segment is changed", CLOSE, OUT_FILE, chart);
     segment[0] ^= 1;
     ask("and changed back: chart closes", CLOSE, OUT_FILE, chart);
-    return 0;
+}
+
+/* The sheet of file 1, to the disk. */
+static void to_disk(FILE *disk)
+{
+    static uint8_t sheet[TENDRILHOOK_SHEET_BYTES];
+    size_t length = save("the host saves file 1", OUT_FILE, sheet, sizeof sheet);
+    if (fwrite(sheet, 1, length, disk) != length || fflush(disk) != 0) exit(EXIT_FAILURE);
+    fwrite(sheet, 1, length, stdout);
+}
+
+/* And back from it. */
+static void from_disk(FILE *disk)
+{
+    static uint8_t sheet[TENDRILHOOK_SHEET_BYTES], again[TENDRILHOOK_SHEET_BYTES];
+    rewind(disk);
+    size_t length = fread(sheet, 1, sizeof sheet, disk);
+    load("file 1 is loaded from the disk", OUT_FILE, sheet, length);
+    size_t saved = save("and saved once more", OUT_FILE, again, sizeof again);
+    if (saved != length || memcmp(sheet, again, length) != 0) exit(EXIT_FAILURE);
+    printf("    the same sheet\n");
+    int chart = open_file("chart opens file 1 to read", OUT_FILE, TO_READ);
+    if (read_record("chart reads from file 1", OUT_FILE, chart, 16) == TENDRILHOOK_DONE) print_record();
+
+    printf("\nthese are refused too, and change nothing\n");
+    save("an output that is too short", OUT_FILE, again, 16);
+    sheet[0] = 'o';
+    load("a line with a letter for a digit", 2, sheet, length);
+    sheet[0] = '0';
+    load("the last line without its end", 2, sheet, length - 1);
+    printf("\n");
+    load("the whole sheet goes into file 2", 2, sheet, length);
+}
+
+int main(int argc, char **argv)
+{
+    FILE *disk = argc > 1 ? fopen(argv[1], "w+b") : tmpfile();
+    if (disk == NULL) return EXIT_FAILURE;
+
+    fresh("a fresh desk");
+    /* Records of 8 words, 2 to a block, room for 4 and for the records of an open and a close. */
+    build("build file 0", IN_FILE, 8, 2, 4, 1);
+    build("build file 1", OUT_FILE, 8, 2, 4, 1);
+    int chart = open_file("chart opens file 1 to read", OUT_FILE, TO_READ);
+    stages(chart);
+
+    printf("\nchart looks, collects the read that waited, and looks at what is next\n");
+    look("what the outcome will be", OUT_FILE, (size_t)chart);
+    if (ask("chart asks for the outcome", COLLECT, OUT_FILE, chart) == TENDRILHOOK_DONE) print_record();
+    look("what chart would read next", OUT_FILE, (size_t)chart);
+
+    printf("\nthe host saves the file, which goes on: chart reads\n");
+    to_disk(disk);
+    while (read_record("chart reads from file 1", OUT_FILE, chart, 16) == TENDRILHOOK_DONE) print_record();
+
+    printf("\nbad calls change nothing, and say why\n");
+    bad_calls(chart);
+
+    printf("\n");
+    fresh("the next day, another fresh desk");
+    from_disk(disk);
+    return fclose(disk) == 0 ? EXIT_SUCCESS : EXIT_FAILURE;
 }

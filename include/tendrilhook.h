@@ -9,7 +9,7 @@
  *
  * What C has to see to, since nothing can be tested of a pointer:
  *   - each pointer leads to as many bytes as the length behind it says, and is not NULL, also where that length is 0;
- *   - no two memories lent to one call overlap;
+ *   - no two memories lent to one call overlap, and `length` leads to a size_t outside of them;
  *   - no two calls on one desk run at the same time.
  *
  *
@@ -50,6 +50,21 @@
  *
  * A read or write that is answered 1 waits, and its accessor can do nothing else until the outcome is collected: collect answers 1 as long
  * as it waits. The desk calls nobody: the host collects when it thinks fit.
+ *
+ *
+ * The sheet. A file is saved as text and loaded from it: frames, each a line of upper-case hexadecimal digits with LF at its end. The first
+ * frame is of the file, the others are its records, oldest first.
+ *
+ *     01 R(2) B D(2) records(2)               R words a record, B records a block, D blocks, and as many records as lines follow
+ *     type(2) ID(2) data                      type 0 data, 1 open, 2 close, and the writer's ID; only type 0 has data
+ *
+ *     0100040100030002                        4 words a record, 1 to a block, 3 blocks; 2 records:
+ *     00010001                                writer 1 opened the file
+ *     0000000141424344                        and wrote ABCD
+ *
+ * A text is a sheet if R is 1 to 128, B 1 to 16, B x D at least 3, D x ((R + 3) x B + 2) at most 2048, the records are at most B x D and as many
+ * as the first frame says, the types 0 to 2, the IDs not 0, and the data at most 2R bytes; each line has its LF, and nothing stands behind the
+ * last. It does not say who has the file open, what waits, and what of the oldest block is spent: a loaded file is closed, and packed.
  */
 #ifndef TENDRILHOOK_H
 #define TENDRILHOOK_H
@@ -61,15 +76,18 @@
 extern "C" {
 #endif
 
-/* The lengths, in bytes, of what a host lends. Any other length is refused (29). */
+/* The lengths, in bytes, of what a host lends. Any other length is refused (29), but for a sheet's: that may be any. */
 enum {
     TENDRILHOOK_SEGMENT_BYTES = 3876, /* accessors, lists and entries */
     TENDRILHOOK_BLOCKS_BYTES = 32768, /* the records of the eight files */
     TENDRILHOOK_BUFFERS_BYTES = 16640, /* a record buffer for each of 64 accessor places */
-    TENDRILHOOK_ANSWER_BYTES = 264 /* an answer */
+    TENDRILHOOK_ANSWER_BYTES = 264, /* an answer */
+    TENDRILHOOK_RECORD_BYTES = 260, /* a record to look at */
+    TENDRILHOOK_SHEET_BYTES = 8192 /* a sheet: none is longer */
 };
 
-/* The status of an answer, its second byte. From 29 on it is a refusal: nothing changed. Where several apply, the lowest is given. */
+/* The status of an answer, its second byte, and what the calls but the event return. From 29 on it is a refusal: nothing changed. Where several
+   apply, the lowest is given. */
 enum {
     TENDRILHOOK_DONE = 0, /* done */
     TENDRILHOOK_WAITING = 1, /* the request waits, or still waits: collect it later */
@@ -78,17 +96,18 @@ enum {
 
     TENDRILHOOK_UNSOUND = 29, /* a lent memory has the wrong length or unsound content. An event has no answer then: its length is 0 */
     TENDRILHOOK_BAD_FRAME = 30, /* none of the nine shapes, or write data not as long as their count. The answer is 00 1E */
-    TENDRILHOOK_NO_FILE = 31, /* a file above 7 or not built; build: already built */
-    TENDRILHOOK_NOT_OPEN = 32, /* the accessor is not open */
+    TENDRILHOOK_NO_FILE = 31, /* a file above 7 or not built; build and load: above 7 or already built */
+    TENDRILHOOK_NOT_OPEN = 32, /* an accessor above 7 or not open */
     TENDRILHOOK_OUTSTANDING = 33, /* read, write or control, but 43, while a request is outstanding; close with a completed one uncollected */
-    TENDRILHOOK_WRONG_SIDE = 34, /* a read by a writer, a write by a reader, 46 or 47 by a writer */
+    TENDRILHOOK_WRONG_SIDE = 34, /* a read or look by a writer, a write by a reader, 46 or 47 by a writer */
     TENDRILHOOK_OUT_OF_RANGE = 35, /* a number outside its range, or a control that there is not */
     TENDRILHOOK_TOO_LARGE = 38, /* build: more than a file's 2,048 words of blocks */
-    TENDRILHOOK_NOTHING_THERE = 39, /* collect, or control 43, with nothing outstanding */
+    TENDRILHOOK_NOTHING_THERE = 39, /* collect, or control 43, with nothing outstanding; look with no record */
     TENDRILHOOK_FORBIDDEN = 40, /* open: multiaccess 3, another share than the others gave, or one more than the share allows */
     TENDRILHOOK_EIGHT_OPEN = 41, /* open: eight accessors are open */
-    TENDRILHOOK_NO_ROOM = 42 /* open: no room for the writer's open record */
-    /* 43 and 44 are of loading and saving a file, which no call below does. */
+    TENDRILHOOK_NO_ROOM = 42, /* open: no room for the writer's open record */
+    TENDRILHOOK_NOT_A_SHEET = 43, /* load: the text is not a sheet */
+    TENDRILHOOK_OUTPUT_TOO_SHORT = 44 /* save: the output is shorter than the sheet */
 };
 
 /*
@@ -116,6 +135,52 @@ size_t tendrilhook_event(uint8_t *segment, size_t segment_length,
                          uint8_t *buffers, size_t buffers_length,
                          uint8_t *answer, size_t answer_length,
                          const uint8_t *frame, size_t frame_length);
+
+/*
+ * Look: the record that is there for a reader, which stays where it is.
+ *
+ * Lent      segment, blocks and buffers, as the call before left them, which are read only; record, with any bytes in it; length.
+ *           File and reader are any numbers.
+ * Returns   TENDRILHOOK_DONE, or why not: TENDRILHOOK_UNSOUND (also where record_length is not TENDRILHOOK_RECORD_BYTES), _NO_FILE, _NOT_OPEN,
+ *           _WRONG_SIDE for a writer, _NOTHING_THERE where there is no record.
+ * Changes   record, and *length, the record's length: 0 to 260 bytes from the first byte of `record`; the bytes behind stay. If a read of this
+ *           reader waited and is done, these are the data that collect will answer; else the data of the file's oldest data record.
+ *           Refused, *length is 0 and record stays.
+ */
+uint8_t tendrilhook_look(const uint8_t *segment, size_t segment_length,
+                         const uint8_t *blocks, size_t blocks_length,
+                         const uint8_t *buffers, size_t buffers_length,
+                         size_t file, size_t reader,
+                         uint8_t *record, size_t record_length, size_t *length);
+
+/*
+ * Saves a file: writes its sheet.
+ *
+ * Lent      segment, blocks and buffers, as the call before left them, which are read only; output, of any length and with any bytes in it;
+ *           length. TENDRILHOOK_SHEET_BYTES of output are always enough. File is any number; the file may be open, and goes on as it was.
+ * Returns   TENDRILHOOK_DONE, or why not: TENDRILHOOK_UNSOUND, _NO_FILE, _OUTPUT_TOO_SHORT.
+ * Changes   output, and *length, the sheet's length: the text stands from the first byte of `output`, with no zero byte at its end; the bytes
+ *           behind stay. Refused, *length is 0 and output stays.
+ */
+uint8_t tendrilhook_save(const uint8_t *segment, size_t segment_length,
+                         const uint8_t *blocks, size_t blocks_length,
+                         const uint8_t *buffers, size_t buffers_length,
+                         size_t file,
+                         uint8_t *output, size_t output_length, size_t *length);
+
+/*
+ * Loads a file that is not built from a sheet: it is built then, and nobody has it open.
+ *
+ * Lent      segment, blocks and buffers, as the call before left them; text, of any length and with any bytes in it, which is read only. File
+ *           is any number.
+ * Returns   TENDRILHOOK_DONE, or why not: TENDRILHOOK_UNSOUND, _NO_FILE (above 7, or already built), _NOT_A_SHEET.
+ * Changes   the desk's memories, by that file; nothing at all if it is refused.
+ */
+uint8_t tendrilhook_load(uint8_t *segment, size_t segment_length,
+                         uint8_t *blocks, size_t blocks_length,
+                         uint8_t *buffers, size_t buffers_length,
+                         size_t file,
+                         const uint8_t *text, size_t text_length);
 
 #ifdef __cplusplus
 }

@@ -64,6 +64,9 @@ module _ (w : ℕ) (r : Ring) (xs : List ℕ) (h : Held w r xs) where
 
   -- What the code asks.
 
+  pub held-long : length xs ≡ shareBytes
+  held-long = ap length (sym (h .share)) ∙ h .holds .long
+
   pub held-ranged : Ranged r
   held-ranged = own (λ (t : Ring) (ys : List ℕ). Ranged t) (ranged g s (h .fitted .sized) (h .holds))
 

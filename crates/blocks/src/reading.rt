@@ -12,6 +12,7 @@ ghost use mathlib.Core.Path.{_≡_};
 ghost use Prim.Native.Nat.{ℕ, _+_, _≤_, _<_};
 ghost use lib.ListN.{length};
 ghost use Rattle.rules.specs.Limits.{shareBytes};
+ghost use Rattle.rules.specs.Sheet.{recFrame};
 ghost use Rattle.shares.specs.Back.{recAt, next};
 ghost use Rattle.shares.specs.Places.{skip, placeIn};
 ghost use Rattle.blocks.specs.Ring.{geo, Fitted, Ranged};
@@ -109,6 +110,16 @@ pub fn body<'a>(share: &'a [u8], at: usize) -> &'a [u8]
     ensures { λ r. ⌜ now r ≡ recAt (now (share .entry)) at .body ⌝ }
 {
     let a = at + RECORD_HEAD;
+    let e = at + 2 + words::get(share, at) as usize;
+    &share[a..e]
+}
+
+// Its frame in a sheet: type, ID and data, as they stand behind its first word.
+pub fn frame<'a>(share: &'a [u8], at: usize) -> &'a [u8]
+    requires { ⌜ Readable (now share) at ⌝ }
+    ensures { λ r. ⌜ now r ≡ recFrame (recAt (now (share .entry)) at) ⌝ }
+{
+    let a = at + TYPE;
     let e = at + 2 + words::get(share, at) as usize;
     &share[a..e]
 }

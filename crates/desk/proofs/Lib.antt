@@ -1,4 +1,3 @@
-pub mod Stayed
 pub mod Tells
 pub mod Accepts
 pub mod Known

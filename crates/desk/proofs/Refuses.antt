@@ -25,10 +25,10 @@ use Rattle.memory.specs.Fine.{StandsFor}
 use Rattle.midst.specs.Outcome.{replyStatus, statusOf, refusalOf, Told}
 use Rattle.midst.proofs.Accepted.{accepted-code}
 use Rattle.midst.proofs.Refused.{stands-refused}
+use Rattle.midst.proofs.Stayed.{still-stays}
 use Rattle.judges.specs.Refused.{Refuses}
 use Rattle.desk.specs.Answered.{Responds}
 use Rattle.desk.specs.Refusals.{operationOf, Twice, Refusal}
-use Rattle.desk.proofs.Stayed.{still-stays}
 use Rattle.desk.proofs.Tells.{tells-none}
 
 -- operation and status, told

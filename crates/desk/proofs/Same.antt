@@ -19,7 +19,8 @@ use Rattle.memory.proofs.Once.{agreed-covers}
 use Rattle.memory.proofs.Determined.{stands-same}
 use Rattle.sound.specs.Sound.{soundly}
 use Rattle.sound.proofs.desk.Both.{sound-stands}
-use Rattle.desk.specs.Answered.{usable, Stays, Responds, Answered}
+use Rattle.midst.specs.Outcome.{Stays}
+use Rattle.desk.specs.Answered.{usable, Responds, Answered}
 
 -- the same memories behind a call
 pub stays-same : (d : Desk) (s : Alloc) (c : Call) (blocks buffers x b y x′ b′ y′ : List ℕ) → Stays d s c blocks buffers x b y → Stays d s c blocks buffers x′ b′ y′

@@ -11,21 +11,15 @@ use Rattle.kinds.specs.declared.Answer.{Answer}
 use Rattle.rules.specs.Limits.{answerRoom, bufferBytes}
 use Rattle.rules.specs.Answers.{answerBytes}
 use Rattle.rules.specs.Reply.{Reply, answers, shows}
-use Rattle.rules.specs.Desk.{Desk, Call, event, asked, respond}
-use Rattle.rules.specs.Allocation.{Alloc, allocAsked}
-use Rattle.memory.specs.Covers.{Alike}
+use Rattle.rules.specs.Desk.{Desk, Call, event, respond}
+use Rattle.rules.specs.Allocation.{Alloc}
 use Rattle.memory.specs.Fine.{StandsFor}
-use Rattle.midst.specs.Outcome.{refusalOf, Told}
+use Rattle.midst.specs.Outcome.{refusalOf, Told, Stays}
 use Rattle.sound.specs.Sound.{soundly}
 
 -- the memories have their lengths and are sound, and the answer memory has its length: 29 is not given
 unfoldable pub usable : List ℕ → List ℕ → List ℕ → List ℕ → Bool
 usable xs blocks buffers memory = eqb (length memory) answerRoom && soundly xs blocks buffers
-
--- the memories behind a call of the desk d with the allocation s are those of the rules' desk and allocation; files that are not built keep their bytes
-pub record Stays (d : Desk) (s : Alloc) (c : Call) (blocks buffers xs′ blocks′ buffers′ : List ℕ) : Type 0 where
-  pub stands : StandsFor xs′ blocks′ buffers′ (respond d c .desk) (allocAsked d (asked c) s)
-  pub rest : Alike (respond d c .desk) blocks′ buffers′ blocks buffers
 
 -- and the answer is the rules'
 pub record Responds (d : Desk) (s : Alloc) (c : Call) (blocks buffers memory xs′ blocks′ buffers′ memory′ : List ℕ) (n : ℕ) : Type 0 where

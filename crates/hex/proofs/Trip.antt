@@ -4,10 +4,10 @@ use mathlib.Core.Bool.{true}
 use mathlib.Core.List.{List, [], _∷_}
 use mathlib.Core.Path.{_≡_, refl, _∙_}
 use native.Mathlib.Omega.{arith}
-use lib.ListN.{length, getD}
+use lib.ListN.{length, getD, length-append}
 use borrow.Author.Tests.{lt-ltb, le-leb, eq-eqb}
 use Rattle.rules.specs.Limits.{lineBytes}
-use Rattle.rules.specs.Line.{valueOf, digitOf, digitsOf, allDigits, bytesOf, isLine, lineFrame}
+use Rattle.rules.specs.Line.{valueOf, digitOf, digitsOf, allDigits, bytesOf, isLine, lineFrame, lineOf}
 use Rattle.hex.proofs.Digits.{value-digit, digit-value}
 use Rattle.hex.proofs.Lines.{digits-cons, line-is, frame-line}
 
@@ -19,6 +19,10 @@ pub length-digits : (xs : List ℕ) → length (digitsOf xs) ≡ 2 * length xs
 unfolding digitsOf
 length-digits [] = refl
 length-digits (x ∷ xs) = omega (arith, length-digits xs)
+
+pub length-line : (xs : List ℕ) → length (lineOf xs) ≡ 2 * length xs + 1
+unfolding lineOf
+length-line xs = omega (arith, length-append (digitsOf xs) (10 ∷ []), length-digits xs)
 
 -- the two digits of a byte
 pub value-high : (x : ℕ) → x < 256 → valueOf (digitOf (x / 16)) ≡ x / 16

@@ -6,10 +6,13 @@ ghost use Prim.Native.Nat.{_+_, _*_, _/_, _≤_, _<_};
 ghost use lib.ListN.{length};
 ghost use lib.Seq.{sets};
 ghost use Rattle.rules.specs.Limits.{lineBytes};
-ghost use Rattle.rules.specs.Line.{digitOf, valueOf, digitsOf, allDigits, bytesOf, isLine, lineFrame};
+ghost use Rattle.rules.specs.Line.{digitOf, valueOf, digitsOf, allDigits, bytesOf, isLine, lineFrame, lineOf};
 
 // The digits of the longest frame that a line can hold.
 const LINE_DIGITS: usize = 2 * LINE_BYTES;
+
+// A line ends with LF.
+const LF: u8 = 10;
 
 // A digit's number is below the base; `value` gives the base where the byte is no digit.
 const BASE: u8 = 16;
@@ -119,4 +122,15 @@ pub fn encode(s: &[u8], out: &mut [u8]) -> usize
         i += 1;
     }
     2 * i
+}
+
+// The bytes as a line at `used` of the output; where that ends.
+pub fn line(bytes: &[u8], out: &mut [u8], used: usize) -> usize
+    requires { ⌜ used + (2 * length (now bytes) + 1) ≤ length (now out) ⌝ }
+    ensures end { λ r. ⌜ r ≡ used + (2 * length (now (bytes .entry)) + 1) ⌝ }
+    ensures printed { λ _. ⌜ now (out .exit) ≡ sets (now (out .entry)) used (lineOf (now (bytes .entry))) ⌝ }
+{
+    let end = used + encode(bytes, &mut out[used..]);
+    out[end] = LF;
+    end + 1
 }

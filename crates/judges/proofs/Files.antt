@@ -25,14 +25,14 @@ use Rattle.judges.proofs.Judged.{number-high, number-built, number-unbu
 
 -- a file is built exactly when its R is not 0
 module _ {xs blocks buffers : List ℕ} {d : Desk} {s : Alloc} (S : StandsFor xs blocks buffers d s) (f w : ℕ) (e : w ≡ wordsAt xs f) where
-  is-built : (w ≡ 0 → ⊥) → (b : Built) × (fileOf d f ≡ built b)
+  pub is-built : (w ≡ 0 → ⊥) → (b : Built) × (fileOf d f ≡ built b)
   is-built h = go (fileOf d f) refl
     where
       go : (x : File) → fileOf d f ≡ x → (b : Built) × (fileOf d f ≡ built b)
       go unbuilt k = absurd (h (e ∙ words-none S f (words-low xs f w e h) k))
       go (built b) k = (b, k)
 
-  not-built : f < files → w ≡ 0 → fileOf d f ≡ unbuilt
+  pub not-built : f < files → w ≡ 0 → fileOf d f ≡ unbuilt
   not-built h z = go (fileOf d f) refl
     where
       go : (x : File) → fileOf d f ≡ x → fileOf d f ≡ unbuilt

@@ -21,19 +21,18 @@ pub enum Accessor {
 }
 
 // The R of the file, which is 1 at least; 0 where it is above 7 or not built.
-pub fn words_of(segment: &[u8], file: u8) -> u16
+pub fn words_of(segment: &[u8], file: usize) -> u16
     requires { ⌜ length (now segment) ≡ segmentBytes ⌝ }
     ensures { λ r. ⌜ r ≡ wordsAt (now (segment .entry)) file ⌝ }
 {
-    let f = file as usize;
-    if FILES <= f {
+    if FILES <= file {
         return 0;
     }
-    let row = segment::read_file(segment, f);
+    let row = segment::read_file(segment, file);
     row.words
 }
 
-pub fn accessor_of(segment: &[u8], file: u8, acc: u8) -> Accessor
+pub fn accessor_of(segment: &[u8], file: usize, acc: usize) -> Accessor
     requires { ⌜ length (now segment) ≡ segmentBytes ⌝ }
     ensures { λ r. ⌜ r ≡ accessorAt (now (segment .entry)) file acc ⌝ }
 {
@@ -41,16 +40,14 @@ pub fn accessor_of(segment: &[u8], file: u8, acc: u8) -> Accessor
     if words == 0 {
         return Accessor::Refused(refusals::FILE);
     }
-    let f = file as usize;
-    let p = acc as usize;
-    if PLACES <= p {
+    if PLACES <= acc {
         return Accessor::Refused(refusals::ACCESSOR);
     }
-    let side = segment::place_side(segment, PLACES * f + p);
+    let side = segment::place_side(segment, PLACES * file + acc);
     if side == CLOSED {
         return Accessor::Refused(refusals::ACCESSOR);
     }
-    let request = outstanding_at(segment, f, p, side);
+    let request = outstanding_at(segment, file, acc, side);
     Accessor::Open {
         words,
         side,

@@ -62,7 +62,7 @@ pub fn judge_control(segment: &[u8], file: u8, acc: u8, control: Control) -> u8
     requires { ⌜ Stood (now segment) ⌝ }
     ensures { λ r. ⌜ Refuses (now (segment .entry)) (on file (calls.control acc (some control))) r ⌝ }
 {
-    let named = accessor_of(segment, file, acc);
+    let named = accessor_of(segment, file as usize, acc as usize);
     match named {
         Accessor::Refused(number) => number,
         Accessor::Open {
@@ -78,7 +78,7 @@ pub fn judge_code(segment: &[u8], file: u8, acc: u8) -> u8
     requires { ⌜ Stood (now segment) ⌝ }
     ensures { λ r. ⌜ Refuses (now (segment .entry)) (on file (calls.control acc none)) r ⌝ }
 {
-    let named = accessor_of(segment, file, acc);
+    let named = accessor_of(segment, file as usize, acc as usize);
     match named {
         Accessor::Refused(number) => number,
         Accessor::Open {

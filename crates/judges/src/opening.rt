@@ -48,7 +48,7 @@ pub fn judge_build(
     if FILES <= file as usize {
         return refusals::FILE;
     }
-    if words_of(segment, file) != 0 {
+    if words_of(segment, file as usize) != 0 {
         return refusals::FILE;
     }
     build_refusal(words, factor, records, extents)
@@ -94,7 +94,7 @@ pub fn judge_open(segment: &[u8], file: u8, access: u8, share: u8, multi: u8) ->
     requires { ⌜ Stood (now segment) ⌝ }
     ensures { λ r. ⌜ Refuses (now (segment .entry)) (on file (calls.opens access share multi)) r ⌝ }
 {
-    if words_of(segment, file) == 0 {
+    if words_of(segment, file as usize) == 0 {
         return refusals::FILE;
     }
     open_refusal(segment, file as usize, access, share, multi)
@@ -104,7 +104,7 @@ pub fn judge_counts(segment: &[u8], file: u8) -> u8
     requires { ⌜ Stood (now segment) ⌝ }
     ensures { λ r. ⌜ Refuses (now (segment .entry)) (on file calls.counts) r ⌝ }
 {
-    if words_of(segment, file) == 0 {
+    if words_of(segment, file as usize) == 0 {
         return refusals::FILE;
     }
     refusals::NONE

@@ -77,7 +77,7 @@ pub fn judge_read(segment: &[u8], file: u8, acc: u8, count: u16) -> u8
     requires { ⌜ Stood (now segment) ⌝ }
     ensures { λ r. ⌜ Refuses (now (segment .entry)) (on file (calls.read acc count)) r ⌝ }
 {
-    let named = accessor_of(segment, file, acc);
+    let named = accessor_of(segment, file as usize, acc as usize);
     match named {
         Accessor::Refused(number) => number,
         Accessor::Open {
@@ -93,7 +93,7 @@ pub fn judge_write(segment: &[u8], file: u8, acc: u8, count: u16) -> u8
     requires { ⌜ Stood (now segment) ⌝ }
     ensures { λ r. ⌜ ((t : List ℕ) → Refuses (now (segment .entry)) (on file (calls.write acc count t)) r) ⌝ }
 {
-    let named = accessor_of(segment, file, acc);
+    let named = accessor_of(segment, file as usize, acc as usize);
     match named {
         Accessor::Refused(number) => number,
         Accessor::Open {
@@ -108,7 +108,7 @@ pub fn judge_collect(segment: &[u8], file: u8, acc: u8) -> u8
     requires { ⌜ Stood (now segment) ⌝ }
     ensures { λ r. ⌜ Refuses (now (segment .entry)) (on file (calls.collect acc)) r ⌝ }
 {
-    let named = accessor_of(segment, file, acc);
+    let named = accessor_of(segment, file as usize, acc as usize);
     match named {
         Accessor::Refused(number) => number,
         Accessor::Open {
@@ -123,7 +123,7 @@ pub fn judge_close(segment: &[u8], file: u8, acc: u8) -> u8
     requires { ⌜ Stood (now segment) ⌝ }
     ensures { λ r. ⌜ Refuses (now (segment .entry)) (on file (calls.close acc)) r ⌝ }
 {
-    let named = accessor_of(segment, file, acc);
+    let named = accessor_of(segment, file as usize, acc as usize);
     match named {
         Accessor::Refused(number) => number,
         Accessor::Open {

@@ -13,6 +13,9 @@ pub const MOST_RECORDS: u16 = 2000;
 
 pub const MOST_EXTENTS: u16 = 32;
 
+// "C ≥ 3"
+pub const LEAST_CAPACITY: u16 = 3;
+
 pub const SHARE_WORDS: u32 = 2048;
 
 // A file's share of the blocks, and an accessor place's record buffer.

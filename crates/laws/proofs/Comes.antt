@@ -19,7 +19,7 @@ use Rattle.laws.proofs.Made.{made}
 use Rattle.laws.proofs.Lift.{Any, any}
 use Rattle.laws.proofs.Midst.{allotAll-quiet, fed-quiet, mid-walks}
 
-puts-quiet : (f : ℕ) (r : Rec) (s : Alloc) → (allot f (puts r) s ≡ s) × (takes (puts r) ≡ 0)
+pub puts-quiet : (f : ℕ) (r : Rec) (s : Alloc) → (allot f (puts r) s ≡ s) × (takes (puts r) ≡ 0)
 unfolding allot takes
 puts-quiet f r s = (refl, refl)
 

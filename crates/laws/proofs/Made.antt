@@ -1,5 +1,5 @@
 -- What a call makes of a file that is not built: nothing, a new file of a good geometry, or one with the records of a good sheet.
-use mathlib.Core.Path.{_≡_}
+use mathlib.Core.Path.{_≡_, subst}
 use mathlib.Core.Bool.{Bool, true, false, cond, _&&_}
 use mathlib.Core.List.{List, [], _∷_, map}
 use mathlib.Core.Option.{Option, none, some}
@@ -116,6 +116,10 @@ frames-good (h ∷ fs) =
 read-good : (t : List ℕ) → GoodRead (readSheet t)
 unfolding readSheet
 read-good t = both GoodRead (eqb (length (linesOf t .rest)) 0 && allLines (linesOf t .whole)) (λ _. frames-good _) (λ _. unfold GoodRead in tt)
+
+pub sheet-good : (t : List ℕ) (s : Sheet) → readSheet t ≡ some s → GoodSheet s
+unfolding GoodRead
+sheet-good t s e = subst GoodRead e (read-good t)
 
 -- every call of a file that is not built
 

@@ -1,16 +1,14 @@
 -- The parts that are handed on, and what is printed.
 use Prim.Native.Nat.{ℕ, _+_, _*_, _-_, _≤_}
 use mathlib.Core.Path.{_≡_, ap, sym, _∙_, subst}
-use mathlib.Core.List.{List, [], _∷_, _++_}
+use mathlib.Core.List.{List}
 use native.Mathlib.Omega.{arith}
-use lib.ListN.{length, set, take, drop}
+use lib.ListN.{length, take, drop}
 use lib.Seq.{sets, sets-eq, take-at}
 use Rattle.words.specs.Word.{zeros}
-use Rattle.words.proofs.Runs.{sets-at, sets-part}
 use Rattle.rules.specs.Limits.{answerRoom}
-use Rattle.rules.specs.Line.{digitsOf, lineFrame, lineOf}
+use Rattle.rules.specs.Line.{lineFrame, lineOf}
 use Rattle.desk.specs.Answered.{Answered}
-use Rattle.hex.proofs.Trip.{length-digits}
 use Rattle.lines.specs.Asked.{Asked}
 
 -- a part from the first byte on
@@ -25,16 +23,6 @@ put-first xs vs n e h = rw (sets-eq vs xs 0 (omega arith)) (take-at vs (drop (0 
 
 pub frame-decoded : (line zs frame : List ℕ) (n : ℕ) → n ≡ length (lineFrame line) → frame ≡ sets zs 0 (lineFrame line) → n ≤ length zs → take (n - 0) frame ≡ lineFrame line
 frame-decoded line zs frame n s e h = front n frame ∙ rw e (put-first zs (lineFrame line) n s (omega arith))
-
--- the digits and LF, behind what the output holds; `back` is the part of it that was lent on
-pub line-printed : (bytes out back : List ℕ) (used r : ℕ) → r ≡ 2 * length bytes → used + (2 * length bytes + 1) ≤ length out
-    → back ≡ sets (take (length out - used) (drop used out)) 0 (digitsOf bytes)
-    → set (take used out ++ (back ++ drop (length out - used) (drop used out))) (used + r) 10 ≡ sets out used (lineOf bytes)
-unfolding lineOf
-line-printed bytes out back used r e h q =
-    let l = length-digits bytes in
-    rw (q, sets-part (digitsOf bytes) out used (length out - used) (omega arith) (omega arith))
-    (sets-at (digitsOf bytes) (10 ∷ []) out used (used + r) (omega arith))
 
 pub line-asked : (segment blocks buffers line out frame segment′ blocks′ buffers′ answer out′ : List ℕ) (used n r : ℕ)
     → Answered segment blocks buffers (zeros answerRoom) frame segment′ blocks′ buffers′ answer n → frame ≡ lineFrame line

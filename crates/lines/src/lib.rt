@@ -1,24 +1,7 @@
 // A line of hexadecimal digits, asked of the desk and answered by a line.
-ghost use mathlib.Core.Path.{_≡_};
-ghost use Prim.Native.Nat.{_+_, _*_, _≤_, _<_};
+ghost use Prim.Native.Nat.{_+_, _≤_, _<_};
 ghost use lib.ListN.{length};
-ghost use lib.Seq.{sets};
-ghost use Rattle.rules.specs.Line.{lineOf};
 ghost use Rattle.lines.specs.Asked.{mostAnswer, Asked};
-
-// A line ends with LF.
-const LF: u8 = 10;
-
-// The bytes as a line at `used` of the output; where that ends.
-fn print_line(bytes: &[u8], out: &mut [u8], used: usize) -> usize
-    requires { ⌜ used + (2 * length (now bytes) + 1) ≤ length (now out) ⌝ }
-    ensures end { λ r. ⌜ r ≡ used + (2 * length (now (bytes .entry)) + 1) ⌝ }
-    ensures printed { λ _. ⌜ now (out .exit) ≡ sets (now (out .entry)) used (lineOf (now (bytes .entry))) ⌝ }
-{
-    let end = used + hex::encode(bytes, &mut out[used..]);
-    out[end] = LF;
-    end + 1
-}
 
 // The answer to a line, which is here without its LF, as a line at `used` of the output; where that ends.
 pub fn answer_line(
@@ -37,5 +20,5 @@ pub fn answer_line(
     let mut answer = [0u8; 264];
     let n = hex::decode(line, &mut frame);
     let size = desk::event(segment, blocks, buffers, &mut answer, &frame[0..n]);
-    print_line(&answer[0..size], out, used)
+    hex::line(&answer[0..size], out, used)
 }

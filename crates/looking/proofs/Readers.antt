@@ -43,30 +43,6 @@ use Rattle.looking.specs.declared.finding.Shown.the-variants as shown
 use Rattle.looking.specs.Shown.{partShown, statusShown, Inside, OfFile, OfReader, Finds, Stood, Opens}
 use Rattle.looking.proofs.Looked.{Refuses, Reads, Looked, refused, writer, reader, looked}
 
--- numbers above 7 name alike
-
-module _ (xs : List ℕ) where
-  high-file : (f p : ℕ) → files ≤ f → accessorAt xs f p ≡ Refused 31
-  unfolding accessorAt wordsAt
-  high-file f p h = rw (le-leb files f h)
-
-  high-place : (f p : ℕ) → places ≤ p → accessorAt xs f p ≡ cond (eqb (wordsAt xs f) 0) (Refused 31) (Refused 32)
-  unfolding accessorAt
-  high-place f p h = rw (le-leb places p h)
-
-  number-same : (f p : ℕ) → accessorAt xs (min f files) (min p files) ≡ accessorAt xs f p
-  number-same f p = go (decLt f files) (decLt p places)
-    where
-      go : Dec (f < files) → Dec (p < places) → accessorAt xs (min f files) (min p files) ≡ accessorAt xs f p
-      go (no h) k = high-file (min f files) (min p files) (omega arith) ∙ sym (high-file f p (omega arith))
-      go (yes h) (yes k) = let i : min f files ≡ f = omega arith in let j : min p files ≡ p = omega arith in rw (i, j)
-      go (yes h) (no k) =
-          let i : min f files ≡ f = omega arith in
-          ap (λ (n : ℕ). accessorAt xs n (min p files)) i ∙ (high-place f (min p files) (omega arith) ∙ sym (high-place f p (omega arith)))
-
-  pub named-same : (f p f′ p′ : ℕ) → f′ ≡ min f files → p′ ≡ min p files → (x : Accessor) → x ≡ accessorAt xs f′ p′ → x ≡ accessorAt xs f p
-  named-same f p f′ p′ i j x e = e ∙ (rw (i, j) (number-same f p))
-
 -- the accessor is known
 
 module _ (d : Desk) (f p : ℕ) where

@@ -1,4 +1,5 @@
 // What look shows, found as numbers: a refusal, or where the bytes lie and how many there are.
+use blocks::layout::RECORD_HEAD;
 use blocks::reading::Found;
 use judges::accessors::Accessor;
 use judges::accessors::accessor_of;
@@ -6,13 +7,10 @@ use judges::outstanding::Outstanding;
 use judges::refusals;
 use judges::sides::WRITER;
 use kinds::limits::BUFFER_BYTES;
-use kinds::limits::FILES;
 use kinds::limits::PLACES;
 use kinds::limits::SHARE_BYTES;
 use segment::layout;
 ghost use mathlib.Core.Path.{_≡_};
-ghost use Prim.Native.Nat.{min};
-ghost use Rattle.rules.specs.Limits.{files};
 ghost use Rattle.judges.specs.declared.outstanding.Outstanding.the-variants.{Completed};
 ghost use Rattle.tallies.specs.Tallies.{FileStands};
 ghost use Rattle.looking.specs.Shown.{OfFile, OfReader, Finds, Stood, Opens, ReaderOpens};
@@ -22,19 +20,6 @@ pub enum Shown {
     // so many bytes of the blocks, or of the record buffers, from a place on
     Block { at: usize, size: usize },
     Buffer { at: usize, size: usize },
-}
-
-// Where a record's data begin: behind three words.
-const BODY: usize = 6;
-
-// The number of a file or a place as a byte. Those above 7 are refused alike.
-fn number(n: usize) -> u8
-    ensures { λ r. ⌜ r ≡ min n files ⌝ }
-{
-    if n < FILES {
-        return n as u8;
-    }
-    FILES as u8
 }
 
 // "the data bytes of the file's oldest data record".
@@ -49,7 +34,7 @@ fn of_file(segment: &[u8], blocks: &[u8], f: usize) -> Shown
         Found::At(at) => {
             let record = blocks::reading::header(share, at);
             Shown::Block {
-                at: SHARE_BYTES * f + at + BODY,
+                at: SHARE_BYTES * f + at + RECORD_HEAD,
                 size: record.size as usize,
             }
         }
@@ -101,7 +86,7 @@ pub fn find(segment: &[u8], blocks: &[u8], file: usize, reader: usize) -> Shown
     requires { ⌜ Stood (now segment) (now blocks) ⌝ }
     ensures { λ r. ⌜ Finds (OfReader file reader) (now (segment .entry)) (now (blocks .entry)) r ⌝ }
 {
-    let named = accessor_of(segment, number(file), number(reader));
+    let named = accessor_of(segment, file, reader);
     match named {
         Accessor::Refused(refusal) => Shown::Refused(refusal),
         Accessor::Open {

@@ -5,6 +5,7 @@ mod finding;
 
 use finding::Shown;
 use finding::find;
+use judges::refusals;
 ghost use mathlib.Core.Path.{_≡_};
 ghost use mathlib.Core.Option.{Option};
 ghost use Prim.Native.Nat.{_≤_};
@@ -17,16 +18,13 @@ ghost use Rattle.shows.specs.Seen.{Seen, replyOf};
 ghost use Rattle.shows.specs.Parts.{bytesOf, partOf};
 ghost use Rattle.looking.specs.Shown.{Inside, Tells};
 
-// A lent memory has the wrong length or unsound content.
-const UNSOUND: u8 = 29;
-
 // What is shown, whatever the memories hold.
 fn shown(segment: &[u8], blocks: &[u8], buffers: &[u8], file: usize, reader: usize) -> Shown
     ensures inside { λ r. ⌜ Inside (length (now (blocks .entry))) (length (now (buffers .entry))) r ⌝ }
     ensures tells { λ r. ⌜ ((v : Option Desk) → Seen (now (segment .entry)) (now (blocks .entry)) (now (buffers .entry)) v → Tells (partOf v file reader) (replyOf v (rules.look file reader)) r) ⌝ }
 {
     if !sound::sound(segment, blocks, buffers) {
-        return Shown::Refused(UNSOUND);
+        return Shown::Refused(refusals::UNSOUND);
     }
     find(segment, blocks, file, reader)
 }

@@ -26,3 +26,5 @@ pub mod Refused
 pub mod Keeps
 pub mod Stays
 pub mod Still
+pub mod Stayed
+pub mod New

@@ -11,9 +11,10 @@ use Rattle.kinds.specs.declared.Answer.the-variants.{Built, Opened, Read, Writt
 use Rattle.rules.specs.Reply.{Reply, answers, shows, Out}
 use Rattle.rules.specs.Calls.{Ask}
 use Rattle.rules.specs.Limits.{bufferBytes, leastRefusal}
-use Rattle.rules.specs.Desk.{Desk, replyBytes, on, answered}
-use Rattle.rules.specs.Allocation.{Alloc, allotAll}
+use Rattle.rules.specs.Desk.{Desk, Call, asked, replyBytes, on, answered, respond}
+use Rattle.rules.specs.Allocation.{Alloc, allotAll, allocAsked}
 use Rattle.memory.specs.Stands.{Stands}
+use Rattle.memory.specs.Covers.{Alike}
 use Rattle.memory.specs.Fine.{StandsFor}
 use Rattle.midst.specs.Mid.{Apart}
 
@@ -69,3 +70,8 @@ pub record Gave (f : ℕ) (d : Desk) (s : Alloc) (x : Out) (blocks buffers memor
 -- no desk that the memories stand for refuses what is asked of file f
 abbrev pub Accepted : ℕ → Ask → List ℕ → List ℕ → List ℕ → Type 0
 Accepted f q xs blocks buffers = (d : Desk) (s : Alloc) → StandsFor xs blocks buffers d s → refusalOf (answered d (on f q) .reply) ≡ 0
+
+-- the memories behind a call of the desk d with the allocation s are those of the rules' desk and allocation; files that are not built keep their bytes
+pub record Stays (d : Desk) (s : Alloc) (c : Call) (blocks buffers xs′ blocks′ buffers′ : List ℕ) : Type 0 where
+  pub stands : StandsFor xs′ blocks′ buffers′ (respond d c .desk) (allocAsked d (asked c) s)
+  pub rest : Alike (respond d c .desk) blocks′ buffers′ blocks buffers

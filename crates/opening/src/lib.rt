@@ -25,7 +25,7 @@ use segment::FileRow;
 const READS: u8 = 0;
 
 // The bytes of a file's record buffers.
-const FILE_BUFFERS: usize = PLACES * BUFFER_BYTES;
+pub const FILE_BUFFERS: usize = PLACES * BUFFER_BYTES;
 
 // File f is built: "Build and load zero the share", and its buffers too, of which nothing is known before.
 pub fn build(

@@ -2,6 +2,7 @@
 use geometry::capacity;
 use geometry::fits_share;
 use geometry::in_range;
+use kinds::limits::LEAST_CAPACITY;
 use kinds::limits::MOST_TYPE;
 ghost use mathlib.Core.Path.{_≡_};
 ghost use Prim.Native.Nat.{_≤_};
@@ -28,15 +29,12 @@ const HEAD_BLOCKS: usize = 4;
 
 const HEAD_HELD: usize = 6;
 
-// "C ≥ 3"
-const LEAST_CAPACITY: u16 = 3;
-
 // "Then one frame a record, oldest first: type(2), ID(2), data."
-const TYPE: usize = 0;
+pub const TYPE: usize = 0;
 
-const ID: usize = 2;
+pub const ID: usize = 2;
 
-const RECORD_HEAD: usize = 4;
+pub const RECORD_HEAD: usize = 4;
 
 // The type of a data record.
 const DATA: u16 = 0;

@@ -1,5 +1,6 @@
 // Sessions with the answers that document 01 has for them, played on the desk. A line is printed for each: its name and `ok`, or what differs.
 mod building;
+mod calls;
 mod closing;
 mod controls;
 mod further;
@@ -8,6 +9,7 @@ mod playing;
 mod reading;
 mod room;
 mod shapes;
+mod sheets;
 mod timing;
 mod waiting;
 mod worked;
@@ -25,5 +27,6 @@ fn main() {
     play(&controls::TABLE);
     play(&closing::TABLE);
     play(&timing::TABLE);
+    play(&sheets::TABLE);
     play(&further::TABLE);
 }

@@ -2,11 +2,17 @@
 //     = NAME          a session begins, on a fresh desk
 //     - TEXT          a remark
 //     FRAME ANSWER    a call, and what it has to be answered, in hexadecimal digits; a line that begins with the space has an empty frame
-// and an empty line, which ends the session.
+//     ? FILE=STATUS FRAME ..         save: the status, and the frames of the sheet
+//     + FILE FRAME ..=STATUS         load, of a sheet with these frames
+//     @ FILE READER=STATUS BYTES     look: the status, and the bytes shown
+// and an empty line, which ends the session. FILE and READER are one digit.
+use crate::calls::tell_load;
+use crate::calls::tell_look;
+use crate::calls::tell_save;
 use check::same;
 use libc::STDOUT_FILENO;
 use lines::answer_line;
-ghost use Prim.Native.Nat.{ℕ, _≤_, _<_};
+ghost use Prim.Native.Nat.{ℕ, _+_, _≤_, _<_};
 ghost use lib.ListN.{length};
 
 const LF: u8 = 10;
@@ -85,17 +91,54 @@ fn differ(frame: &[u8], told: &[u8], expected: &[u8]) {
     io::write_all(STDOUT_FILENO, expected);
 }
 
+// What is asked is told, in the output; where that ends.
+fn ask(
+    segment: &mut [u8],
+    blocks: &mut [u8],
+    buffers: &mut [u8],
+    asked: &[u8],
+    told: &mut [u8],
+) -> usize
+    requires { ⌜ (1000 ≤ length (now told)) × (length (now asked) + 1 ≤ length (now told)) ⌝ }
+    ensures { λ r. ⌜ r ≤ length (now (told .entry)) ⌝ }
+{
+    let first = if asked.len() == 0 { 0 } else { asked[0] };
+    if first == b'?' {
+        return tell_save(segment, blocks, buffers, asked, told);
+    }
+    if first == b'+' {
+        return tell_load(segment, blocks, buffers, asked, told);
+    }
+    if first == b'@' {
+        return tell_look(segment, blocks, buffers, asked, told);
+    }
+    answer_line(segment, blocks, buffers, asked, told, 0) - 1
+}
+
+// Where what is asked in a line ends.
+fn asked_end(line: &[u8]) -> usize
+    ensures { λ r. ⌜ r ≤ length (now (line .entry)) ⌝ }
+{
+    let n = find(line, 0, b'=');
+    if n < line.len() {
+        return n;
+    }
+    find(line, 0, b' ')
+}
+
 // Whether the call of a line is answered as the line says; what differs is printed.
 fn call(segment: &mut [u8], blocks: &mut [u8], buffers: &mut [u8], line: &[u8]) -> bool {
-    let mut answer = [0u8; 529];
-    let n = find(line, 0, b' ');
-    let end = answer_line(segment, blocks, buffers, &line[0..n], &mut answer, 0);
-    let told = &answer[0..end - 1];
+    let mut told = [0u8; 8195];
+    let n = asked_end(line);
+    if n >= told.len() {
+        return false;
+    }
+    let end = ask(segment, blocks, buffers, &line[0..n], &mut told);
     let from = behind(line, n);
-    if same(told, &line[from..]) {
+    if same(&told[0..end], &line[from..]) {
         return true;
     }
-    differ(&line[0..n], told, &line[from..]);
+    differ(&line[0..n], &told[0..end], &line[from..]);
     false
 }
 

@@ -1,11 +1,12 @@
-// The worked session of document 01.
+// The worked session of document 01, with the sheet after its third line.
 
-pub const TABLE: [u8; 296] = *b"
+pub const TABLE: [u8; 346] = *b"
 = worked
 - the worked session of document 01
 0100000401000101 01000003
 0200030100 0200000001
 040000000241424344 04000002
+? 0=00 0100040100030002 00010001 0000000141424344
 040000FFFD454647 0402
 0200000100 0200010000
 040000FFFD454647 0401

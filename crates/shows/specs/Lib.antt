@@ -1,3 +1,4 @@
 pub mod Seen
 pub mod Parts
 pub mod Sheets
+pub mod Copies

@@ -2,6 +2,7 @@
 use crate::READER;
 use crate::WRITER;
 use kinds::limits::FILES;
+use kinds::limits::LEAST_CAPACITY;
 use kinds::limits::MOST_FACTOR;
 use kinds::limits::MOST_WORDS;
 use kinds::limits::PLACES;
@@ -14,9 +15,6 @@ ghost use lib.ListN.{length};
 ghost use Rattle.rules.specs.Limits.{files, places};
 ghost use Rattle.segment.specs.Layout.{rowWords, segmentWords, segmentBytes};
 ghost use Rattle.sound.specs.Rows.{fileWord, placeWord, zeroWords, goodGeo, goodPlace, placeOk, placesOk, writersAt, unbuiltOk};
-
-// "C ≥ 3"
-const LEAST_CAPACITY: u32 = 3;
 
 // Whether n words from word k on are zero.
 pub fn zero_words(s: &[u8], k: usize, n: usize) -> bool
@@ -67,7 +65,7 @@ pub fn good_geometry(words: u16, factor: u16, blocks: u16) -> bool
     if factor > MOST_FACTOR {
         return false;
     }
-    if factor as u32 * (blocks as u32) < LEAST_CAPACITY {
+    if factor as u32 * (blocks as u32) < LEAST_CAPACITY as u32 {
         return false;
     }
     geometry::fits_share(words, factor as u8, blocks)

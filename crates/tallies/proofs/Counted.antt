@@ -70,15 +70,15 @@ bytes-of x b ys zs e h = let k : FileBytes (built b) ys zs = rw e at h in k .0
 -- the memories stand for a desk whose file f is b
 module _ {xs blocks buffers : List ℕ} {d : Desk} {s : Alloc} (S : StandsFor xs blocks buffers d s) (f : ℕ) (l : f < files) (b : Built) (e : fileOf d f ≡ built b) where
   -- the row, as the code has it
-  row-is : fileOfRow (fileAt xs f) ≡ inHand b
+  pub row-is : fileOfRow (fileAt xs f) ≡ inHand b
   unfolding fileAt fileRowOf fileWords
   row-is = ap (λ (r : List ℕ). fileOfRow (fileRowOf r)) (shown S f l b e .file)
 
-  share-is : memory.shareAt f blocks ≡ b .store .share
+  pub share-is : memory.shareAt f blocks ≡ b .store .share
   unfolding shareAt
   share-is = bytes-of (fileOf d f) b _ _ e (S .stands .bodies .each f l)
 
-  room : Roomy b
+  pub room : Roomy b
   room = fine-of (fileOf d f) b e (S .fine f l) .room
 
   -- the ring and the share hold its store

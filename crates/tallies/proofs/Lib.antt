@@ -1,2 +1,2 @@
-pub mod Round
+pub mod Counting
 pub mod Counted

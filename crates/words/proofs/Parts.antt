@@ -34,6 +34,17 @@ part-beside xs ys a b k d =
     each : (i : ℕ) → i < k → getD (take k (drop b (sets xs a ys))) i 0 ≡ getD (take k (drop b xs)) i 0
     each i h = rw (getD-take k (drop b (sets xs a ys)) i 0 h, getD-take k (drop b xs) i 0 h, getD-drop b (sets xs a ys) i 0, getD-drop b xs i 0) (getD-sets ys xs a (b + i) (away i h d))
 
+-- what is stored there twice is what was stored last
+pub sets-again : (xs ys zs : List ℕ) (a : ℕ) → length ys ≡ length zs → a + length zs ≤ length xs → sets (sets xs a ys) a zs ≡ sets xs a zs
+sets-again xs ys zs a e h =
+    let m : ℕ = length xs in
+    let front : take a (drop 0 (sets xs a ys)) ≡ take a (drop 0 xs) = part-beside xs ys a 0 a (inl (omega arith)) in
+    let back : take m (drop (a + length zs) (sets xs a ys)) ≡ take m (drop (a + length zs) xs) = part-beside xs ys a (a + length zs) m (inr (omega arith)) in
+    let all : drop (a + length zs) (sets xs a ys) ≡ drop (a + length zs) xs =
+    sym (take-all m (drop (a + length zs) (sets xs a ys)) (omega (arith, length-drop (a + length zs) (sets xs a ys), length-sets xs a ys)))
+    ∙ back ∙ take-all m (drop (a + length zs) xs) (omega (arith, length-drop (a + length zs) xs)) in
+    sets-eq zs (sets xs a ys) a (omega (arith, length-sets xs a ys)) ∙ rw (front, all) (sym (sets-eq zs xs a h))
+
 -- Of the m parts of a memory, k bytes each.
 
 part-fits : (k m i : ℕ) → i < m → k * i + k ≤ k * m

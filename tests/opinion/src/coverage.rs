@@ -3,7 +3,8 @@
 use crate::generator::{Call, Generator};
 use crate::model::desk::Desk;
 use crate::model::status::NOT_A_FRAME;
-use crate::session::{make_call, next_call};
+use crate::outcome::make_call;
+use crate::session::next_call;
 use std::collections::BTreeMap;
 
 pub fn coverage_text(seed: u64, sessions: u64, n: u64) -> String {
@@ -14,7 +15,7 @@ pub fn coverage_text(seed: u64, sessions: u64, n: u64) -> String {
         let mut generator = Generator::new(one);
         for _ in 0..n {
             let call = next_call(&desk, &mut generator);
-            let status = make_call(&mut desk, &call).1;
+            let status = make_call(&mut desk, &call).status;
             *statuses.entry(format!("{:8} {status:2}", kind(&call, status))).or_insert(0) += 1;
         }
         for (what, times) in desk.all_notes() {

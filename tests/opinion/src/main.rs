@@ -9,12 +9,14 @@
 //!
 //!   opinion library SEED K N      K sessions of N calls, and what goes with them, on both
 //!   opinion library-run           the event program on standard input, answered by the library
+//!   opinion library-replay        the calls of a session on standard input, answered by the library
 
 mod coverage;
 mod generator;
 #[cfg(feature = "library")]
 mod library;
 mod model;
+mod outcome;
 mod session;
 #[cfg(test)]
 mod tests;
@@ -24,7 +26,8 @@ use std::io::{Read, Write};
 
 const USAGE: &str = "opinion session SEED N | opinion replay | opinion run \
                      | opinion coverage SEED SESSIONS N \
-                     | opinion library SEED SESSIONS N | opinion library-run";
+                     | opinion library SEED SESSIONS N | opinion library-run \
+                     | opinion library-replay";
 
 fn main() {
     let arguments: Vec<String> = std::env::args().skip(1).collect();
@@ -43,6 +46,8 @@ fn main() {
         }
         #[cfg(feature = "library")]
         ["library-run"] => library::answer_lines(&lines(&input())),
+        #[cfg(feature = "library")]
+        ["library-replay"] => library::replay_text(&String::from_utf8_lossy(&input())).into_bytes(),
         _ => {
             eprintln!("{USAGE}");
             std::process::exit(2);

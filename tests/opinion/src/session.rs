@@ -17,6 +17,7 @@ use crate::model::desk::Desk;
 use crate::model::limits::{BUFFER_BYTES, FILES, PLACES, SHARE_BYTES};
 use crate::model::line::{digits, frame_of_line};
 use crate::model::status::DONE;
+use crate::outcome::{make_call, Outcome};
 
 /// A session of n calls and the memories it leaves.
 pub fn session_text(seed: u64, n: u64) -> String {
@@ -25,8 +26,7 @@ pub fn session_text(seed: u64, n: u64) -> String {
     let mut text = String::new();
     for _ in 0..n {
         let call = next_call(&desk, &mut generator);
-        text.push_str(&make_call(&mut desk, &call).0);
-        text.push('\n');
+        text.push_str(&line_of(&call, &make_call(&mut desk, &call)));
     }
     text.push_str(&memories_text(&desk));
     text
@@ -36,9 +36,8 @@ pub fn session_text(seed: u64, n: u64) -> String {
 pub fn replay_text(session: &str) -> String {
     let mut desk = Desk::fresh();
     let mut text = String::new();
-    for call in session.lines().filter_map(call_of_line) {
-        text.push_str(&make_call(&mut desk, &call).0);
-        text.push('\n');
+    for call in calls_of_text(session) {
+        text.push_str(&line_of(&call, &make_call(&mut desk, &call)));
     }
     text.push_str(&memories_text(&desk));
     text
@@ -56,54 +55,45 @@ pub fn next_call(desk: &Desk, generator: &mut Generator) -> Call {
     call
 }
 
-/// Makes a call and gives its line and its status.
-pub fn make_call(desk: &mut Desk, call: &Call) -> (String, u8) {
+/// A session's line: the call and what it gave.
+pub fn line_of(call: &Call, outcome: &Outcome) -> String {
+    let Outcome { status, bytes } = outcome;
+    let called = call_text(call);
     match call {
-        Call::Event(frame) => {
-            let answer = desk.event(frame);
-            (format!("E {} {}", hex(frame), hex(&answer)), answer[1])
-        }
-        Call::Look(file, reader) => {
-            let (status, shown) = desk.look(*file, *reader);
-            (format!("L {file} {reader} {status} {}", hex(&shown)), status)
-        }
-        Call::Save(file, room) => {
-            let (status, sheet) = desk.save(*file, *room);
-            if status == DONE {
-                check_sheet(&sheet);
-            }
-            (format!("S {file} {room} {status} {}", hex(&sheet)), status)
-        }
-        Call::Load(file, text) => {
-            let status = desk.load(*file, text);
-            (format!("D {file} {} {status}", hex(text)), status)
-        }
+        Call::Event(_) => format!("{called} {}\n", hex(bytes)),
+        Call::Load(..) => format!("{called} {status}\n"),
+        Call::Look(..) | Call::Save(..) => format!("{called} {status} {}\n", hex(bytes)),
     }
 }
 
-/// In a debug build: a saved sheet loads, and saves again as itself.
-fn check_sheet(sheet: &[u8]) {
-    if cfg!(debug_assertions) {
-        let mut other = Desk::fresh();
-        assert!(other.load(0, sheet) == DONE, "a saved sheet is refused");
-        assert!(other.save(0, sheet.len()).1 == sheet, "a sheet does not come back");
+/// A call, as its line begins.
+pub fn call_text(call: &Call) -> String {
+    match call {
+        Call::Event(frame) => format!("E {}", hex(frame)),
+        Call::Look(file, reader) => format!("L {file} {reader}"),
+        Call::Save(file, room) => format!("S {file} {room}"),
+        Call::Load(file, text) => format!("D {file} {}", hex(text)),
     }
+}
+
+pub fn calls_of_text(session: &str) -> Vec<Call> {
+    session.lines().filter_map(call_of_line).collect()
 }
 
 /// The call of a session's line, its recorded answer left aside; None for the memories.
 fn call_of_line(line: &str) -> Option<Call> {
     let fields: Vec<&str> = line.split(' ').collect();
-    let byte = |text: &str| text.parse::<u8>().ok();
+    let number = |text: &str| text.parse::<usize>().ok();
     match fields[..] {
         ["E", frame, ..] => Some(Call::Event(bytes_of(frame)?)),
-        ["L", file, reader, ..] => Some(Call::Look(byte(file)?, byte(reader)?)),
-        ["S", file, room, ..] => Some(Call::Save(byte(file)?, room.parse().ok()?)),
-        ["D", file, text, ..] => Some(Call::Load(byte(file)?, bytes_of(text)?)),
+        ["L", file, reader, ..] => Some(Call::Look(number(file)?, number(reader)?)),
+        ["S", file, room, ..] => Some(Call::Save(number(file)?, number(room)?)),
+        ["D", file, text, ..] => Some(Call::Load(number(file)?, bytes_of(text)?)),
         _ => None,
     }
 }
 
-fn memories_text(desk: &Desk) -> String {
+pub fn memories_text(desk: &Desk) -> String {
     let mut text = String::new();
     let blocks = desk.blocks();
     for file in 0..FILES {
@@ -131,7 +121,7 @@ fn memories_text(desk: &Desk) -> String {
 }
 
 /// Hexadecimal, or - for no bytes.
-fn hex(bytes: &[u8]) -> String {
+pub fn hex(bytes: &[u8]) -> String {
     if bytes.is_empty() {
         return "-".to_string();
     }

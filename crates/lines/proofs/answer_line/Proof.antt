@@ -28,17 +28,17 @@ part-event-end c = search needs
 event-requires : tie.Need-event-requires
 event-requires c κs = search needs
 
-sub-print-line : tie.Need-sub-print-line
-sub-print-line c = search needs
+sub-line : tie.Need-sub-line
+sub-line c = search needs
 
-part-print-line-start : tie.Need-part-print-line-start
-part-print-line-start c = search needs
+part-line-start : tie.Need-part-line-start
+part-line-start c = search needs
 
-part-print-line-end : tie.Need-part-print-line-end
-part-print-line-end c = omega (arith, answer-fits _ _ _ _ _ _ _ _ _ _ (λ i. c .before .before .before .before .before .before .before .before .before .before .before .before .before .before .before .before .before .before .before .before .before .before .slice-known .given i .fits) (λ i. c .before .before .before .before .before .before .before .before .before .before .before .before .before .before .before .before .before .before .before .before .before .slice-known2 .given i .fits) (λ i. c .before .before .before .before .before .before .before .before .before .before .before .before .before .before .before .before .before .before .before .before .slice-known3 .given i .fits) (c .before .before .before .before .before .before .before .before .event .ensures))
+part-line-end : tie.Need-part-line-end
+part-line-end c = omega (arith, answer-fits _ _ _ _ _ _ _ _ _ _ (λ i. c .before .before .before .before .before .before .before .before .before .before .before .before .before .before .before .before .before .before .before .before .before .before .slice-known .given i .fits) (λ i. c .before .before .before .before .before .before .before .before .before .before .before .before .before .before .before .before .before .before .before .before .before .slice-known2 .given i .fits) (λ i. c .before .before .before .before .before .before .before .before .before .before .before .before .before .before .before .before .before .before .before .before .slice-known3 .given i .fits) (c .before .before .before .before .before .before .before .before .event .ensures))
 
-print-line-requires : tie.Need-print-line-requires
-print-line-requires c κs = omega (arith, answer-fits _ _ _ _ _ _ _ _ _ _ (λ i. c .before .before .before .before .before .before .before .before .before .before .before .before .before .before .before .before .before .before .before .before .before .before .before .before .slice-known .given i .fits) (λ i. c .before .before .before .before .before .before .before .before .before .before .before .before .before .before .before .before .before .before .before .before .before .before .before .slice-known2 .given i .fits) (λ i. c .before .before .before .before .before .before .before .before .before .before .before .before .before .before .before .before .before .before .before .before .before .before .slice-known3 .given i .fits) (c .before .before .before .before .before .before .before .before .before .before .event .ensures), c .before .before .before .before .before .before .before .before .before .before .before .before .before .before .before .before .before .before .before .before .before .before .before .before .before .pre)
+line-requires : tie.Need-line-requires
+line-requires c κs = omega (arith, answer-fits _ _ _ _ _ _ _ _ _ _ (λ i. c .before .before .before .before .before .before .before .before .before .before .before .before .before .before .before .before .before .before .before .before .before .before .before .before .slice-known .given i .fits) (λ i. c .before .before .before .before .before .before .before .before .before .before .before .before .before .before .before .before .before .before .before .before .before .before .before .slice-known2 .given i .fits) (λ i. c .before .before .before .before .before .before .before .before .before .before .before .before .before .before .before .before .before .before .before .before .before .before .slice-known3 .given i .fits) (c .before .before .before .before .before .before .before .before .before .before .event .ensures), c .before .before .before .before .before .before .before .before .before .before .before .before .before .before .before .before .before .before .before .before .before .before .before .before .before .pre)
 
 same-length : tie.Need-same-length
 same-length c = search needs
@@ -56,7 +56,7 @@ returns : tie.Need-returns
 unfolding zeros
 returns c =
     let fits = answer-fits _ _ _ _ _ _ _ _ _ _ (λ i. c .before .before .before .before .before .before .before .before .before .before .before .before .before .before .before .before .before .before .before .before .before .before .before .before .before .before .before .slice-known .given i .fits) (λ i. c .before .before .before .before .before .before .before .before .before .before .before .before .before .before .before .before .before .before .before .before .before .before .before .before .before .before .slice-known2 .given i .fits) (λ i. c .before .before .before .before .before .before .before .before .before .before .before .before .before .before .before .before .before .before .before .before .before .before .before .before .before .slice-known3 .given i .fits) (c .before .before .before .before .before .before .before .before .before .before .before .before .before .event .ensures) in
-    ((omega (arith, c .before .before .print-line .ensures .0), omega (arith, c .before .before .print-line .ensures .0, fits)), line-asked _ _ _ _ _ _ _ _ _ _ _ _ _ _ (c .before .before .before .before .before .before .before .before .before .before .before .before .before .event .ensures) (frame-decoded _ _ _ _ (c .before .before .before .before .before .before .before .before .before .before .before .before .before .before .before .before .before .before .before .before .before .decode .ensures .0) (c .before .before .before .before .before .before .before .before .before .before .before .before .before .before .before .before .before .before .before .before .before .decode .ensures .1 .0) (c .before .before .before .before .before .before .before .before .before .before .before .before .before .before .before .before .before .before .before .before .before .decode .ensures .1 .1)) (c .before .before .print-line .ensures .1) (omega (arith, c .before .before .print-line .ensures .0, fits)))
+    ((omega (arith, c .before .before .line .ensures .0), omega (arith, c .before .before .line .ensures .0, fits)), line-asked _ _ _ _ _ _ _ _ _ _ _ _ _ _ (c .before .before .before .before .before .before .before .before .before .before .before .before .before .event .ensures) (frame-decoded _ _ _ _ (c .before .before .before .before .before .before .before .before .before .before .before .before .before .before .before .before .before .before .before .before .before .decode .ensures .0) (c .before .before .before .before .before .before .before .before .before .before .before .before .before .before .before .before .before .before .before .before .before .decode .ensures .1 .0) (c .before .before .before .before .before .before .before .before .before .before .before .before .before .before .before .before .before .before .before .before .before .decode .ensures .1 .1)) (c .before .before .line .ensures .1) (omega (arith, c .before .before .line .ensures .0, fits)))
 
 pub answer-line-spec : {M : Type 1} → statement M
 answer-line-spec =
@@ -69,10 +69,10 @@ answer-line-spec =
     part-event-start
     part-event-end
     event-requires
-    sub-print-line
-    part-print-line-start
-    part-print-line-end
-    print-line-requires
+    sub-line
+    part-line-start
+    part-line-end
+    line-requires
     same-length
     same-length-2
     same-length-3

@@ -1,4 +1,4 @@
-use Rattle.tallies.proofs.Round.{adds-one, adds-none}
+use Rattle.tallies.proofs.Counting.{adds-one, adds-none}
 use Rattle.tallies.proofs.data_count.Statement.{statement}
 use Rattle.tallies.proofs.data_count.Tie as tie
 use Rattle.tallies.proofs.data_count.Reads as reads

@@ -15,20 +15,20 @@ impl Generator {
         match self.random.below(23) {
             0 => {
                 let file = self.random.pick(&[file, file, file, 8, 255, 3]);
-                Call::Look(file, self.random.pick(&[place, place, 7, 8, 200]))
+                Call::Look(file.into(), self.random.pick(&[place, place, 7, 8, 200]).into())
             }
             1 => {
                 let file = self.random.pick(&[file, 8, 9, 255]);
-                Call::Save(file, self.random.pick(&[0, 5, 17, 5000]))
+                Call::Save(file.into(), self.random.pick(&[0, 5, 17, 5000]))
             }
             2 => {
                 let good = self.random.percent(50);
                 let text = if good { self.good_sheet() } else { self.damaged_sheet() };
-                Call::Load(file, text)
+                Call::Load(file.into(), text)
             }
             3 => {
                 let text = self.damaged_sheet();
-                Call::Load(unbuilt_or(desk, file), text)
+                Call::Load(unbuilt_or(desk, file).into(), text)
             }
             chosen => Call::Event(self.bad_frame(chosen, desk, file, place)),
         }
@@ -86,7 +86,7 @@ impl Generator {
     /// Mostly a place that is open, some that are not, a few that do not exist.
     fn some_place(&mut self, desk: &Desk, file: u8) -> u8 {
         let mut places: Vec<u8> = (0..8).collect();
-        if let Ok(f) = desk.built(file) {
+        if let Ok(f) = desk.built(file.into()) {
             let open: Vec<u8> = (0..8).filter(|p| f.accessors[usize::from(*p)].is_some()).collect();
             if !open.is_empty() && self.random.percent(80) {
                 places = open;
@@ -99,7 +99,7 @@ impl Generator {
     }
 
     fn ordinary_frame(&mut self, desk: &Desk, file: u8) -> Vec<u8> {
-        if let Ok(f) = desk.built(file) {
+        if let Ok(f) = desk.built(file.into()) {
             for _ in 0..8 {
                 if let Call::Event(frame) = self.call_on(desk, f, file) {
                     return frame;
@@ -135,7 +135,7 @@ impl Generator {
 
     /// A count above 2R, or data not as long as the count.
     fn write_out_of_range(&mut self, desk: &Desk, file: u8, place: u8) -> Vec<u8> {
-        let words = desk.built(file).map_or(4, |f| f.geometry.record_words);
+        let words = desk.built(file.into()).map_or(4, |f| f.geometry.record_words);
         let (count, length) = self.random.pick(&[
             (words as i32 + 1, 2 * words + 2),
             (-(2 * words as i32) - 1, 2 * words + 1),
@@ -185,5 +185,5 @@ impl Generator {
 
 /// The first file that is not built, or the one given.
 fn unbuilt_or(desk: &Desk, file: u8) -> u8 {
-    (0..8).find(|n| desk.built(*n).is_err()).unwrap_or(file)
+    (0..8).find(|n| desk.built(usize::from(*n)).is_err()).unwrap_or(file)
 }

@@ -15,11 +15,11 @@ pub enum Call {
     /// A frame.
     Event(Vec<u8>),
     /// File, reader.
-    Look(u8, u8),
+    Look(usize, usize),
     /// File, length of the output lent.
-    Save(u8, usize),
+    Save(usize, usize),
     /// File, text.
-    Load(u8, Vec<u8>),
+    Load(usize, Vec<u8>),
 }
 
 /// What a stretch of a session leans to.
@@ -109,7 +109,7 @@ impl Generator {
             return self.bad_call(desk);
         }
         let file = self.random.pick(&self.files);
-        match desk.built(file) {
+        match desk.built(file.into()) {
             Ok(f) => self.call_on(desk, f, file),
             Err(_) => self.make_file(file),
         }
@@ -119,7 +119,7 @@ impl Generator {
     fn make_file(&mut self, file: u8) -> Call {
         if self.random.percent(25) {
             let text = self.good_sheet();
-            return Call::Load(file, text);
+            return Call::Load(file.into(), text);
         }
         let (r, b, n, x) = self.geometry();
         Call::Event(build_frame(file, r, b, n, x))

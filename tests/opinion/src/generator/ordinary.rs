@@ -55,14 +55,14 @@ impl Generator {
         into.push((3, Call::Event(control_frame(file, place, 43, param))));
         let code = self.random.pick(&[4, 6, 45, 46, 47, 48, 99]);
         into.push((1, Call::Event(control_frame(file, place, code, 1))));
-        into.push((2, Call::Look(file, place)));
+        into.push((2, Call::Look(file.into(), place.into())));
     }
 
     fn completed_calls(&mut self, f: &MessageFile, file: u8, place: u8, into: &mut Candidates) {
         let collect = if self.mood == Mood::Starve { 20 } else { 35 };
         into.push((collect, Call::Event(vec![6, file, place])));
         into.push((2, Call::Event(control_frame(file, place, 43, 0))));
-        into.push((4, Call::Look(file, place)));
+        into.push((4, Call::Look(file.into(), place.into())));
         into.push((1, Call::Event(read_frame(file, place, 4))));
         into.push((1, Call::Event(self.write_of(f, file, place))));
         let code = self.random.pick(&[4, 45, 46, 47, 50]);
@@ -112,7 +112,7 @@ impl Generator {
             let leave = if self.random.percent(80) { 1 } else { 0 };
             let keep = if accessor.leave_next { 1 } else { 4 };
             into.push((keep, Call::Event(control_frame(file, place, 47, leave))));
-            into.push((3, Call::Look(file, place)));
+            into.push((3, Call::Look(file.into(), place.into())));
         }
     }
 
@@ -209,23 +209,23 @@ impl Generator {
 
     fn other_calls(&mut self, desk: &Desk, f: &MessageFile, file: u8, into: &mut Candidates) {
         into.push((4, Call::Event(vec![9, file])));
-        let needed = desk.save(file, usize::MAX).1.len();
+        let needed = desk.save(file.into(), usize::MAX).1.len();
         let room = match self.random.below(6) {
             0 => needed - 1,
             1 => self.random.below(needed),
             2 => needed + self.random.below(50),
             _ => needed,
         };
-        into.push((3, Call::Save(file, room)));
+        into.push((3, Call::Save(file.into(), room)));
         let loadable = if f.number == 0 {
             self.random.below(8) as u8
         } else {
             self.random.pick(&[5, 6, 7, file])
         };
-        if desk.built(loadable).is_err() && self.random.percent(15) {
+        if desk.built(loadable.into()).is_err() && self.random.percent(15) {
             let good = self.random.percent(50);
             let text = if good { self.good_sheet() } else { self.damaged_sheet() };
-            into.push((6, Call::Load(loadable, text)));
+            into.push((6, Call::Load(loadable.into(), text)));
             let joins = self.random.percent(30);
             if joins && !self.files.contains(&loadable) && self.files.len() < 3 {
                 self.files.push(loadable);

@@ -40,7 +40,7 @@ impl Generator {
     }
 
     /// A sheet saved earlier, or one made up.
-    pub(super) fn good_sheet(&mut self) -> Vec<u8> {
+    pub fn good_sheet(&mut self) -> Vec<u8> {
         if !self.sheets.is_empty() && self.random.percent(55) {
             return self.random.pick(&self.sheets);
         }

@@ -2,9 +2,12 @@
 //! are compared.  One that fails is made smaller, and printed so that it can be tried again.
 
 use super::twin::{text, Difference, Twin};
+use crate::generator::Call;
 use crate::model::desk::Desk;
 use crate::model::limits::LINE_BYTES;
 use crate::model::segment::Memories;
+use crate::outcome::make_call;
+use crate::session::{call_text, hex};
 
 #[derive(Clone, Copy, PartialEq, Debug)]
 pub enum Part {
@@ -23,18 +26,18 @@ pub struct Change {
 
 #[derive(Clone, Default)]
 pub struct Case {
-    /// Frames that the model alone is sent, to reach a desk.
-    pub before: Vec<Vec<u8>>,
+    /// Calls made on the model alone, to reach a desk.
+    pub before: Vec<Call>,
     pub changes: Vec<Change>,
-    /// Frames that both are sent.
-    pub frames: Vec<Vec<u8>>,
+    /// Calls made on both.
+    pub calls: Vec<Call>,
 }
 
 impl Case {
     /// Where library and model differ, if they do.
     pub fn difference(&self) -> Option<Difference> {
         match self.start() {
-            Ok(mut twin) => self.frames.iter().find_map(|frame| twin.event(frame).err()),
+            Ok(mut twin) => self.calls.iter().find_map(|call| twin.call(call).err()),
             Err(difference) => Some(difference),
         }
     }
@@ -44,19 +47,19 @@ impl Case {
             return Twin::fresh();
         }
         let mut desk = Desk::fresh();
-        for frame in &self.before {
-            desk.event(frame);
+        for call in &self.before {
+            make_call(&mut desk, call);
         }
         let mut memories = desk.memories();
         apply(&self.changes, &mut memories);
         Ok(Twin::of(&memories))
     }
 
-    /// Frames and changes are dropped while it still fails.
+    /// Calls and changes are dropped while it still fails.
     pub fn shrunk(mut self) -> Case {
         loop {
             let size = self.size();
-            self = shrink(self, |case| &mut case.frames);
+            self = shrink(self, |case| &mut case.calls);
             self = shrink(self, |case| &mut case.changes);
             self = shrink(self, |case| &mut case.before);
             if self.size() == size {
@@ -66,15 +69,15 @@ impl Case {
     }
 
     fn size(&self) -> usize {
-        self.before.len() + self.changes.len() + self.frames.len()
+        self.before.len() + self.changes.len() + self.calls.len()
     }
 
-    /// What to send, a line a frame as the event program takes it, and where the two differ.
+    /// What to call, a line a call, and where the two differ.
     pub fn report(&self) -> String {
         let mut lines = Vec::new();
         if !self.before.is_empty() {
-            lines.push("these frames reach the desk:".to_string());
-            lines.extend(self.before.iter().map(|frame| line(frame)));
+            lines.push("these calls reach the desk:".to_string());
+            lines.extend(self.before.iter().map(line));
         }
         if !self.changes.is_empty() {
             lines.push("then these bytes are changed:".to_string());
@@ -82,8 +85,8 @@ impl Case {
                 format!("{:?} byte {} becomes {:02X}", c.part, c.at, c.byte).to_lowercase()
             }));
         }
-        lines.push("these frames show the difference, at the last one:".to_string());
-        lines.extend(self.frames.iter().map(|frame| line(frame)));
+        lines.push("these calls show the difference, at the last one:".to_string());
+        lines.extend(self.calls.iter().map(line));
         lines.push(self.difference().unwrap_or_else(|| "it does not show again".to_string()));
         lines.join("\n")
     }
@@ -121,10 +124,17 @@ fn shrink<T: Clone>(mut case: Case, list: fn(&mut Case) -> &mut Vec<T>) -> Case 
     case
 }
 
-fn line(frame: &[u8]) -> String {
-    match frame.len() {
-        0 => "(an empty line)".to_string(),
-        n if n > LINE_BYTES => format!("({n} bytes, more than a line) {} ...", text(&frame[..16])),
-        _ => text(frame),
+/// A call as a session's line begins, so that it can be replayed, and in words.
+pub fn line(call: &Call) -> String {
+    let called = call_text(call);
+    match call {
+        Call::Event(frame) if frame.len() > LINE_BYTES => {
+            format!("(event: {} bytes) {} ...", frame.len(), hex(&frame[..16]))
+        }
+        Call::Event(_) => called,
+        Call::Look(file, reader) => format!("{called}  (look: file {file}, reader {reader})"),
+        Call::Save(file, room) => format!("{called}  (save: file {file}, {room} bytes of output)"),
+        // The text would be lost behind its own digits.
+        Call::Load(file, sheet) => format!("(load: file {file}, {})\n{called}", text(sheet)),
     }
 }

@@ -1,53 +1,34 @@
 //! Frames of every first byte, every length and every count, each on the same desk.
 
+use super::caller::Caller;
 use super::case::Case;
-use super::sessions::next_frame;
+use super::reached::Reached;
 use super::tally::Tally;
-use super::twin::Twin;
 use crate::generator::frames::{build_frame, control_frame, read_frame, write_frame};
 use crate::generator::random::Random;
-use crate::generator::Generator;
-use crate::model::desk::Desk;
-use crate::model::status::NOT_A_FRAME;
+use crate::generator::Call;
 
-/// Sends each frame to a desk that some events reached; the case, if one is answered otherwise.
+/// Sends each frame to a desk that some calls reached; the case, if one is answered otherwise.
 pub fn all_frames(seed: u64, tally: &mut Tally) -> Result<(), Case> {
-    let mut generator = Generator::new(seed);
+    let mut caller = Caller::new(seed);
     let mut random = Random::new(seed);
-    let mut desk = Desk::fresh();
-    let mut before = Vec::new();
-    for _ in 0..random.between(20, 120) {
-        let frame = next_frame(&desk, &mut generator);
-        desk.event(&frame);
-        before.push(frame);
-    }
+    let reached = Reached::by(&mut caller, random.between(20, 120));
     let mut frames = shapes(&mut random);
-    let good: Vec<Vec<u8>> = (0..40).map(|_| next_frame(&desk, &mut generator)).collect();
-    frames.extend(good.iter().flat_map(|frame| cut_and_longer(frame)));
-    for file in (0..8).filter(|n| desk.built(*n).is_ok()) {
-        for place in 0..8 {
-            if desk.built(file).map_or(false, |f| f.accessors[usize::from(place)].is_some()) {
-                frames.extend(counts(file, place));
-            }
+    for _ in 0..40 {
+        if let Call::Event(frame) = caller.next_event(&reached.desk) {
+            frames.extend(cut_and_longer(&frame));
+        }
+    }
+    for f in reached.desk.files.iter().flatten() {
+        let file = f.number as u8;
+        for place in (0..8).filter(|p| f.accessors[usize::from(*p)].is_some()) {
+            frames.extend(counts(file, place));
         }
         frames.extend(opens(file));
     }
     frames.extend([0, 1, 8, 255].iter().flat_map(|file| builds(*file)));
-    let memories = desk.memories();
-    let mut twin = Twin::of(&memories);
-    for frame in frames {
-        match twin.event(&frame) {
-            Ok(answer) => {
-                tally.answer(&answer);
-                // A refusal was just seen to change nothing.
-                if answer[1] < NOT_A_FRAME {
-                    twin.reset(&desk, &memories);
-                }
-            }
-            Err(_) => return Err(Case { before, changes: Vec::new(), frames: vec![frame] }),
-        }
-    }
-    Ok(())
+    let calls: Vec<Call> = frames.into_iter().map(Call::Event).collect();
+    reached.try_each(&calls, tally)
 }
 
 /// Every first byte with every length a small frame can have, and some long ones.

@@ -1,7 +1,7 @@
 //! The numbers of include/tendrilhook.h are the model's.
 
 use super::UNSOUND;
-use crate::model::limits::ANSWER_BYTES;
+use crate::model::limits::{ANSWER_BYTES, BUFFER_BYTES, SHEET_BYTES};
 use crate::model::segment::{BLOCKS_BYTES, BUFFERS_BYTES, SEGMENT_BYTES};
 use crate::model::status::*;
 
@@ -14,6 +14,8 @@ pub fn compare_header() -> Result<u64, String> {
         ("BLOCKS_BYTES", BLOCKS_BYTES),
         ("BUFFERS_BYTES", BUFFERS_BYTES),
         ("ANSWER_BYTES", ANSWER_BYTES),
+        ("RECORD_BYTES", BUFFER_BYTES),
+        ("SHEET_BYTES", SHEET_BYTES),
     ];
     let statuses = [
         ("DONE", DONE),
@@ -32,6 +34,8 @@ pub fn compare_header() -> Result<u64, String> {
         ("FORBIDDEN", FORBIDDEN),
         ("EIGHT_OPEN", EIGHT_OPEN),
         ("NO_ROOM", NO_ROOM),
+        ("NOT_A_SHEET", NOT_A_SHEET),
+        ("OUTPUT_TOO_SHORT", OUTPUT_TOO_SHORT),
     ];
     let numbers = statuses.map(|(name, status)| (name, usize::from(status)));
     let expected: Vec<(&str, usize)> = lengths.into_iter().chain(numbers).collect();

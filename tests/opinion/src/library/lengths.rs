@@ -1,74 +1,95 @@
 //! Memories of wrong lengths: nothing is written at all.  And a fresh desk of any bytes.
 
+use super::caller::Caller;
+use super::case::line;
 use super::host::Host;
-use super::sessions::next_frame;
+use super::reached::Reached;
 use super::twin::{Difference, Twin};
 use super::UNSOUND;
 use crate::generator::random::Random;
-use crate::generator::Generator;
+use crate::generator::Call;
 use crate::model::desk::Desk;
-use crate::model::limits::ANSWER_BYTES;
+use crate::model::limits::{ANSWER_BYTES, BUFFER_BYTES};
 use crate::model::segment::Memories;
+use crate::outcome::Outcome;
+
+/// What a host lends: a desk's memories, and the lengths of answer and record memory.
+struct Loan {
+    memories: Memories,
+    answer: usize,
+    record: usize,
+}
 
 /// How many calls agreed.
 pub fn wrong_lengths(seed: u64) -> Result<u64, Difference> {
-    let mut generator = Generator::new(seed);
+    let mut caller = Caller::new(seed);
     let mut random = Random::new(seed);
-    let mut desk = Desk::fresh();
-    for _ in 0..60 {
-        let frame = next_frame(&desk, &mut generator);
-        desk.event(&frame);
-    }
+    let desk = Reached::by(&mut caller, 60).desk;
     let good = desk.memories();
     let mut calls = 0;
-    for which in 0..5 {
+    for which in 0..6 {
         for _ in 0..40 {
-            let mut memories = good.clone();
-            let mut answer = vec![0; ANSWER_BYTES];
-            match which {
-                0 => other_length(&mut memories.segment, &mut random),
-                1 => other_length(&mut memories.blocks, &mut random),
-                2 => other_length(&mut memories.buffers, &mut random),
-                3 => other_length(&mut answer, &mut random),
-                _ => {
-                    other_length(&mut memories.segment, &mut random);
-                    other_length(&mut memories.blocks, &mut random);
-                    other_length(&mut memories.buffers, &mut random);
-                }
-            }
-            let frame = next_frame(&desk, &mut generator);
-            let lengths = lengths_text(&memories, answer.len());
-            refused(&memories, answer.len(), &frame).map_err(|d| format!("{lengths}: {d}"))?;
-            calls += 1;
+            let loan = wrong_loan(&good, which, &mut random);
+            let mut made = caller.one_of_each(&desk);
+            made.extend([caller.next_event(&desk), caller.next(&desk)]);
+            // 29 is the lowest refusal.
+            made.extend([Call::Look(8, 8), Call::Save(256, 0), Call::Load(1 << 32, Vec::new())]);
+            // An answer memory is lent to events alone, a record memory to looks.
+            made.retain(|call| match which {
+                3 => matches!(call, Call::Event(_)),
+                4 => matches!(call, Call::Look(..)),
+                _ => true,
+            });
+            let told = loan.text();
+            calls += refused(&loan, &made, which).map_err(|d| format!("{told}: {d}"))?;
         }
     }
     Ok(calls)
 }
 
-/// Event and fresh are refused, and all bytes stay; of the answer memory fresh knows nothing.
-fn refused(memories: &Memories, answer: usize, frame: &[u8]) -> Result<(), Difference> {
-    let mut host = Host::with_answer(memories, answer);
-    if !host.event(frame)?.is_empty() {
-        return Err("the event is answered".to_string());
-    }
-    if !host.holds(memories) {
-        return Err("the event changed a memory".to_string());
-    }
-    if answer == ANSWER_BYTES {
-        let status = host.fresh()?;
-        if status != UNSOUND {
-            return Err(format!("fresh: status {status}"));
-        }
-        if !host.holds(memories) {
-            return Err("fresh changed a memory".to_string());
+fn wrong_loan(good: &Memories, which: usize, random: &mut Random) -> Loan {
+    let mut loan = Loan { memories: good.clone(), answer: ANSWER_BYTES, record: BUFFER_BYTES };
+    let memories = &mut loan.memories;
+    let mut resize = |memory: &mut Vec<u8>| memory.resize(other_length(memory.len(), random), 0);
+    match which {
+        0 => resize(&mut memories.segment),
+        1 => resize(&mut memories.blocks),
+        2 => resize(&mut memories.buffers),
+        3 => loan.answer = other_length(ANSWER_BYTES, random),
+        4 => loan.record = other_length(BUFFER_BYTES, random),
+        _ => {
+            resize(&mut memories.segment);
+            resize(&mut memories.blocks);
+            resize(&mut memories.buffers);
         }
     }
-    Ok(())
+    loan
 }
 
-fn other_length(memory: &mut Vec<u8>, random: &mut Random) {
-    let right = memory.len();
-    let length = match random.below(10) {
+/// Each call is refused, and all bytes stay; so is fresh, which is lent the desk's memories alone.
+fn refused(loan: &Loan, calls: &[Call], which: usize) -> Result<u64, Difference> {
+    let mut host = Host::lending(&loan.memories, loan.answer, loan.record);
+    for call in calls {
+        let outcome = host.call(call)?;
+        if outcome != (Outcome { status: UNSOUND, bytes: Vec::new() }) {
+            return Err(format!("status {} by this call:\n{}", outcome.status, line(call)));
+        }
+        if !host.holds(&loan.memories) {
+            return Err(format!("a memory was changed by this call:\n{}", line(call)));
+        }
+    }
+    if which == 3 || which == 4 {
+        return Ok(calls.len() as u64);
+    }
+    let status = host.fresh()?;
+    if status != UNSOUND || !host.holds(&loan.memories) {
+        return Err(format!("fresh: status {status}, or it changed a memory"));
+    }
+    Ok(calls.len() as u64 + 1)
+}
+
+fn other_length(right: usize, random: &mut Random) -> usize {
+    match random.below(10) {
         0 => 0,
         1 => right - 1,
         2 => right + 1,
@@ -79,14 +100,16 @@ fn other_length(memory: &mut Vec<u8>, random: &mut Random) {
         7 => right % 256,
         8 => random.below(right),
         _ => right + random.between(1, 300),
-    };
-    memory.resize(length, 0);
+    }
 }
 
-fn lengths_text(memories: &Memories, answer: usize) -> String {
-    let Memories { segment, blocks, buffers } = memories;
-    let (segment, blocks, buffers) = (segment.len(), blocks.len(), buffers.len());
-    format!("lengths {segment}, {blocks}, {buffers}, answer {answer}")
+impl Loan {
+    fn text(&self) -> String {
+        let Memories { segment, blocks, buffers } = &self.memories;
+        let (segment, blocks, buffers) = (segment.len(), blocks.len(), buffers.len());
+        let (answer, record) = (self.answer, self.record);
+        format!("lengths {segment}, {blocks}, {buffers}, answer {answer}, record {record}")
+    }
 }
 
 /// Fresh asks nothing of the bytes, and leaves none of them.

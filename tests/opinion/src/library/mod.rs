@@ -1,10 +1,12 @@
-//! The library of the proved desk, linked, is held to the model: every answer, every byte of the
-//! memories it is lent, and the bytes around them.
+//! The library of the proved desk, linked, is held to the model: every answer, every record shown,
+//! every sheet, every byte of the memories it is lent, and the bytes around them.
 //!
-//! The library exports two calls, so a session has events alone.  Where memories are not sound by
-//! docs/SEGMENT.md, nothing at all may change; where they are, though no run reaches them, the
-//! model is started from them and has to be met too.
+//! Where memories are not sound by docs/SEGMENT.md, nothing at all may change; where they are,
+//! though no run reaches them, the model is started from them and has to be met too.
 
+mod abi;
+mod bad_sheets;
+mod caller;
 mod case;
 mod damage;
 mod frames;
@@ -12,12 +14,17 @@ mod header;
 mod host;
 mod lengths;
 mod lent;
+mod numbers;
+mod reached;
 mod sessions;
+mod sheets;
 mod tally;
 mod twin;
 
+use crate::generator::Call;
 use crate::model::desk::Desk;
 use crate::model::line::{digits, frame_of_line};
+use crate::session::{calls_of_text, line_of, memories_text};
 use case::Case;
 use host::Host;
 use std::io::Write;
@@ -39,6 +46,8 @@ pub fn compare_all(seed: u64, sessions: u64, calls: usize) -> bool {
         for_seeds("sessions", seed, sessions, |one, tally| sessions::session(one, calls, tally)),
         for_seeds("full", seed, few, |one, tally| sessions::full_session(one, calls, tally)),
         for_seeds("frames", seed, few, frames::all_frames),
+        for_seeds("numbers", seed, few, numbers::all_numbers),
+        for_seeds("sheets", seed, few, sheets::all_sheets),
         for_seeds("damage", seed, some, |one, tally| sessions::damaged_session(one, 10, tally)),
     ];
     parts.iter().all(|agrees| *agrees)
@@ -85,11 +94,28 @@ pub fn answer_lines(lines: &[Vec<u8>]) -> Vec<u8> {
     let mut host = Host::new(&Desk::fresh().memories());
     for line in lines {
         let frame = frame_of_line(line).unwrap_or_default();
-        match host.event(&frame) {
-            Ok(answer) => output.extend(digits(&answer)),
+        match host.call(&Call::Event(frame)) {
+            Ok(outcome) => output.extend(digits(&outcome.bytes)),
             Err(fault) => output.extend(fault.into_bytes()),
         }
         output.push(b'\n');
     }
     output
+}
+
+/// The calls of a session's text, answered by the library, and the memories they leave.
+pub fn replay_text(session: &str) -> String {
+    let mut text = String::new();
+    let mut host = Host::new(&Desk::fresh().memories());
+    for call in calls_of_text(session) {
+        match host.call(&call) {
+            Ok(outcome) => text.push_str(&line_of(&call, &outcome)),
+            Err(fault) => text.push_str(&format!("{fault}\n")),
+        }
+    }
+    match Desk::load_memories(&host.memories()) {
+        Ok(desk) => text.push_str(&memories_text(&desk)),
+        Err(why) => text.push_str(&format!("the memories are not sound: {why}\n")),
+    }
+    text
 }

@@ -1,21 +1,25 @@
 //! Random sessions: from a fresh desk, with every entry in use, and on memories changed behind
 //! the library's back.
 
+use super::caller::Caller;
 use super::case::{apply, Case};
 use super::damage::changes;
+use super::sheets::comes_back;
 use super::tally::Tally;
 use super::twin::Twin;
 use crate::generator::frames::{build_frame, control_frame, read_frame, write_frame};
 use crate::generator::random::Random;
-use crate::generator::{Call, Generator};
+use crate::generator::Call;
 use crate::model::desk::Desk;
+use crate::model::status::DONE;
+use crate::outcome::{make_call, Outcome};
 
-/// A session of so many events, now and then a long one; the case, if one is answered otherwise.
+/// A session of so many calls, now and then a long one; the case, if one is answered otherwise.
 pub fn session(seed: u64, calls: usize, tally: &mut Tally) -> Result<(), Case> {
     let calls = if seed % 25 == 0 { 10 * calls } else { calls };
     let mut twin = Twin::fresh().map_err(|_| Case::default())?;
-    let mut generator = Generator::new(seed);
-    play(Case::default(), &mut twin, &Desk::fresh(), &mut generator, calls, tally)
+    let mut caller = Caller::new(seed);
+    play(Case::default(), &mut twin, &Desk::fresh(), &mut caller, calls, tally)
 }
 
 /// A session that begins with a request and a timer at each of the 64 places: no entry is free.
@@ -23,12 +27,12 @@ pub fn full_session(seed: u64, calls: usize, tally: &mut Tally) -> Result<(), Ca
     let mut twin = Twin::fresh().map_err(|_| Case::default())?;
     let mut case = Case::default();
     for frame in full_house(&mut Random::new(seed)) {
-        send(frame, &mut case, &mut twin, tally)?;
+        send(Call::Event(frame), &mut case, &mut twin, tally)?;
     }
     let free = twin.model().map_or(0, |desk| desk.entries.free.len());
     assert!(free == 0, "the house is not full: {free} entries are free");
-    let mut generator = Generator::new(seed).at_all_files();
-    play(case, &mut twin, &Desk::fresh(), &mut generator, calls, tally)
+    let mut caller = Caller::new(seed).at_all_files();
+    play(case, &mut twin, &Desk::fresh(), &mut caller, calls, tally)
 }
 
 /// Eight waiting readers or eight waiting writers a file, each with a timeout.
@@ -53,17 +57,17 @@ fn full_house(random: &mut Random) -> Vec<Vec<u8>> {
     frames
 }
 
-/// A desk reached by some events, bytes of it changed, and a few calls on what that makes.
+/// A desk reached by some calls, bytes of it changed, and a few calls on what that makes.
 pub fn damaged_session(seed: u64, rounds: usize, tally: &mut Tally) -> Result<(), Case> {
-    let mut generator = Generator::new(seed);
+    let mut caller = Caller::new(seed);
     let mut random = Random::new(seed.wrapping_add(1 << 32));
     let mut desk = Desk::fresh();
     let mut before = Vec::new();
     for _ in 0..rounds {
         for _ in 0..random.between(1, 30) {
-            let frame = next_frame(&desk, &mut generator);
-            desk.event(&frame);
-            before.push(frame);
+            let call = caller.next(&desk);
+            make_call(&mut desk, &call);
+            before.push(call);
         }
         let reached = desk.memories();
         for _ in 0..8 {
@@ -72,26 +76,29 @@ pub fn damaged_session(seed: u64, rounds: usize, tally: &mut Tally) -> Result<()
             apply(&changes, &mut memories);
             let mut twin = Twin::of(&memories);
             tally.memory(twin.model().err());
-            let case = Case { before: before.clone(), changes, frames: Vec::new() };
+            let mut case = Case { before: before.clone(), changes, calls: Vec::new() };
+            for call in caller.one_of_each(twin.model().unwrap_or(&desk)) {
+                step(call, &mut case, &mut twin, tally)?;
+            }
             let calls = if twin.model().is_ok() { 6 } else { 2 };
-            play(case, &mut twin, &desk, &mut generator, calls, tally)?;
+            play(case, &mut twin, &desk, &mut caller, calls, tally)?;
         }
     }
     Ok(())
 }
 
-/// Sends events to both; where the memories are not sound, those that `desk` would be sent.
+/// Makes calls on both; where the memories are not sound, those that `desk` would be asked.
 fn play(
     mut case: Case,
     twin: &mut Twin,
     desk: &Desk,
-    generator: &mut Generator,
+    caller: &mut Caller,
     calls: usize,
     tally: &mut Tally,
 ) -> Result<(), Case> {
     for _ in 0..calls {
-        let frame = next_frame(twin.model().unwrap_or(desk), generator);
-        send(frame, &mut case, twin, tally)?;
+        let call = caller.next(twin.model().unwrap_or(desk));
+        step(call, &mut case, twin, tally)?;
     }
     if let Ok(desk) = twin.model() {
         tally.notes(desk);
@@ -99,19 +106,28 @@ fn play(
     Ok(())
 }
 
-/// One more frame of a case, to both.
-fn send(frame: Vec<u8>, case: &mut Case, twin: &mut Twin, tally: &mut Tally) -> Result<(), Case> {
-    let answer = twin.event(&frame);
-    case.frames.push(frame);
-    tally.answer(&answer.map_err(|_| case.clone())?);
-    Ok(())
+/// One more call of a case; a sheet that it saves comes back.
+fn step(call: Call, case: &mut Case, twin: &mut Twin, tally: &mut Tally) -> Result<(), Case> {
+    let saved = match call {
+        Call::Save(file, _) => Some(file),
+        _ => None,
+    };
+    let outcome = send(call, case, twin, tally)?;
+    match saved {
+        Some(file) if outcome.status == DONE => comes_back(&outcome.bytes, file, tally),
+        _ => Ok(()),
+    }
 }
 
-/// The generator's next event: the library exports no other call.
-pub fn next_frame(desk: &Desk, generator: &mut Generator) -> Vec<u8> {
-    loop {
-        if let Call::Event(frame) = generator.next_call(desk) {
-            return frame;
-        }
-    }
+/// One more call of a case, on both.
+pub fn send(
+    call: Call,
+    case: &mut Case,
+    twin: &mut Twin,
+    tally: &mut Tally,
+) -> Result<Outcome, Case> {
+    case.calls.push(call.clone());
+    let outcome = twin.call(&call).map_err(|_| case.clone())?;
+    tally.call(&call, &outcome);
+    Ok(outcome)
 }

@@ -1,23 +1,29 @@
 //! How many calls were compared, and what was answered.
 
+use crate::generator::Call;
 use crate::model::desk::Desk;
 use crate::model::loading::Unsound;
+use crate::outcome::Outcome;
 use std::collections::{BTreeMap, BTreeSet};
 
 #[derive(Default)]
 pub struct Tally {
-    calls: u64,
-    statuses: BTreeMap<u8, u64>,
+    /// By kind of call: how often each status.
+    calls: BTreeMap<&'static str, BTreeMap<u8, u64>>,
     sound: u64,
     unsound: BTreeMap<Unsound, u64>,
     notes: BTreeSet<&'static str>,
 }
 
 impl Tally {
-    pub fn answer(&mut self, answer: &[u8]) {
-        self.calls += 1;
-        let status = answer.get(1).copied().unwrap_or(super::UNSOUND);
-        *self.statuses.entry(status).or_insert(0) += 1;
+    pub fn call(&mut self, call: &Call, outcome: &Outcome) {
+        let kind = match call {
+            Call::Event(_) => "event",
+            Call::Look(..) => "look",
+            Call::Save(..) => "save",
+            Call::Load(..) => "load",
+        };
+        *self.calls.entry(kind).or_default().entry(outcome.status).or_insert(0) += 1;
     }
 
     /// A memory that was changed, and why it is not sound, if it is not.
@@ -34,8 +40,7 @@ impl Tally {
     }
 
     pub fn text(&self) -> String {
-        let each: Vec<String> =
-            self.statuses.iter().map(|(status, times)| format!("{status}: {times}")).collect();
+        let all: u64 = self.calls.values().flat_map(|statuses| statuses.values()).sum();
         let unsound: u64 = self.unsound.values().sum();
         let reasons = self.unsound.len();
         let memories = match self.sound + unsound {
@@ -46,6 +51,15 @@ impl Tally {
             0 => String::new(),
             n => format!(", {n} things of note"),
         };
-        format!("{memories}{} calls{notes} (by status {})", self.calls, each.join(", "))
+        let kinds: Vec<String> =
+            self.calls.iter().map(|(kind, statuses)| kind_text(kind, statuses)).collect();
+        format!("{memories}{all} calls{notes}, by status: {}", kinds.join("; "))
     }
+}
+
+/// `save 12 (0: 9, 44: 3)`.
+fn kind_text(kind: &str, statuses: &BTreeMap<u8, u64>) -> String {
+    let each: Vec<String> =
+        statuses.iter().map(|(status, times)| format!("{status}: {times}")).collect();
+    format!("{kind} {} ({})", statuses.values().sum::<u64>(), each.join(", "))
 }

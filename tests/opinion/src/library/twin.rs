@@ -2,12 +2,15 @@
 //! compared.
 
 use super::host::Host;
+use super::UNSOUND;
+use crate::generator::Call;
 use crate::model::desk::Desk;
 use crate::model::limits::{BUFFER_BYTES, PLACES, SHARE_BYTES};
-use crate::model::line::digits;
 use crate::model::loading::Unsound;
 use crate::model::segment::{file_row, place_row, Memories, ENTRY_WORDS, LISTS, ROW_WORDS};
-use crate::model::status::DONE;
+use crate::model::status::{DONE, LEAST_REFUSAL};
+use crate::outcome::{make_call, Outcome};
+use crate::session::hex;
 
 /// How the two differ.
 pub type Difference = String;
@@ -63,22 +66,31 @@ impl Twin {
         self.memories = memories.clone();
     }
 
-    /// Makes a call on both; the answer, or how the two differ.
-    pub fn event(&mut self, frame: &[u8]) -> Result<Vec<u8>, Difference> {
-        let expected = match &mut self.model {
-            Ok(desk) => {
-                let answer = desk.event(frame);
-                self.memories = desk.memories_over(&self.memories);
-                answer
-            }
-            Err(_) => Vec::new(),
-        };
-        let answer = self.host.event(frame)?;
-        if answer != expected {
-            return Err(format!("answer: library {}, model {}", text(&answer), text(&expected)));
+    /// Makes a call on both; what it gives, or how the two differ.
+    pub fn call(&mut self, call: &Call) -> Result<Outcome, Difference> {
+        let expected = self.expected(call);
+        let outcome = self.host.call(call)?;
+        if outcome != expected {
+            let (one, other) = (outcome_text(call, &outcome), outcome_text(call, &expected));
+            return Err(format!("library {one}, model {other}"));
         }
         self.compare_memories()?;
-        Ok(answer)
+        Ok(outcome)
+    }
+
+    /// What the model gives; where the memories are not sound, that they are not.
+    fn expected(&mut self, call: &Call) -> Outcome {
+        match &mut self.model {
+            Ok(desk) => {
+                let outcome = make_call(desk, call);
+                let reads_only = matches!(call, Call::Look(..) | Call::Save(..));
+                if !reads_only && outcome.status < LEAST_REFUSAL {
+                    self.memories = desk.memories_over(&self.memories);
+                }
+                outcome
+            }
+            Err(_) => Outcome { status: UNSOUND, bytes: Vec::new() },
+        }
     }
 
     fn compare_memories(&self) -> Result<(), Difference> {
@@ -134,10 +146,21 @@ fn segment_place(at: usize) -> String {
     format!("segment, byte {at}: {what}")
 }
 
-/// Digits, or a word for no bytes.
-pub fn text(bytes: &[u8]) -> String {
-    match bytes {
-        [] => "none (29)".to_string(),
-        _ => String::from_utf8_lossy(&digits(bytes)).into_owned(),
+/// The answer's digits; of other calls the status and what goes with it.
+fn outcome_text(call: &Call, outcome: &Outcome) -> String {
+    let Outcome { status, bytes } = outcome;
+    match call {
+        Call::Event(_) if bytes.is_empty() => "no answer (29)".to_string(),
+        Call::Event(_) => format!("answer {}", hex(bytes)),
+        Call::Save(..) => format!("status {status}, {} bytes: {}", bytes.len(), text(bytes)),
+        Call::Look(..) => format!("status {status}, {} bytes: {}", bytes.len(), hex(bytes)),
+        Call::Load(..) => format!("status {status}"),
     }
+}
+
+/// A sheet's text, or another, on one line; / for LF.
+pub fn text(bytes: &[u8]) -> String {
+    let lines: Vec<String> =
+        bytes.split(|b| *b == b'\n').map(|line| line.escape_ascii().to_string()).collect();
+    lines.join("/")
 }

@@ -9,7 +9,7 @@ use super::status::{Answer, DONE, END_OF_FILE, OUTSTANDING, TIMED_OUT};
 impl Desk {
     pub(super) fn close(&mut self, file: u8, accessor: u8) -> Answer {
         let (f, entries) = self.file_and_entries(file)?;
-        let place = f.open_place(accessor)?;
+        let place = f.open_place(accessor.into())?;
         // 33: close with a completed request uncollected.
         if f.accessor(place).has_completed() {
             return Err(OUTSTANDING);

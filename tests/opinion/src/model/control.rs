@@ -9,7 +9,7 @@ use super::status::{NOTHING_THERE, OUTSTANDING, OUT_OF_RANGE, WRONG_SIDE};
 impl Desk {
     pub(super) fn control(&mut self, file: u8, accessor: u8, code: u8, param: u16) -> Answer {
         let (f, entries) = self.file_and_entries(file)?;
-        let place = f.open_place(accessor)?;
+        let place = f.open_place(accessor.into())?;
         if code == 43 {
             return abort(f, place, entries);
         }

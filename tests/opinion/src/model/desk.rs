@@ -32,17 +32,17 @@ impl Desk {
     }
 
     /// 31: file above 7 or not built, for calls that change nothing.
-    pub fn built(&self, file: u8) -> Result<&MessageFile, u8> {
-        match self.files.get(usize::from(file)) {
+    pub fn built(&self, file: usize) -> Result<&MessageFile, u8> {
+        match self.files.get(file) {
             Some(Some(built)) => Ok(built),
             _ => Err(NO_FILE),
         }
     }
 
     /// 31 for build and load: file above 7 or already built.
-    pub(super) fn not_yet_built(&self, file: u8) -> Result<usize, u8> {
-        match self.files.get(usize::from(file)) {
-            Some(None) => Ok(usize::from(file)),
+    pub(super) fn not_yet_built(&self, file: usize) -> Result<usize, u8> {
+        match self.files.get(file) {
+            Some(None) => Ok(file),
             _ => Err(NO_FILE),
         }
     }

@@ -89,8 +89,7 @@ impl MessageFile {
     }
 
     /// 32: accessor not open (a place above 7 too: docs/DECISIONS.md, R4).
-    pub(super) fn open_place(&self, accessor: u8) -> Result<usize, u8> {
-        let place = usize::from(accessor);
+    pub(super) fn open_place(&self, place: usize) -> Result<usize, u8> {
         if place < PLACES && self.accessors[place].is_some() {
             Ok(place)
         } else {

@@ -8,3 +8,6 @@ pub const ANSWER_BYTES: usize = 264;
 pub const ENTRIES: u16 = 128;
 /// A line carries at most 261 bytes.
 pub const LINE_BYTES: usize = 261;
+/// No sheet is longer.
+#[cfg(any(test, feature = "library"))]
+pub const SHEET_BYTES: usize = 8192;

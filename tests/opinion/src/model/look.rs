@@ -8,7 +8,7 @@ use super::word::word;
 
 impl Desk {
     pub(super) fn counts(&self, file: u8) -> Answer {
-        let f = self.built(file)?;
+        let f = self.built(file.into())?;
         let data = f.records().filter(|r| r.kind == TYPE_DATA).count();
         let all = f.records().count();
         let numbers = [data, all, f.writers(), f.readers()];
@@ -16,14 +16,14 @@ impl Desk {
     }
 
     /// The record in the reader's buffer, else the data of the file's oldest data record.
-    pub fn look(&self, file: u8, reader: u8) -> (u8, Vec<u8>) {
+    pub fn look(&self, file: usize, reader: usize) -> (u8, Vec<u8>) {
         match self.looked_at(file, reader) {
             Ok(bytes) => (DONE, bytes),
             Err(refusal) => (refusal, Vec::new()),
         }
     }
 
-    fn looked_at(&self, file: u8, reader: u8) -> Result<Vec<u8>, u8> {
+    fn looked_at(&self, file: usize, reader: usize) -> Result<Vec<u8>, u8> {
         let f = self.built(file)?;
         let accessor = f.accessor(f.open_place(reader)?);
         // 34: look by a writer.

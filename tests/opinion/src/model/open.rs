@@ -10,7 +10,7 @@ use super::word::word;
 
 impl Desk {
     pub(super) fn build(&mut self, file: u8, r: usize, b: usize, n: usize, x: usize) -> Answer {
-        let index = self.not_yet_built(file)?;
+        let index = self.not_yet_built(file.into())?;
         let in_range = (1..=128).contains(&r)
             && (1..=16).contains(&b)
             && (1..=2000).contains(&n)

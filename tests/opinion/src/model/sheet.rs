@@ -10,7 +10,7 @@ use super::word::{number, word};
 
 impl Desk {
     /// The sheet, if the output has room for it.
-    pub fn save(&self, file: u8, room: usize) -> (u8, Vec<u8>) {
+    pub fn save(&self, file: usize, room: usize) -> (u8, Vec<u8>) {
         let f = match self.built(file) {
             Ok(f) => f,
             Err(refusal) => return (refusal, Vec::new()),
@@ -24,7 +24,7 @@ impl Desk {
     }
 
     /// Packs a sheet's records from the share's first block, with no accessor.
-    pub fn load(&mut self, file: u8, text: &[u8]) -> u8 {
+    pub fn load(&mut self, file: usize, text: &[u8]) -> u8 {
         let before = if cfg!(debug_assertions) { Some(self.clone()) } else { None };
         let status = self.try_load(file, text).err().unwrap_or(DONE);
         if let Some(before) = before {
@@ -34,7 +34,7 @@ impl Desk {
         status
     }
 
-    fn try_load(&mut self, file: u8, text: &[u8]) -> Result<(), u8> {
+    fn try_load(&mut self, file: usize, text: &[u8]) -> Result<(), u8> {
         let index = self.not_yet_built(file)?;
         let (geometry, records) = read_sheet(text).ok_or(NOT_A_SHEET)?;
         let mut f = MessageFile::new(index, geometry);

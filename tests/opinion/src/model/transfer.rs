@@ -11,7 +11,7 @@ use super::word::word;
 impl Desk {
     pub(super) fn read(&mut self, file: u8, accessor: u8, count: Count) -> Answer {
         let (f, entries) = self.file_and_entries(file)?;
-        let place = f.open_place(accessor)?;
+        let place = f.open_place(accessor.into())?;
         let reader = f.accessor_mut(place);
         // 33: one outstanding request per accessor, until collected.
         if reader.request.is_some() {
@@ -57,7 +57,7 @@ impl Desk {
 
     pub(super) fn write(&mut self, file: u8, accessor: u8, count: Count, data: &[u8]) -> Answer {
         let (f, entries) = self.file_and_entries(file)?;
-        let place = f.open_place(accessor)?;
+        let place = f.open_place(accessor.into())?;
         let largest = 2 * f.geometry.record_words;
         let writer = f.accessor_mut(place);
         // 33: one outstanding request per accessor, until collected.
@@ -93,7 +93,7 @@ impl Desk {
 
     pub(super) fn collect(&mut self, file: u8, accessor: u8) -> Answer {
         let (f, entries) = self.file_and_entries(file)?;
-        let place = f.open_place(accessor)?;
+        let place = f.open_place(accessor.into())?;
         let accessor = f.accessor_mut(place);
         // Collect of a waiting request answers 1.
         if accessor.has_waiting() {

@@ -5,7 +5,8 @@ use crate::generator::Generator;
 use crate::model::desk::Desk;
 use crate::model::segment::{entry_word, file_row, place_row, Memories, SEGMENT_BYTES};
 use crate::model::word::word_at;
-use crate::session::{make_call, next_call};
+use crate::outcome::make_call;
+use crate::session::next_call;
 
 fn words(memories: &Memories, at: usize, n: usize) -> Vec<usize> {
     (at..at + n).map(|word| word_at(&memories.segment, 2 * word)).collect()

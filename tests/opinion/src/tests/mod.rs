@@ -30,7 +30,7 @@ fn free_front(desk: &Desk, n: usize) -> Vec<u16> {
     desk.lists()[0][..n].to_vec()
 }
 
-fn saved(desk: &Desk, file: u8) -> String {
+fn saved(desk: &Desk, file: usize) -> String {
     let (status, text) = desk.save(file, 100_000);
     assert_eq!(status, DONE);
     String::from_utf8(text).unwrap()

@@ -46,3 +46,13 @@ fn lowest_refusal_first() {
     assert_eq!(desk.look(1, 2).0, NO_FILE);
     assert_eq!(desk.look(0, 1), (DONE, b"ABCD".to_vec()));
 }
+
+#[test]
+fn numbers_are_not_cut_to_bytes() {
+    let mut desk = after(&WORKED[..5]);
+    assert_eq!(desk.look(0, 1).0, DONE);
+    assert_eq!(desk.look(256, 1).0, NO_FILE);
+    assert_eq!(desk.look(0, 257).0, NOT_OPEN);
+    assert_eq!(desk.save(256, 9999), (NO_FILE, Vec::new()));
+    assert_eq!(desk.load(257, b"01008001000F0000\n"), NO_FILE);
+}

@@ -2,6 +2,9 @@
 
 use super::{saved, talk};
 use crate::model::desk::Desk;
+use crate::model::geometry::Geometry;
+use crate::model::limits::SHEET_BYTES;
+use crate::model::sheet::{sheet_head, sheet_text};
 use crate::model::status::{DONE, NOT_A_SHEET, NO_FILE};
 
 #[test]
@@ -51,4 +54,25 @@ fn texts_that_are_not_sheets() {
         assert_eq!(Desk::fresh().load(0, text), NOT_A_SHEET, "{}", String::from_utf8_lossy(text));
     }
     assert_eq!(Desk::fresh().load(0, b"01008001000F0000\n"), DONE);
+}
+
+/// A file full of records of 2R bytes, in as many blocks as there can be.
+fn full(r: usize, b: usize) -> Geometry {
+    let one = Geometry { record_words: r, blocking: b, data_blocks: 1 };
+    Geometry { data_blocks: 2048 / one.block_words(), ..one }
+}
+
+#[test]
+fn no_sheet_is_longer_than_its_memory() {
+    // Two digits a byte, and LF: 8 bytes of head, 4 + 2R a record.
+    let length = |r: usize, b: usize| 17 + full(r, b).capacity() * (9 + 4 * r);
+    let all = (1..=128).flat_map(|r| (1..=16).map(move |b| (length(r, b), r, b)));
+    assert_eq!(all.max(), Some((8117, 99, 10)));
+    assert!(8117 <= SHEET_BYTES);
+    let mut frames = vec![sheet_head(&full(99, 10), 20)];
+    frames.resize(21, [vec![0, 0, 0, 1], vec![0xA5; 198]].concat());
+    let text = sheet_text(&frames);
+    let mut desk = Desk::fresh();
+    assert_eq!((text.len(), desk.load(7, &text)), (8117, DONE));
+    assert_eq!(saved(&desk, 7).as_bytes(), text);
 }

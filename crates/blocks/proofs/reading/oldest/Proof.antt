@@ -1,4 +1,5 @@
-use Rattle.blocks.proofs.reading.Walk.{at-same, at-none, Walk, oldest-none, walk-start, walk-inside, walk-readable, walk-found, walk-on}
+use Rattle.blocks.proofs.reading.Round.{round-inside, round-readable}
+use Rattle.blocks.proofs.reading.Walk.{at-same, at-none, Walk, oldest-none, walk-start, walk-found, walk-on}
 use mathlib.Core.Path.{sym, _∙_}
 use borrow.Author.Needs.{needs}
 use Rattle.blocks.proofs.reading.oldest.Statement.{statement}
@@ -27,22 +28,22 @@ loop-holds : tie.Need-loop-holds Inv-loop μ-loop
 loop-holds c = walk-start _ _ _ (c .before .before .before .pre .0 .1) _ _ (c .before .head .ensures) (c .record-at .ensures)
 
 add-get : tie.Need-add-get Inv-loop μ-loop
-add-get c = let h = walk-readable _ _ _ (c .before .before .before .before .before .pre .0 .1) _ _ _ (c .before .loop .inv) (c .loop-test .taken) (c .before .before .before .before .before .pre .1) in search needs
+add-get c = let h = round-readable _ _ _ (c .before .before .before .before .before .pre .0 .1) _ _ _ (c .before .loop .inv .round) (c .loop-test .taken) (c .before .before .before .before .before .pre .1) in search needs
 
 get-requires : tie.Need-get-requires Inv-loop μ-loop
-get-requires c κs = let h = walk-readable _ _ _ (c .before .before .before .before .before .pre .0 .1) _ _ _ (c .before .loop .inv) (c .loop-test .taken) (c .before .before .before .before .before .pre .1) in search needs
+get-requires c κs = let h = round-readable _ _ _ (c .before .before .before .before .before .pre .0 .1) _ _ _ (c .before .loop .inv .round) (c .loop-test .taken) (c .before .before .before .before .before .pre .1) in search needs
 
 returns : tie.Need-returns Inv-loop μ-loop
 returns c = (
   sym (walk-found _ _ _ (c .before .before .before .before .before .before .before .pre .0 .1) _ _ _ (c .before .before .before .loop .inv) (c .before .before .loop-test .taken) (sym (c .before .get .ensures) ∙ c .if1 .taken)),
-  λ p e. rw (← at-same _ _ e) (walk-readable _ _ _ (c .before .before .before .before .before .before .before .pre .0 .1) _ _ _ (c .before .before .before .loop .inv) (c .before .before .loop-test .taken) (c .before .before .before .before .before .before .before .pre .1)),
+  λ p e. rw (← at-same _ _ e) (round-readable _ _ _ (c .before .before .before .before .before .before .before .pre .0 .1) _ _ _ (c .before .before .before .loop .inv .round) (c .before .before .loop-test .taken) (c .before .before .before .before .before .before .before .pre .1)),
 )
 
 onward-requires : tie.Need-onward-requires Inv-loop μ-loop
-onward-requires c κs = walk-inside _ _ _ (c .before .before .before .before .before .before .before .pre .0 .1) _ _ _ (c .before .before .before .loop .inv) (c .before .before .loop-test .taken)
+onward-requires c κs = round-inside _ _ _ (c .before .before .before .before .before .before .before .pre .0 .1) _ _ _ (c .before .before .before .loop .inv .round) (c .before .before .loop-test .taken)
 
 onward-requires-2 : tie.Need-onward-requires-2 Inv-loop μ-loop
-onward-requires-2 c κs = let h = walk-readable _ _ _ (c .before .before .before .before .before .before .before .before .pre .0 .1) _ _ _ (c .before .before .before .before .loop .inv) (c .before .before .before .loop-test .taken) (c .before .before .before .before .before .before .before .before .pre .1) in search needs
+onward-requires-2 c κs = let h = round-readable _ _ _ (c .before .before .before .before .before .before .before .before .pre .0 .1) _ _ _ (c .before .before .before .before .loop .inv .round) (c .before .before .before .loop-test .taken) (c .before .before .before .before .before .before .before .before .pre .1) in search needs
 
 sub-left : tie.Need-sub-left Inv-loop μ-loop
 sub-left c = search needs

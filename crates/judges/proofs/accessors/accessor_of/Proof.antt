@@ -22,11 +22,11 @@ returns-2 c = rw (← c .before .before .words-of .ensures, ne-eqb _ _ (c .befor
 
 -- src/accessors.rt:49:45
 mul-place-side : tie.Need-mul-place-side
-mul-place-side c = search needs
+mul-place-side c = let h = words-low _ _ _ (c .before .before .words-of .ensures) (c .before .if1 .left) in search needs
 
 -- src/accessors.rt:49:45
 add-place-side : tie.Need-add-place-side
-add-place-side c = search needs
+add-place-side c = let h = words-low _ _ _ (c .before .before .words-of .ensures) (c .before .if1 .left) in search needs
 
 -- src/accessors.rt:49:9
 place-side-requires : tie.Need-place-side-requires

@@ -1,24 +1,15 @@
-use Rattle.looking.proofs.Readers.{named-same, refused-finds, opens}
+use Rattle.looking.proofs.Readers.{refused-finds, opens}
 use borrow.Author.Needs.{needs}
 use Rattle.looking.proofs.finding.find.Statement.{statement}
 use Rattle.looking.proofs.finding.find.Tie as tie
 use Rattle.looking.proofs.finding.find.Reads as reads
 use Rattle.looking.proofs.finding.find.Lts as lts
 use Rattle.judges.proofs.accessors.accessor_of.Reads as accessor-of-reads
-use Rattle.looking.proofs.finding.number.Reads as number-reads
 use Rattle.looking.proofs.finding.of_accessor.Reads as of-accessor-reads
-
--- src/finding.rt:109:38
-number-requires : tie.Need-number-requires
-number-requires c κs = search needs
-
--- src/finding.rt:109:52
-number-requires-2 : tie.Need-number-requires-2
-number-requires-2 c κs = search needs
 
 -- src/finding.rt:109:9
 accessor-of-requires : tie.Need-accessor-of-requires
-accessor-of-requires c κs = c .before .before .before .before .pre .1 .2 .stands .segment .size
+accessor-of-requires c κs = c .before .before .pre .1 .2 .stands .segment .size
 
 -- src/finding.rt:111:27
 enum-known-named : tie.Need-enum-known-named
@@ -30,11 +21,11 @@ enum-known-named-2 c = search needs
 
 -- src/finding.rt:116:14
 of-accessor-requires : tie.Need-of-accessor-requires
-of-accessor-requires c κs = opens _ _ _ _ _ (named-same _ _ _ _ _ (c .before .before .before .before .before .number .ensures) (c .before .before .before .before .number2 .ensures) _ (c .before .before .before .accessor-of .ensures)) (c .before .before .before .before .before .before .before .before .pre) _ _ _ (c .before .named2 .given .1)
+of-accessor-requires c κs = opens _ _ _ _ _ (c .before .before .before .accessor-of .ensures) (c .before .before .before .before .before .before .pre) _ _ _ (c .before .named2 .given .1)
 
 -- src/finding.rt:105:1
 returns : tie.Need-returns
-returns c = refused-finds _ _ _ _ _ (named-same _ _ _ _ _ (c .before .before .before .before .before .number .ensures) (c .before .before .before .before .number2 .ensures) _ (c .before .before .before .accessor-of .ensures)) _ (c .before .named .given .1)
+returns c = refused-finds _ _ _ _ _ (c .before .before .before .accessor-of .ensures) _ (c .before .named .given .1)
 
 -- src/finding.rt:105:1
 returns-2 : tie.Need-returns-2
@@ -44,8 +35,6 @@ pub find-spec : {M : Type 1} → statement M
 find-spec =
     tie.close
     (tie.spec
-    number-requires
-    number-requires-2
     accessor-of-requires
     enum-known-named
     enum-known-named-2

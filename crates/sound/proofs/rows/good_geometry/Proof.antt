@@ -34,6 +34,10 @@ returns-4 c = rw (le-leb _ _ (c .before .before .before .if1 .left), le-leb _ _ 
 mul-if5 : tie.Need-mul-if5
 mul-if5 c = omega (arith, product-most (c .before .before .before .before .args .factor) (c .before .before .before .before .args .blocks) 16 65535 (omega arith) (omega arith))
 
+-- src/rows.rt:70:50
+cast-if5 : tie.Need-cast-if5
+cast-if5 c = search needs
+
 -- src/rows.rt:71:9
 returns-5 : tie.Need-returns-5
 unfolding goodGeo within capacity
@@ -61,6 +65,7 @@ good-geometry-spec =
     returns-3
     returns-4
     mul-if5
+    cast-if5
     returns-5
     cast-fits-share
     fits-share-requires

@@ -1,8 +1,8 @@
 use native.Mathlib.Omega.{arith}
-use Rattle.lines.proofs.Parts.{line-printed}
+use Rattle.hex.proofs.Printed.{line-printed}
 use borrow.Author.Needs.{needs}
-use Rattle.lines.proofs.print_line.Statement.{statement}
-use Rattle.lines.proofs.print_line.Tie as tie
+use Rattle.hex.proofs.line.Statement.{statement}
+use Rattle.hex.proofs.line.Tie as tie
 
 sub-encode : tie.Need-sub-encode
 sub-encode c = search needs
@@ -31,8 +31,8 @@ same-length c = search needs
 returns : tie.Need-returns
 returns c = (omega arith, line-printed _ (c .before .before .before .before .before .before .args .out .now) _ _ _ (c .before .before .encode .ensures .0) (c .before .before .before .before .before .before .pre) (c .before .before .encode .ensures .1))
 
-pub print-line-spec : {M : Type 1} → statement M
-print-line-spec =
+pub line-spec : {M : Type 1} → statement M
+line-spec =
     tie.close
     (tie.spec
     sub-encode

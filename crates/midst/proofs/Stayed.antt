@@ -1,35 +1,30 @@
 -- The memories behind an accepted call of a file, behind a passage of time, and behind a refused call are those of the rules' desk.
 use Prim.Native.Nat.{ℕ, zero, suc, _<_}
-use mathlib.Core.Path.{_≡_, refl, sym, ap, _∙_, subst}
+use mathlib.Core.Path.{_≡_, refl, sym, ap, _∙_}
 use mathlib.Core.Bool.{Bool, true, false, true≢false}
 use mathlib.Core.List.{List, [], _∷_, map}
-use mathlib.Core.Option.{Option}
 use native.Mathlib.Decide.{ℕ-discrete}
-use lib.Dec.{ltb}
-use lib.ListN.{length, set}
+use lib.ListN.{set}
 use borrow.Author.Tests.{lt-ltb}
 use Rattle.rules.specs.Limits.{files}
 use Rattle.rules.specs.State.{Built, File, unbuilt, built}
-use Rattle.rules.specs.Reply.{Reply, answers, Out, hushed, leaves, done, unmade}
+use Rattle.rules.specs.Reply.{answers, Out, hushed, leaves, done, unmade}
 use Rattle.rules.specs.Close.{timePasses}
 use Rattle.rules.specs.Calls.{Ask, askBuilt, ask}
-use Rattle.rules.specs.Desk.{Desk, Call, Asked, on, time, bad, asked, fileOf, fileTime, Responded, answered, respond, happens}
+use Rattle.rules.specs.Desk.{Desk, Call, on, time, asked, fileOf, fileTime, Responded, answered, respond, happens}
 use Rattle.rules.specs.Allocation.{Alloc, allotAll, allocTime, allocAsked}
 use Rattle.laws.specs.Runs.{Proper}
 use Rattle.laws.specs.Changes.{Walks}
-use Rattle.laws.proofs.Proper.{ProperAsked, asked-proper}
+use Rattle.laws.proofs.Proper.{asked-proper}
 use Rattle.laws.proofs.Lift.{Any, any}
 use Rattle.laws.proofs.Calls.{walked}
 use Rattle.laws.proofs.Allocated.{happens-here}
 use Rattle.laws.proofs.Allocated as laws
 use Rattle.memory.specs.Stands.{Stands, shareAt, buffersAt}
-use Rattle.memory.specs.Covers.{Alike}
 use Rattle.memory.specs.Fine.{StandsFor}
-use Rattle.midst.specs.Mid.{Apart}
-use Rattle.midst.specs.Outcome.{Outcome, refusalOf}
-use Rattle.midst.proofs.Alike.{file-set, file-other}
+use Rattle.midst.specs.Outcome.{Outcome, Stays}
+use Rattle.midst.proofs.Alike.{file-set}
 use Rattle.midst.proofs.Keeps.{answered-fine}
-use Rattle.desk.specs.Answered.{Stays}
 
 -- what is built stays built
 

@@ -1,0 +1,140 @@
+-- What load leaves: nothing changed, or the file that the sheet says.
+use Prim.Native.Nat.{ℕ, _*_, _≤_, _<_}
+use mathlib.Core.Path.{_≡_, refl, sym, ap, subst, _∙_}
+use mathlib.Core.Bool.{cond}
+use mathlib.Core.List.{List, []}
+use mathlib.Core.Logic.{_⊎_, inl, inr}
+use mathlib.Core.Option.{Option, none, some}
+use native.Mathlib.Omega.{arith}
+use lib.Dec.{ltb}
+use lib.ListN.{length}
+use lib.Seq.{sets}
+use borrow.Author.Tests.{le-ltb, ne-eqb}
+use Rattle.words.specs.Word.{zeros}
+use Rattle.segment.specs.Layout.{segmentBytes, rowAt, fileRow}
+use Rattle.segment.specs.Table.{fill}
+use Rattle.rules.specs.Limits.{files, places, shareBytes, bufferBytes, leastRefusal}
+use Rattle.rules.specs.State.{puts, Store, File, unbuilt}
+use Rattle.rules.specs.Store.{emptyStore, putAll}
+use Rattle.rules.specs.Requests.{say}
+use Rattle.rules.specs.Reply.{shows, Out, hushed, leaves}
+use Rattle.rules.specs.Open.{newFile}
+use Rattle.rules.specs.Sheet.{Sheet, readSheet, loaded}
+use Rattle.rules.specs.Sheet as sheets
+use Rattle.rules.specs.Calls.{askUnbuilt, ask}
+use Rattle.rules.specs.Calls as calls
+use Rattle.rules.specs.Desk.{Desk, load, asked, fileOf, respond}
+use Rattle.rules.specs.Allocation.{Alloc, allotAll}
+use Rattle.shares.proofs.PutAll.{holds-loaded}
+use Rattle.laws.proofs.Made.{sheet-good}
+use Rattle.laws.proofs.Midst.{allotAll-quiet}
+use Rattle.laws.proofs.Comes.{puts-quiet}
+use Rattle.laws.proofs.Room.{good-sized, small}
+use Rattle.blocks.specs.Memory.{blocksBytes}
+use Rattle.memory.specs.Image.{fileWords}
+use Rattle.memory.specs.Stands.{Bytes}
+use Rattle.memory.specs.Fine.{StandsFor}
+use Rattle.midst.specs.declared.File as hand
+use Rattle.midst.specs.File.{fileRowWords, inHand}
+use Rattle.midst.specs.Outcome.{replyStatus, refusalOf, Outcome, Stays}
+use Rattle.midst.proofs.Refused.{stands-refused}
+use Rattle.midst.proofs.New.{made}
+use Rattle.midst.proofs.Stayed.{Built′, outcome-stays, still-stays}
+use Rattle.shows.specs.Seen.{Seen, unsound, stands, replyOf}
+use Rattle.shows.specs.Sheets.{Loaded, laidOut, loadedAs, loadedOn}
+use Rattle.shows.proofs.Seen.{sees}
+use Rattle.loading.proofs.Judged.{gives, Loads, load-case, Judges}
+
+-- the memories, with a status
+abbrev left : ℕ → List ℕ → List ℕ → List ℕ → Loaded
+left st xs blocks buffers = record { status = st; segment = xs; blocks = blocks; buffers = buffers }
+
+-- the file's row, share and buffers are written
+pub lays : (f : ℕ) (s : Sheet) (xs blocks buffers xs′ blocks′ buffers′ : List ℕ) (x : hand.File) → x ≡ inHand (loaded s) → xs′ ≡ fill xs (rowAt (fileRow f)) (fileRowWords x)
+    → blocks′ ≡ sets blocks (shareBytes * f) (loaded s .store .share) → buffers′ ≡ sets buffers (places * bufferBytes * f) (zeros (places * bufferBytes))
+    → left 0 xs′ blocks′ buffers′ ≡ laidOut f (loaded s) xs blocks buffers
+unfolding laidOut fileRowWords fileWords
+lays f s xs blocks buffers xs′ blocks′ buffers′ x e w b u = rw (w, e, b, u)
+
+module _ (xs blocks buffers : List ℕ) (f : ℕ) (t : List ℕ) where
+  -- 29, 31, 43
+
+  pub refused-bytes : (r : ℕ) → Judges xs blocks buffers f t r → (r ≡ 0 → ⊥) → (v : Option Desk) → Seen xs blocks buffers v → left r xs blocks buffers ≡ loadedOn v f t xs blocks buffers
+  unfolding loadedOn loadedAs
+  refused-bytes r j n v k = rw (← j v k) (go (readSheet t))
+    where
+      go : (o : Option Sheet) → left r xs blocks buffers ≡ loadedAs r o f xs blocks buffers
+      go none = refl
+      go (some s) = rw (loadedAs, ne-eqb r 0 n) refl
+
+  pub refused-stays : (r : ℕ) → Judges xs blocks buffers f t r → (r ≡ 0 → ⊥) → (d : Desk) (s : Alloc) → StandsFor xs blocks buffers d s
+      → Stays d s (load f t) blocks buffers xs blocks buffers
+  unfolding respond asked replyOf refusalOf
+  refused-stays r j n d s S =
+      let e : r ≡ gives d f t = j (some d) (stands d s S) in
+      let R = stands-refused f (calls.load t) S (λ z. n (e ∙ high (load-case d f t) e ∙ z)) in
+      still-stays S (load f t) (R .desk) (R .alloc)
+    where
+      high : ((gives d f t ≡ 0) × Loads d f t) ⊎ (leastRefusal ≤ gives d f t) → r ≡ gives d f t → gives d f t ≡ cond (ltb (gives d f t) leastRefusal) 0 (gives d f t)
+      high (inl (z, L)) e = absurd (n (e ∙ z))
+      high (inr l) e = rw (le-ltb (gives d f t) leastRefusal l) refl
+
+  -- 0
+
+  pub judges-zero : (r : ℕ) → r ≡ 0 → Judges xs blocks buffers f t r → Judges xs blocks buffers f t 0
+  judges-zero r z j = subst (Judges xs blocks buffers f t) z j
+
+  loads-of : (d : Desk) → 0 ≡ gives d f t → Loads d f t
+  loads-of d e = go (load-case d f t)
+    where
+      go : ((gives d f t ≡ 0) × Loads d f t) ⊎ (leastRefusal ≤ gives d f t) → Loads d f t
+      go (inl (z, L)) = L
+      go (inr l) = absurd (omega arith)
+
+  abbrev Asks : Type 0
+  Asks =
+      ((length xs ≡ segmentBytes) × (length blocks ≡ blocksBytes) × (length buffers ≡ places * bufferBytes * files) × (f < files)) × ((s : Sheet) × (readSheet t ≡ some s))
+
+  -- what is asked to do it
+  pub done-asks : Bytes xs → Bytes blocks → Bytes buffers → Judges xs blocks buffers f t 0 → Asks
+  unfolding replyOf replyStatus
+  done-asks bs bb bf j = let (v, k) = sees bs bb bf in go v k (j v k)
+    where
+      go : (v : Option Desk) → Seen xs blocks buffers v → 0 ≡ replyStatus (replyOf v (load f t)) → Asks
+      go v (unsound u) e = absurd (omega arith)
+      go v (stands d s S) e =
+          let L = loads-of d e in
+          ((S .stands .segment .size, S .stands .bodies .blocks-size, S .stands .bodies .buffers-size, L .file), (L .sheet, L .reads))
+
+  module _ (j : Judges xs blocks buffers f t 0) (xs′ blocks′ buffers′ : List ℕ) (h : (s : Sheet) → readSheet t ≡ some s → left 0 xs′ blocks′ buffers′ ≡ laidOut f (loaded s) xs blocks buffers) where
+    pub done-bytes : Asks → (v : Option Desk) → Seen xs blocks buffers v → left 0 xs′ blocks′ buffers′ ≡ loadedOn v f t xs blocks buffers
+    unfolding loadedOn loadedAs
+    done-bytes (_, (s, e)) v k = rw (← j v k, e) (h s e)
+
+    -- the store that is packed
+    packed : Sheet → Store
+    packed s = putAll (s .geo) (s .recs) emptyStore
+
+    long : (s : Sheet) → readSheet t ≡ some s → length (packed s .share) ≡ shareBytes
+    unfolding packed
+    long s e = let k = sheet-good t s e in holds-loaded (s .geo) (s .recs) (good-sized (s .geo) (k .geo)) (small (s .geo .words) (s .recs) (k .recs)) (k .few) .long
+
+    asked-load : (d : Desk) → fileOf d f ≡ unbuilt → (s : Sheet) → readSheet t ≡ some s → ask (fileOf d f) (calls.load t) ≡ leaves (shows 0 []) (loaded s)
+    unfolding ask askUnbuilt sheets.load
+    asked-load d u s e = ap (λ (x : File). ask x (calls.load t)) u ∙ rw (e, sheets.load)
+
+    quiet : (s : Sheet) (a : Alloc) → allotAll f (leaves (shows 0 []) (loaded s) .haps) a ≡ a
+    unfolding leaves loaded say newFile
+    quiet s a = allotAll-quiet f puts (puts-quiet f) (s .recs) a
+
+    pub done-stays : Bytes xs′ → Bytes blocks′ → Bytes buffers′ → (d : Desk) (a : Alloc) → StandsFor xs blocks buffers d a → Stays d a (load f t) blocks buffers xs′ blocks′ buffers′
+    unfolding replyOf asked laidOut packed leaves hushed loaded say newFile fileWords
+    done-stays bs bb bf d a S =
+        let L = loads-of d (j (some d) (stands d a S)) in
+        let s : Sheet = L .sheet in
+        let e = asked-load d (L .new) s (L .reads) in
+        let k = h s (L .reads) in
+        let O = made S f (L .file) (L .new) (s .geo) (packed s) (long s (L .reads)) xs′ blocks′ buffers′ (ap (λ (x : Loaded). x .segment) k) (ap (λ (x : Loaded). x .blocks) k) (ap (λ (x : Loaded). x .buffers) k)
+        bs bb bf (leaves (shows 0 []) (loaded s)) refl (quiet s a) in
+        outcome-stays S (load f t) f (calls.load t) refl (L .file) (subst Built′ (sym e) (record { file = hushed (loaded s); is = refl }))
+        (subst (λ (x : Out). Outcome f d a x blocks buffers xs′ blocks′ buffers′) (sym e) O)

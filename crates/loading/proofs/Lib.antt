@@ -1,0 +1,4 @@
+pub mod Packs
+pub mod Packed
+pub mod Judged
+pub mod Done

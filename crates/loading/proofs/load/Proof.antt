@@ -1,0 +1,60 @@
+use borrow.Author.Needs.{needs}
+use Rattle.memory.specs.Stands.{Bytes}
+use Rattle.loading.proofs.Done.{refused-bytes, refused-stays, judges-zero, done-asks, done-bytes, done-stays}
+use Rattle.loading.proofs.load.Statement.{statement}
+use Rattle.loading.proofs.load.Tie as tie
+
+judge-load-requires : tie.Need-judge-load-requires
+judge-load-requires c κs = search needs
+
+same-length : tie.Need-same-length
+same-length c = search needs
+
+same-length-2 : tie.Need-same-length-2
+same-length-2 c = search needs
+
+same-length-3 : tie.Need-same-length-3
+same-length-3 c = search needs
+
+returns : tie.Need-returns
+returns c =
+    let j = c .before .judge-load .ensures in
+    (refused-bytes _ _ _ _ _ _ j (c .if1 .taken), refused-stays _ _ _ _ _ _ j (c .if1 .taken))
+
+lay-out-requires : tie.Need-lay-out-requires
+unfolding Bytes
+lay-out-requires c κs =
+    let j = judges-zero _ _ _ _ _ _ (c .before .before .before .if1 .left) (c .before .before .before .before .judge-load .ensures) in
+    done-asks _ _ _ _ _ (λ i. c .before .before .before .before .before .before .before .before .before .before .before .slice-known .given i .fits) (λ i. c .before .before .before .before .before .before .before .before .before .before .slice-known2 .given i .fits) (λ i. c .before .before .before .before .before .before .before .before .before .slice-known3 .given i .fits) j
+
+same-length-4 : tie.Need-same-length-4
+same-length-4 c = search needs
+
+same-length-5 : tie.Need-same-length-5
+same-length-5 c = search needs
+
+same-length-6 : tie.Need-same-length-6
+same-length-6 c = search needs
+
+returns-2 : tie.Need-returns-2
+unfolding Bytes
+returns-2 c =
+    let j = judges-zero _ _ _ _ _ _ (c .before .before .before .before .before .before .before .before .before .before .if1 .left) (c .before .before .before .before .before .before .before .before .before .before .before .judge-load .ensures) in
+    let h = c .before .before .before .before .before .before .lay-out .ensures in
+    let k = done-asks _ _ _ _ _ (λ i. c .before .before .before .before .before .before .before .before .before .before .before .before .before .before .before .before .before .before .slice-known .given i .fits) (λ i. c .before .before .before .before .before .before .before .before .before .before .before .before .before .before .before .before .before .slice-known2 .given i .fits) (λ i. c .before .before .before .before .before .before .before .before .before .before .before .before .before .before .before .before .slice-known3 .given i .fits) j in
+    (done-bytes _ _ _ _ _ j _ _ _ h k, done-stays _ _ _ _ _ j _ _ _ h (λ i. c .before .before .before .before .slice-known4 .given i .fits) (λ i. c .before .before .slice-known5 .given i .fits) (λ i. c .slice-known6 .given i .fits))
+
+pub load-spec : {M : Type 1} → statement M
+load-spec =
+    tie.close
+    (tie.spec
+    judge-load-requires
+    same-length
+    same-length-2
+    same-length-3
+    returns
+    lay-out-requires
+    same-length-4
+    same-length-5
+    same-length-6
+    returns-2)

@@ -1,0 +1,78 @@
+// Load: a file that is not built is built from a sheet's text. What can be refused is found out first, on shared memory.
+ghost use mathlib.Core.Path.{_≡_};
+ghost use mathlib.Core.Option.{Option, some};
+ghost use Prim.Native.Nat.{_*_, _<_};
+ghost use lib.ListN.{length};
+ghost use Rattle.segment.specs.Layout.{segmentBytes};
+ghost use Rattle.rules.specs.Limits.{files, places, bufferBytes};
+ghost use Rattle.rules.specs.Sheet.{Sheet, readSheet, loaded};
+ghost use Rattle.rules.specs.Desk.{Desk};
+ghost use Rattle.rules.specs.Desk as rules;
+ghost use Rattle.rules.specs.Allocation.{Alloc};
+ghost use Rattle.blocks.specs.Memory.{blocksBytes};
+ghost use Rattle.memory.specs.Fine.{StandsFor};
+ghost use Rattle.midst.specs.Outcome.{replyStatus, Stays};
+ghost use Rattle.shows.specs.Seen.{Seen, replyOf};
+ghost use Rattle.shows.specs.Sheets.{laidOut, Loads};
+
+mod packing;
+
+use judges::accessors::words_of;
+use judges::refusals;
+use kinds::limits::FILES;
+use kinds::limits::LINE_BYTES;
+use midst::put_file;
+use opening::FILE_BUFFERS;
+use packing::pack;
+use reader::is_sheet;
+use sound::sound;
+
+// The status, 0 where load is not refused.
+fn judge_load(segment: &[u8], blocks: &[u8], buffers: &[u8], file: usize, text: &[u8]) -> u8
+    ensures { λ r. ⌜ ((v : Option Desk) → Seen (now (segment .entry)) (now (blocks .entry)) (now (buffers .entry)) v → r ≡ replyStatus (replyOf v (rules.load file (now («text» .entry))))) ⌝ }
+{
+    if !sound(segment, blocks, buffers) {
+        return refusals::UNSOUND;
+    }
+    if FILES <= file {
+        return refusals::FILE;
+    }
+    if words_of(segment, file) != 0 {
+        return refusals::FILE;
+    }
+    if !is_sheet(text) {
+        return refusals::NO_SHEET;
+    }
+    refusals::NONE
+}
+
+// File f becomes what the sheet says: "Build and load zero the share", and its buffers too, of which nothing is known before.
+fn lay_out(segment: &mut [u8], blocks: &mut [u8], buffers: &mut [u8], f: usize, text: &[u8])
+    requires { ⌜ (length (now segment) ≡ segmentBytes) × (length (now blocks) ≡ blocksBytes) × (length (now buffers) ≡ places * bufferBytes * files) × (f < files) ⌝ }
+    requires { ⌜ ((s : Sheet) × (readSheet (now «text») ≡ some s)) ⌝ }
+    ensures { λ _. ⌜ ((s : Sheet) → readSheet (now («text» .entry)) ≡ some s → record { status = 0; segment = now (segment .exit); blocks = now (blocks .exit); buffers = now (buffers .exit) } ≡ laidOut f (loaded s) (now (segment .entry)) (now (blocks .entry)) (now (buffers .entry))) ⌝ }
+{
+    let mut frame = [0u8; LINE_BYTES];
+    let file = pack(blocks, f, text, &mut frame);
+    words::zero(buffers, FILE_BUFFERS * f, FILE_BUFFERS);
+    put_file(segment, f, file);
+}
+
+// A file that is not built is built from a sheet's text; the status.
+pub fn load(
+    segment: &mut [u8],
+    blocks: &mut [u8],
+    buffers: &mut [u8],
+    file: usize,
+    text: &[u8],
+) -> u8
+    ensures bytes { λ r. ⌜ Loads (now (segment .entry)) (now (blocks .entry)) (now (buffers .entry)) file (now («text» .entry)) (record { status = r; segment = now (segment .exit); blocks = now (blocks .exit); buffers = now (buffers .exit) }) ⌝ }
+    ensures stays { λ r. ⌜ ((d : Desk) (s : Alloc) → StandsFor (now (segment .entry)) (now (blocks .entry)) (now (buffers .entry)) d s → Stays d s (rules.load file (now («text» .entry))) (now (blocks .entry)) (now (buffers .entry)) (now (segment .exit)) (now (blocks .exit)) (now (buffers .exit))) ⌝ }
+{
+    let status = judge_load(segment, blocks, buffers, file, text);
+    if status != 0 {
+        return status;
+    }
+    lay_out(segment, blocks, buffers, file, text);
+    0
+}

@@ -1,0 +1,105 @@
+-- A file that was not built is: its row is written, its share is its store's, and its buffers are zeros.
+use Prim.Native.Nat.{ℕ, zero, suc, _*_, _<_}
+use mathlib.Core.Path.{_≡_, refl, sym, ap, subst, _∙_}
+use mathlib.Core.List.{List}
+use mathlib.Core.Option.{Option, none}
+use mathlib.Core.Logic.{_⊎_, inl, inr}
+use native.Mathlib.Omega.{arith}
+use native.Mathlib.Decide.{decLt}
+use lib.ListN.{length, getD, set, replicate}
+use lib.Seq.{sets, length-sets}
+use Rattle.words.specs.Word.{zeros, part}
+use Rattle.words.proofs.Runs.{length-zeros}
+use Rattle.words.proofs.Parts.{part-own, part-other}
+use Rattle.segment.specs.Layout.{rowAt, fileRow}
+use Rattle.segment.specs.Table.{fill}
+use Rattle.rules.specs.Limits.{files, places, shareBytes, bufferBytes}
+use Rattle.rules.specs.State.{Acc, Geo, Store, File, unbuilt, built}
+use Rattle.rules.specs.Requests.{accAt}
+use Rattle.rules.specs.Reply.{Out, hushed}
+use Rattle.rules.specs.Memories.{buffer, fileBuffers}
+use Rattle.rules.specs.Open.{newFile}
+use Rattle.rules.specs.Desk.{Desk, fileOf}
+use Rattle.rules.specs.Allocation.{Alloc, allotAll}
+use Rattle.memory.specs.Image.{accOf, reqOf, fileWords, rqOf, wqOf}
+use Rattle.memory.specs.Stands.{Bytes, Segment, shareAt, buffersAt, FileBytes}
+use Rattle.memory.specs.Fine.{StandsFor}
+use Rattle.memory.proofs.Frames.{bodies-file}
+use Rattle.midst.specs.Seg.{Seg}
+use Rattle.midst.specs.Outcome.{Outcome}
+use Rattle.midst.proofs.Alike.{Alike}
+use Rattle.midst.proofs.Begins.{file-here, stands-seg, seg-end}
+
+-- the bytes of a file's eight buffers
+abbrev fileBytes : ℕ
+fileBytes = places * bufferBytes
+
+-- a file with no accessor has none of all that an unbuilt file has none of
+
+new-acc : (g : Geo) (t : Store) (p : ℕ) → accOf unbuilt p ≡ accOf (built (hushed (newFile g t))) p
+unfolding accOf accAt hushed newFile
+new-acc g t p = go places p
+  where
+    go : (n i : ℕ) → _≡_ {A = Option Acc} none (getD (replicate n none) i none)
+    go zero i = refl
+    go (suc n) zero = refl
+    go (suc n) (suc i) = go n i
+
+new-alike : (g : Geo) (t : Store) → Alike unbuilt (built (hushed (newFile g t)))
+unfolding rqOf wqOf hushed newFile
+new-alike g t = record { reads = refl; writes = refl; reqs = λ p. ap reqOf (new-acc g t p) }
+
+new-buffers : (g : Geo) (t : Store) → zeros fileBytes ≡ fileBuffers (newFile g t .accs)
+unfolding newFile fileBuffers buffer zeros
+new-buffers g t = refl
+
+-- of m parts of k bytes the i-th is written
+module _ (ys zs : List ℕ) (k m i : ℕ) (n : length ys ≡ k * m) (h : i < m) (l : length zs ≡ k) where
+  written : part k i (sets ys (k * i) zs) ≡ zs
+  written = part-own ys zs k m i n h l
+
+  beside : (j : ℕ) → (j ≡ i → ⊥) → part k j (sets ys (k * i) zs) ≡ part k j ys
+  beside j u = part-other ys zs k i j l (go (decLt i j))
+    where
+      go : Dec (i < j) → (i < j) ⊎ (j < i)
+      go (yes w) = inl w
+      go (no w) = inr (omega arith)
+
+module _ {xs blocks buffers : List ℕ} {d : Desk} {s : Alloc} (S : StandsFor xs blocks buffers d s) (f : ℕ) (hf : f < files) (u : fileOf d f ≡ unbuilt) (g : Geo) (t : Store) (long : length (t .share) ≡ shareBytes)
+    (xs′ blocks′ buffers′ : List ℕ) (wrote : xs′ ≡ fill xs (rowAt (fileRow f)) (fileWords (built (newFile g t)))) (laid : blocks′ ≡ sets blocks (shareBytes * f) (t .share))
+    (blank : buffers′ ≡ sets buffers (fileBytes * f) (zeros fileBytes)) (xs-bytes : Bytes xs′) (blocks-bytes : Bytes blocks′) (buffers-bytes : Bytes buffers′) where
+  abbrev new : File
+  new = built (hushed (newFile g t))
+
+  new-segment : Segment xs′ (set d f new) s
+  unfolding fileWords hushed newFile
+  new-segment =
+      subst (λ (ys : List ℕ). Segment ys (set d f new) s) (sym wrote)
+      (seg-end xs d f unbuilt new s _ hf (S .agreed .eight) (new-alike g t) (new-acc g t) (subst (λ (e : Desk). Seg xs e s (fileRow f)) (sym (file-here d f unbuilt u)) (stands-seg S f))
+      refl refl (subst Bytes wrote xs-bytes))
+
+  shares : (h : ℕ) → (h ≡ f → ⊥) → shareAt h blocks′ ≡ shareAt h blocks
+  unfolding shareAt
+  shares h n = rw laid (beside blocks (t .share) shareBytes files f (S .stands .bodies .blocks-size) hf long h n)
+
+  others : (h : ℕ) → (h ≡ f → ⊥) → buffersAt h buffers′ ≡ buffersAt h buffers
+  unfolding buffersAt
+  others h n = rw blank (beside buffers (zeros fileBytes) fileBytes files f (S .stands .bodies .buffers-size) hf (length-zeros fileBytes) h n)
+
+  own : FileBytes new (shareAt f blocks′) (buffersAt f buffers′)
+  unfolding FileBytes shareAt buffersAt hushed newFile
+  own = (
+    rw laid (written blocks (t .share) shareBytes files f (S .stands .bodies .blocks-size) hf long),
+    rw blank (written buffers (zeros fileBytes) fileBytes files f (S .stands .bodies .buffers-size) hf (length-zeros fileBytes) ∙ new-buffers g t),
+  )
+
+  -- a call that leaves such a file, and takes and frees no entry
+  pub made : (x : Out) → x .file ≡ new → allotAll f (x .haps) s ≡ s → Outcome f d s x blocks buffers xs′ blocks′ buffers′
+  made x e a = record {
+    stands = rw (e, a) record {
+      segment = new-segment;
+      bodies = bodies-file d blocks buffers blocks′ buffers′ f new (S .stands .bodies) (omega (arith, hf, S .agreed .eight)) blocks-bytes buffers-bytes
+          (ap length laid ∙ length-sets blocks (shareBytes * f) (t .share)) (ap length blank ∙ length-sets buffers (fileBytes * f) (zeros fileBytes)) (λ h k n. (shares h n, others h n)) own;
+    };
+    apart = record { shares = λ h k n. shares h n; others = λ h k n. others h n };
+  }

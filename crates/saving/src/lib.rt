@@ -1,0 +1,64 @@
+// "Save also gives the length, 0 if refused; output behind it stays."
+mod sheet;
+
+use judges::accessors::words_of;
+use judges::refusals;
+use sheet::sheet_length;
+use sheet::write_sheet;
+ghost use mathlib.Core.Path.{_≡_};
+ghost use mathlib.Core.List.{List};
+ghost use Prim.Native.Nat.{ℕ, _≤_};
+ghost use lib.ListN.{length};
+ghost use Rattle.rules.specs.State.{Built, built};
+ghost use Rattle.rules.specs.Sheet as sheets;
+ghost use Rattle.rules.specs.Desk.{Desk, fileOf};
+ghost use Rattle.rules.specs.Allocation.{Alloc};
+ghost use Rattle.memory.specs.Fine.{StandsFor};
+ghost use Rattle.tallies.specs.Tallies.{FileStands};
+ghost use Rattle.shows.specs.Sheets.{savedAs, Saves};
+
+// The status, and the length of the sheet.
+pub struct Saved {
+    pub status: u8,
+    pub length: usize,
+}
+
+fn refused(status: u8) -> Saved
+    ensures { λ r. ⌜ (r .status ≡ status) × (r .length ≡ 0) ⌝ }
+{
+    Saved { status, length: 0 }
+}
+
+// A file that is built, into the output if that is long enough.
+fn save_file(segment: &[u8], blocks: &[u8], file: usize, output: &mut [u8]) -> Saved
+    requires { ⌜ FileStands (now segment) (now blocks) file ⌝ }
+    ensures saved { λ r. ⌜ ((buffers : List ℕ) (d : Desk) (s : Alloc) (b : Built) → StandsFor (now (segment .entry)) (now (blocks .entry)) buffers d s → fileOf d file ≡ built b → record { status = r .status; size = r .length; output = now (output .exit) } ≡ savedAs (sheets.save (length (now (output .entry))) b .reply) (now (output .entry))) ⌝ }
+    ensures fits { λ r. ⌜ r .length ≤ length (now (output .entry)) ⌝ }
+{
+    let taken = midst::take_file(segment, file);
+    let share = blocks::memory::share(blocks, file);
+    let length = sheet_length(share, taken.ring, taken.words);
+    if output.len() < length {
+        return refused(refusals::SHORT);
+    }
+    write_sheet(share, taken.ring, taken.words, output);
+    Saved {
+        status: refusals::NONE,
+        length,
+    }
+}
+
+// A file's sheet, from the first byte of the output on. 29: a memory of the wrong length, or unsound; 31: file above 7 or not built; 44: output too
+// short, with nothing written.
+pub fn save(segment: &[u8], blocks: &[u8], buffers: &[u8], file: usize, output: &mut [u8]) -> Saved
+    ensures saved { λ r. ⌜ Saves (now (segment .entry)) (now (blocks .entry)) (now (buffers .entry)) file (now (output .entry)) (record { status = r .status; size = r .length; output = now (output .exit) }) ⌝ }
+    ensures fits { λ r. ⌜ r .length ≤ length (now (output .entry)) ⌝ }
+{
+    if !sound::sound(segment, blocks, buffers) {
+        return refused(refusals::UNSOUND);
+    }
+    if words_of(segment, file) == 0 {
+        return refused(refusals::FILE);
+    }
+    save_file(segment, blocks, file, output)
+}

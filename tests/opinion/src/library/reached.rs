@@ -1,0 +1,49 @@
+//! A desk that some calls reached, and calls that are each made on it.
+
+use super::caller::Caller;
+use super::case::Case;
+use super::tally::Tally;
+use super::twin::Twin;
+use crate::generator::Call;
+use crate::model::desk::Desk;
+use crate::model::status::LEAST_REFUSAL;
+use crate::outcome::make_call;
+
+pub struct Reached {
+    pub desk: Desk,
+    before: Vec<Call>,
+}
+
+impl Reached {
+    pub fn by(caller: &mut Caller, calls: usize) -> Reached {
+        let mut reached = Reached { desk: Desk::fresh(), before: Vec::new() };
+        for _ in 0..calls {
+            let call = caller.next(&reached.desk);
+            make_call(&mut reached.desk, &call);
+            reached.before.push(call);
+        }
+        reached
+    }
+
+    /// Makes each call on this desk; the case, if one is answered otherwise.
+    pub fn try_each(&self, calls: &[Call], tally: &mut Tally) -> Result<(), Case> {
+        let memories = self.desk.memories();
+        let mut twin = Twin::of(&memories);
+        for call in calls {
+            match twin.call(call) {
+                Ok(outcome) => {
+                    tally.call(call, &outcome);
+                    // A refusal was just seen to change nothing.
+                    if outcome.status < LEAST_REFUSAL {
+                        twin.reset(&self.desk, &memories);
+                    }
+                }
+                Err(_) => {
+                    let (before, calls) = (self.before.clone(), vec![call.clone()]);
+                    return Err(Case { before, changes: Vec::new(), calls });
+                }
+            }
+        }
+        Ok(())
+    }
+}
