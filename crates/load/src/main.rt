@@ -1,17 +1,33 @@
 // load FILE SHEET < SESSION: FILE of a fresh desk is loaded from SHEET; then the frames of standard input are answered as the event program answers
 // them.
+use arguments::NO_FILE;
+use arguments::refused;
 use libc::STDERR_FILENO;
-use starting::NO_FILE;
 
 fn main() {
     let mut segment = [0u8; 3876];
     let mut blocks = [0u8; 32768];
     let mut buffers = [0u8; 16640];
-    if os::arg_count() < 3 {
+    let mut text = [0u8; 65536];
+    let named = arguments::arguments(&mut text);
+    if named.file == NO_FILE {
+        return;
+    }
+    if !named.sheet {
         io::write_all(STDERR_FILENO, b"load FILE SHEET < SESSION\n");
         return;
     }
-    if starting::start(&mut segment, &mut blocks, &mut buffers) == NO_FILE {
+    fresh::fresh(&mut segment, &mut blocks, &mut buffers);
+    let n = named.size;
+    let status = loading::load(
+        &mut segment,
+        &mut blocks,
+        &mut buffers,
+        named.file,
+        &text[0..n],
+    );
+    if status != 0 {
+        refused(b"SHEET is not a sheet", status);
         return;
     }
     serving::serve(&mut segment, &mut blocks, &mut buffers, true);

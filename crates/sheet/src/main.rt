@@ -1,27 +1,54 @@
 // sheet FILE [SHEET] < SESSION: the frames of standard input, a hexadecimal line each, are asked of a desk, fresh but for FILE, which is loaded from
 // SHEET where one is named; then the sheet of FILE is printed.
+use arguments::NO_FILE;
+use arguments::Named;
+use arguments::refused;
 use libc::STDOUT_FILENO;
-use starting::NO_FILE;
 
 fn print_sheet(segment: &[u8], blocks: &[u8], buffers: &[u8], file: usize) {
     let mut sheet = [0u8; 8192];
     let saved = saving::save(segment, blocks, buffers, file, &mut sheet);
     if saved.status != 0 {
-        starting::refused(b"sheet", b": the file is not built", saved.status);
+        refused(b"FILE is not built", saved.status);
         return;
     }
     let n = saved.length;
     io::write_all(STDOUT_FILENO, &sheet[0..n]);
 }
 
+// FILE is loaded where a sheet is named; whether the program can go on.
+fn load_named(
+    segment: &mut [u8],
+    blocks: &mut [u8],
+    buffers: &mut [u8],
+    named: Named,
+    text: &[u8],
+) -> bool {
+    if !named.sheet {
+        return true;
+    }
+    let status = loading::load(segment, blocks, buffers, named.file, text);
+    if status == 0 {
+        return true;
+    }
+    refused(b"SHEET is not a sheet", status);
+    false
+}
+
 fn main() {
     let mut segment = [0u8; 3876];
     let mut blocks = [0u8; 32768];
     let mut buffers = [0u8; 16640];
-    let file = starting::start(&mut segment, &mut blocks, &mut buffers);
-    if file == NO_FILE {
+    let mut text = [0u8; 65536];
+    let named = arguments::arguments(&mut text);
+    if named.file == NO_FILE {
+        return;
+    }
+    fresh::fresh(&mut segment, &mut blocks, &mut buffers);
+    let n = named.size;
+    if !load_named(&mut segment, &mut blocks, &mut buffers, named, &text[0..n]) {
         return;
     }
     serving::serve(&mut segment, &mut blocks, &mut buffers, false);
-    print_sheet(&segment, &blocks, &buffers, file);
+    print_sheet(&segment, &blocks, &buffers, named.file);
 }

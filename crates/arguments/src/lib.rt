@@ -1,0 +1,90 @@
+// The arguments of the command-line programs:
+//     PROGRAM FILE [SHEET]
+// FILE is a file's number and SHEET a path. What is wrong with them is said on standard error.
+use libc::STDERR_FILENO;
+ghost use Prim.Native.Nat.{_≤_};
+ghost use lib.ListN.{length};
+
+// In place of a file's number: the program cannot go on.
+pub const NO_FILE: usize = 8;
+
+// The file's number, whether a sheet is named, and how many bytes of text it has.
+pub struct Named {
+    pub file: usize,
+    pub sheet: bool,
+    pub size: usize,
+}
+
+// A line on standard error: what is wrong, and the refusal number.
+pub fn refused(why: &[u8], number: u8) {
+    io::write_all(STDERR_FILENO, why);
+    io::write_all(STDERR_FILENO, b" (status ");
+    io::print_decimal(STDERR_FILENO, number as u64);
+    io::write_all(STDERR_FILENO, b")\n");
+}
+
+// The file that the first argument names: one digit.
+fn file_named() -> usize {
+    let mut text = [0u8; 2];
+    let n = os::arg(1, &mut text);
+    let digit = text[0];
+    if n != 1 {
+        return NO_FILE;
+    }
+    if digit < b'0' {
+        return NO_FILE;
+    }
+    if digit > b'7' {
+        return NO_FILE;
+    }
+    (digit - b'0') as usize
+}
+
+fn nothing() -> Named
+    ensures { λ r. ⌜ r .size ≤ 0 ⌝ }
+{
+    Named {
+        file: NO_FILE,
+        sheet: false,
+        size: 0,
+    }
+}
+
+// The bytes of the sheet that the second argument names, as many as there is room for.
+fn sheet_named(file: usize, text: &mut [u8]) -> Named
+    ensures { λ r. ⌜ r .size ≤ length (now (text .entry)) ⌝ }
+{
+    let mut path = io::buffer();
+    let n = os::arg(2, &mut path);
+    let fd = os::open_read(&path[..n]);
+    if fd < 0 {
+        os::fail(&path[..n]);
+        return nothing();
+    }
+    let size = io::read_full(fd, text);
+    libc::close(fd);
+    Named {
+        file,
+        sheet: true,
+        size,
+    }
+}
+
+// What the arguments name; a sheet's bytes stand from the first byte of `text`. What they are comes from outside, and no contract can say it.
+pub fn arguments(text: &mut [u8]) -> Named
+    ensures { λ r. ⌜ r .size ≤ length (now (text .entry)) ⌝ }
+{
+    let file = file_named();
+    if file == NO_FILE {
+        io::write_all(STDERR_FILENO, b"FILE is the number of a file, 0 to 7\n");
+        return nothing();
+    }
+    if os::arg_count() < 3 {
+        return Named {
+            file,
+            sheet: false,
+            size: 0,
+        };
+    }
+    sheet_named(file, text)
+}
