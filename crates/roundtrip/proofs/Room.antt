@@ -8,10 +8,10 @@ use lib.ListN.{length, length-append}
 use Rattle.rules.specs.Limits.{shareWords}
 use Rattle.rules.specs.Geometry.{capacity, blockSize}
 use Rattle.rules.specs.State.{Rec, Geo}
-use Rattle.rules.specs.Line.{digitsOf, lineOf}
+use Rattle.rules.specs.Line.{lineOf}
 use Rattle.rules.specs.Sheet.{headFrame, recFrame, recLines, sheet}
 use Rattle.shares.specs.Groups.{All}
-use Rattle.hex.proofs.Trip.{length-digits}
+use Rattle.hex.proofs.Trip.{length-line}
 use Rattle.laws.specs.Changes.{GoodGeo, GoodRecs, GoodSheet}
 use Rattle.laws.proofs.Room.{good-sized}
 use Rattle.roundtrip.specs.Trip.{sheetRoom}
@@ -26,10 +26,6 @@ share-words g k =
     let d = g .blocks in
     let e : d * (r * b) ≡ b * d * r = mul-left-comm d r b ∙ (mul-comm r (d * b) ∙ ap (λ (x : ℕ). x * r) (mul-comm d b)) in
     omega (arith, k .share, mul-add d (r * b) 2)
-
-pub length-line : (xs : List ℕ) → length (lineOf xs) ≡ 2 * length xs + 1
-unfolding lineOf
-length-line xs = omega (arith, length-append (digitsOf xs) (10 ∷ []), length-digits xs)
 
 length-recLines : (words : ℕ) (rs : List Rec) → GoodRecs words rs → length (recLines rs) ≤ length rs * (9 + 4 * words)
 unfolding recLines GoodRecs All
