@@ -93,18 +93,18 @@ some-taken (suc i) u h k = omega arith
 
 -- the input ends with no line begun, or in the middle of one
 pub ends-none : (g : Going) (segment blocks buffers line out : List ℕ) (n m : ℕ) → length line ≡ mostHeld → n ≤ mostHeld → n ≡ 0
-    → At g segment blocks buffers line out n m → take m out ≡ ends g .printed
+    → At g segment blocks buffers line out n m → Printed (ends g) segment blocks buffers out m
 unfolding ends
 ends-none g segment blocks buffers line out n m l h z a =
     let none = some-held line (g .part) n mostHeld l h (omega arith) (a .held) z in
-    a .printed .filled ∙ ap (λ (x : Going). x .printed) (sym (pick-true _ _ _ (eq-eqb (length (g .part)) 0 none)))
+    subst (λ (x : Going). Printed x segment blocks buffers out m) (sym (pick-true _ _ _ (eq-eqb (length (g .part)) 0 none))) (a .printed)
 
 pub ends-line : (g : Going) (segment blocks buffers line out segment′ blocks′ buffers′ out′ : List ℕ) (n m r : ℕ) → length line ≡ mostHeld → n ≤ mostHeld → (n ≡ 0 → ⊥)
-    → At g segment blocks buffers line out n m → Printed (lineEnds g) segment′ blocks′ buffers′ out′ r → take r out′ ≡ ends g .printed
+    → At g segment blocks buffers line out n m → Printed (lineEnds g) segment′ blocks′ buffers′ out′ r → Printed (ends g) segment′ blocks′ buffers′ out′ r
 unfolding ends
-ends-line g segment blocks buffers line out segment′ blocks′ buffers′ out′ n m r l h z a p =
+ends-line g segment blocks buffers line out segment′ blocks′ buffers′ out′ n m r l h z a =
     let some : length (g .part) ≡ 0 → ⊥ = λ k. z (none-held line (g .part) n mostHeld l h (omega arith) (a .held) k) in
-    p .filled ∙ ap (λ (x : Going). x .printed) (sym (pick-false _ _ _ (ne-eqb (length (g .part)) 0 some)))
+    subst (λ (x : Going). Printed x segment′ blocks′ buffers′ out′ r) (sym (pick-false _ _ _ (ne-eqb (length (g .part)) 0 some)))
 
 -- what was written before changes nothing of what follows
 

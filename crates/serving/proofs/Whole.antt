@@ -14,7 +14,7 @@ use Rattle.rules.proofs.Split.{by-cases, pick-true, pick-false}
 use Rattle.memory.specs.Fresh.{freshSegment, freshBlocks, freshBuffers}
 use Rattle.memory.proofs.Fresh.{fresh-stands}
 use Rattle.memory.proofs.Reached.{reached}
-use Rattle.serving.specs.Going.{Going, begins, lineEnds, byte, goes, ends, At}
+use Rattle.serving.specs.Going.{Going, begun, begins, lineEnds, byte, goes, ends, At}
 
 -- the calls that lines make
 unfoldable pub calls : List (List ℕ) → List Call
@@ -72,7 +72,7 @@ behind g (b ∷ t) =
 
 -- what it has printed at the end of the input is what the rules say
 pub prints : (t : List ℕ) → ends (goes begins t) .printed ≡ program t
-unfolding ends begins lineEnds program inputLines linesOf calls answerLines replies
+unfolding ends begun begins lineEnds program inputLines linesOf calls answerLines replies
 prints t =
     let h = behind begins t in
     let l : Lines = linesFrom [] t in
@@ -97,5 +97,5 @@ prints t =
 
 -- it begins with the memories of a fresh desk
 pub begins-at : (line out : List ℕ) → At begins freshSegment freshBlocks freshBuffers line out 0 0
-unfolding begins after allocAfter
+unfolding begun begins after allocAfter
 begins-at line out = record { printed = record { stands = reached [] freshSegment freshBlocks freshBuffers fresh-stands; filled = refl }; held = refl }

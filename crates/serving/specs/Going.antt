@@ -25,8 +25,12 @@ pub record Going : Type 0 where
   pub part : List ℕ
   pub printed : List ℕ
 
+-- before any of the input
+unfoldable pub begun : Desk → Alloc → Going
+begun d s = record { desk = d; alloc = s; part = []; printed = [] }
+
 unfoldable pub begins : Going
-begins = record { desk = freshDesk; alloc = freshAlloc; part = []; printed = [] }
+begins = begun freshDesk freshAlloc
 
 -- the line ends, and is answered by a line
 unfoldable pub lineEnds : Going → Going

@@ -5,7 +5,8 @@ ghost use mathlib.Core.Path.{_≡_};
 ghost use Prim.Native.Nat.{_+_, _≤_, _<_};
 ghost use lib.ListN.{length, take};
 ghost use Rattle.lines.specs.Asked.{mostAnswer};
-ghost use Rattle.serving.specs.Going.{mostHeld, outBytes, Going, byte, goes, ends, At};
+ghost use Rattle.serving.specs.Going.{mostHeld, outBytes, Going, byte, goes, ends, Printed, At};
+ghost use Rattle.serving.specs.Served.{Kept};
 
 // A line ends with LF.
 const LF: u8 = 10;
@@ -42,6 +43,7 @@ fn feed_byte(
     requires { ⌜ (length (now line) ≡ mostHeld) × (length (now out) ≡ outBytes) × (at .held ≤ mostHeld) × (at .used + mostAnswer ≤ outBytes) ⌝ }
     ensures bound { λ r. ⌜ (r .held ≤ mostHeld) × (r .used ≤ outBytes) ⌝ }
     ensures at { λ r. ⌜ ((g : Going) → At g (now (segment .entry)) (now (blocks .entry)) (now (buffers .entry)) (now (line .entry)) (now (out .entry)) (at .held) (at .used) → At (byte g b) (now (segment .exit)) (now (blocks .exit)) (now (buffers .exit)) (now (line .exit)) (now (out .exit)) (r .held) (r .used)) ⌝ }
+    ensures kept { λ _. ⌜ Kept (now (segment .entry)) (now (blocks .entry)) (now (buffers .entry)) (now (segment .exit)) (now (blocks .exit)) (now (buffers .exit)) ⌝ }
 {
     let held = at.held;
     let used = at.used;
@@ -70,6 +72,7 @@ pub fn feed(
     ensures bound { λ r. ⌜ (r .taken ≤ length (now (chunk .entry))) × (r .held ≤ mostHeld) × (r .used ≤ outBytes) ⌝ }
     ensures some { λ r. ⌜ (0 < length (now (chunk .entry)) → 0 < r .taken) ⌝ }
     ensures at { λ r. ⌜ ((g : Going) → At g (now (segment .entry)) (now (blocks .entry)) (now (buffers .entry)) (now (line .entry)) (now (out .entry)) held 0 → At (goes g (take (r .taken) (now (chunk .entry)))) (now (segment .exit)) (now (blocks .exit)) (now (buffers .exit)) (now (line .exit)) (now (out .exit)) (r .held) (r .used)) ⌝ }
+    ensures kept { λ _. ⌜ Kept (now (segment .entry)) (now (blocks .entry)) (now (buffers .entry)) (now (segment .exit)) (now (blocks .exit)) (now (buffers .exit)) ⌝ }
 {
     let mut at = Filled {
         held: held,
@@ -105,7 +108,8 @@ pub fn finish(
 ) -> usize
     requires { ⌜ (length (now line) ≡ mostHeld) × (length (now out) ≡ outBytes) × (held ≤ mostHeld) ⌝ }
     ensures bound { λ r. ⌜ r ≤ outBytes ⌝ }
-    ensures printed { λ r. ⌜ ((g : Going) → At g (now (segment .entry)) (now (blocks .entry)) (now (buffers .entry)) (now (line .entry)) (now (out .entry)) held 0 → take r (now (out .exit)) ≡ ends g .printed) ⌝ }
+    ensures printed { λ r. ⌜ ((g : Going) → At g (now (segment .entry)) (now (blocks .entry)) (now (buffers .entry)) (now (line .entry)) (now (out .entry)) held 0 → Printed (ends g) (now (segment .exit)) (now (blocks .exit)) (now (buffers .exit)) (now (out .exit)) r) ⌝ }
+    ensures kept { λ _. ⌜ Kept (now (segment .entry)) (now (blocks .entry)) (now (buffers .entry)) (now (segment .exit)) (now (blocks .exit)) (now (buffers .exit)) ⌝ }
 {
     if held == 0 {
         return 0;

@@ -5,10 +5,11 @@ mod held;
 use libc::STDIN_FILENO;
 use libc::STDOUT_FILENO;
 ghost use mathlib.Core.Path.{_≡_};
-ghost use mathlib.Core.Bool.{true};
+ghost use mathlib.Core.Bool.{true, false};
 ghost use Prim.Native.Nat.{_≤_};
 ghost use lib.ListN.{length};
 ghost use Rattle.serving.specs.Going.{mostHeld, outBytes, Going, goes, written, At};
+ghost use Rattle.serving.specs.Served.{Behind, Turned, Served, Kept};
 
 // Answers are printed where the desk is served aloud; whether that went well.
 fn print(aloud: bool, answers: &[u8]) -> bool {
@@ -22,6 +23,16 @@ fn print(aloud: bool, answers: &[u8]) -> bool {
 struct Turn {
     held: usize,
     more: bool,
+}
+
+// The last turn.
+fn last() -> Turn
+    ensures { λ r. ⌜ (r .held ≡ 0) × (r .more ≡ false) ⌝ }
+{
+    Turn {
+        held: 0,
+        more: false,
+    }
 }
 
 // A chunk of the input: its answers are written whenever the output is full, and at its end.
@@ -38,6 +49,8 @@ fn answer_chunk(
     requires { ⌜ (length (now line) ≡ mostHeld) × (length (now out) ≡ outBytes) × (before ≤ mostHeld) ⌝ }
     ensures bound { λ r. ⌜ r .held ≤ mostHeld ⌝ }
     ensures at { λ r. ⌜ ((g : Going) → At (written g) (now (segment .entry)) (now (blocks .entry)) (now (buffers .entry)) (now (line .entry)) (now (out .entry)) before 0 → r .more ≡ true → At (written (goes g (now (chunk .entry)))) (now (segment .exit)) (now (blocks .exit)) (now (buffers .exit)) (now (line .exit)) (now (out .exit)) (r .held) 0) ⌝ }
+    ensures stands { λ r. ⌜ ((g : Going) → At (written g) (now (segment .entry)) (now (blocks .entry)) (now (buffers .entry)) (now (line .entry)) (now (out .entry)) before 0 → Behind g (now (segment .exit)) (now (blocks .exit)) (now (buffers .exit))) ⌝ }
+    ensures kept { λ _. ⌜ Kept (now (segment .entry)) (now (blocks .entry)) (now (buffers .entry)) (now (segment .exit)) (now (blocks .exit)) (now (buffers .exit)) ⌝ }
 {
     let mut held = before;
     let mut at = 0;
@@ -45,10 +58,7 @@ fn answer_chunk(
         let fed = feeding::feed(segment, blocks, buffers, line, out, &chunk[at..], held);
         let used = fed.used;
         if !print(aloud, &out[0..used]) {
-            return Turn {
-                held: 0,
-                more: false,
-            };
+            return last();
         }
         held = fed.held;
         at += fed.taken;
@@ -71,22 +81,18 @@ fn answer_read(
     aloud: bool,
 ) -> Turn
     requires { ⌜ (length (now line) ≡ mostHeld) × (length (now out) ≡ outBytes) × (held ≤ mostHeld) ⌝ }
-    ensures { λ r. ⌜ r .held ≤ mostHeld ⌝ }
+    ensures bound { λ r. ⌜ r .held ≤ mostHeld ⌝ }
+    ensures turned { λ r. ⌜ ((g : Going) → At (written g) (now (segment .entry)) (now (blocks .entry)) (now (buffers .entry)) (now (line .entry)) (now (out .entry)) held 0 → Turned g (now (segment .exit)) (now (blocks .exit)) (now (buffers .exit)) (now (line .exit)) (now (out .exit)) (r .held) (r .more)) ⌝ }
+    ensures kept { λ _. ⌜ Kept (now (segment .entry)) (now (blocks .entry)) (now (buffers .entry)) (now (segment .exit)) (now (blocks .exit)) (now (buffers .exit)) ⌝ }
 {
     let got = libc::read(STDIN_FILENO, chunk);
     if got < 0 {
-        return Turn {
-            held: 0,
-            more: false,
-        };
+        return last();
     }
     if got == 0 {
         let used = feeding::finish(segment, blocks, buffers, line, out, held);
         print(aloud, &out[0..used]);
-        return Turn {
-            held: 0,
-            more: false,
-        };
+        return last();
     }
     let n = io::count(got, chunk);
     answer_chunk(
@@ -112,6 +118,8 @@ fn answer_all(
     aloud: bool,
 )
     requires { ⌜ (length (now line) ≡ mostHeld) × (length (now out) ≡ outBytes) ⌝ }
+    ensures served { λ _. ⌜ Served (now (segment .entry)) (now (blocks .entry)) (now (buffers .entry)) (now (segment .exit)) (now (blocks .exit)) (now (buffers .exit)) ⌝ }
+    ensures kept { λ _. ⌜ Kept (now (segment .entry)) (now (blocks .entry)) (now (buffers .entry)) (now (segment .exit)) (now (blocks .exit)) (now (buffers .exit)) ⌝ }
 {
     let mut held = 0;
     let mut reads = u64::MAX;
@@ -126,7 +134,10 @@ fn answer_all(
 }
 
 // All frames of standard input. Served aloud, their answers are printed.
-pub fn serve(segment: &mut [u8], blocks: &mut [u8], buffers: &mut [u8], aloud: bool) {
+pub fn serve(segment: &mut [u8], blocks: &mut [u8], buffers: &mut [u8], aloud: bool)
+    ensures served { λ _. ⌜ Served (now (segment .entry)) (now (blocks .entry)) (now (buffers .entry)) (now (segment .exit)) (now (blocks .exit)) (now (buffers .exit)) ⌝ }
+    ensures kept { λ _. ⌜ Kept (now (segment .entry)) (now (blocks .entry)) (now (buffers .entry)) (now (segment .exit)) (now (blocks .exit)) (now (buffers .exit)) ⌝ }
+{
     let mut line = [0u8; 523];
     let mut out = [0u8; 65536];
     let mut chunk = [0u8; 65536];

@@ -1,8 +1,17 @@
+use native.Mathlib.Omega.{arith}
 use borrow.Author.Needs.{needs}
-use mathlib.Core.Path.{_≡_}
+use borrow.Author.Tests.{not-false}
+use mathlib.Core.Path.{_≡_, refl}
+use mathlib.Core.Bool.{true}
 use Prim.Native.Nat.{_≤_}
 use lib.ListN.{length}
-use Rattle.serving.specs.Going.{mostHeld}
+use Rattle.rules.specs.Desk.{Desk}
+use Rattle.rules.specs.Allocation.{Alloc}
+use Rattle.memory.specs.Fine.{StandsFor}
+use Rattle.serving.specs.Going.{mostHeld, begun}
+use Rattle.serving.specs.Served.{Turned, Kept}
+use Rattle.serving.proofs.Keeps.{kept-on}
+use Rattle.serving.proofs.Turns.{turned-none, turned-on}
 use Rattle.serving.proofs.answer_all.Statement.{statement}
 use Rattle.serving.proofs.answer_all.Tie as tie
 
@@ -15,12 +24,14 @@ Inv-loop segment₀ blocks₀ buffers₀ line₀ out₀ chunk₀ aloud held₀ r
     × (length out ≡ length out₀)
     × (length chunk ≡ length chunk₀)
     × (held ≤ mostHeld)
+    × ((d : Desk) (s : Alloc) → StandsFor segment₀ blocks₀ buffers₀ d s → Turned (begun d s) segment blocks buffers line out held true)
+    × Kept segment₀ blocks₀ buffers₀ segment blocks buffers
 
 abbrev μ-loop : tie.MeasureT-loop
 μ-loop segment₀ blocks₀ buffers₀ line₀ out₀ chunk₀ aloud held₀ reads₀ segment blocks buffers line out chunk held reads = reads
 
 loop-holds : tie.Need-loop-holds Inv-loop μ-loop
-loop-holds c = search needs
+loop-holds c = (refl, refl, refl, refl, refl, refl, search needs, (λ d s h. turned-none d s _ _ _ _ _ h), λ _. (refl, refl, refl))
 
 answer-read-requires : tie.Need-answer-read-requires Inv-loop μ-loop
 answer-read-requires c κs = search needs
@@ -44,7 +55,7 @@ same-length-6 : tie.Need-same-length-6 Inv-loop μ-loop
 same-length-6 c = search needs
 
 returns : tie.Need-returns Inv-loop μ-loop
-returns c = search needs
+returns c = ((λ d s h. let t = c .before .before .before .before .before .before .before .before .before .before .before .before .before .before .before .before .before .before .before .before .before .before .loop .inv .7 d s h in let u = turned-on (begun d s) _ _ _ _ _ _ _ _ _ _ _ _ _ t (c .before .before .before .before .before .before .before .before .before .before .before .before .before .before .answer-read .ensures .1 .0 _ (t .on refl)) in (u .text, u .stands)), kept-on _ _ _ _ _ _ _ _ _ (c .before .before .before .before .before .before .before .before .before .before .before .before .before .before .before .before .before .before .before .before .before .before .loop .inv .8) (c .before .before .before .before .before .before .before .before .before .before .before .before .before .before .answer-read .ensures .1 .1))
 
 sub-reads : tie.Need-sub-reads Inv-loop μ-loop
 sub-reads c = search needs
@@ -53,7 +64,7 @@ loop-less : tie.Need-loop-less Inv-loop μ-loop
 loop-less c = search needs
 
 loop-again : tie.Need-loop-again Inv-loop μ-loop
-loop-again c = search needs
+loop-again c = (search needs, search needs, search needs, search needs, search needs, search needs, omega (arith, c .before .before .before .before .before .before .before .before .before .before .before .before .before .before .answer-read .ensures .0), (λ d s h. let t = c .before .before .before .before .before .before .before .before .before .before .before .before .before .before .before .before .before .before .before .before .before .before .loop .inv .7 d s h in let u = turned-on (begun d s) _ _ _ _ _ _ _ _ _ _ _ _ _ t (c .before .before .before .before .before .before .before .before .before .before .before .before .before .before .answer-read .ensures .1 .0 _ (t .on refl)) in record { text = u .text; stands = u .stands; on = λ _. u .on (not-false _ (c .if1 .left)) }), kept-on _ _ _ _ _ _ _ _ _ (c .before .before .before .before .before .before .before .before .before .before .before .before .before .before .before .before .before .before .before .before .before .before .loop .inv .8) (c .before .before .before .before .before .before .before .before .before .before .before .before .before .before .answer-read .ensures .1 .1))
 
 same-length-7 : tie.Need-same-length-7 Inv-loop μ-loop
 same-length-7 c = search needs
@@ -74,7 +85,7 @@ same-length-12 : tie.Need-same-length-12 Inv-loop μ-loop
 same-length-12 c = search needs
 
 returns-2 : tie.Need-returns-2 Inv-loop μ-loop
-returns-2 c = search needs
+returns-2 c = ((λ d s h. let t = c .before .loop .inv .7 d s h in (t .text, t .stands)), c .before .loop .inv .8)
 
 pub answer-all-spec : {M : Type 1} → statement M
 answer-all-spec =

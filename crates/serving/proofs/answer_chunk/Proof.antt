@@ -1,5 +1,7 @@
 use borrow.Author.Needs.{needs}
-use mathlib.Core.Path.{_≡_, sym}
+use Rattle.serving.proofs.Keeps.{kept-on}
+use Rattle.serving.specs.Served.{Kept}
+use mathlib.Core.Path.{_≡_, sym, _∙_}
 use mathlib.Core.Bool.{true≢false}
 use Prim.Native.Nat.{_≤_, _<_, _-_}
 use native.Mathlib.Omega.{arith}
@@ -7,6 +9,7 @@ use lib.ListN.{length, take}
 use Rattle.serving.specs.Going.{mostHeld, outBytes, Going, goes, written, At}
 use Rattle.serving.proofs.Parts.{rest-length}
 use Rattle.serving.proofs.Steps.{piece-at, chunk-at}
+use Rattle.serving.proofs.Turns.{at-behind}
 use Rattle.serving.proofs.answer_chunk.Statement.{statement}
 use Rattle.serving.proofs.answer_chunk.Tie as tie
 
@@ -20,6 +23,7 @@ Inv-loop segment₀ blocks₀ buffers₀ line₀ out₀ chunk before aloud held�
     × (length out ≡ length out₀)
     × (held ≤ mostHeld)
     × ((g : Going) → At (written g) segment₀ blocks₀ buffers₀ line₀ out₀ before 0 → At (written (goes g (take at chunk))) segment blocks buffers line out held 0)
+    × Kept segment₀ blocks₀ buffers₀ segment blocks buffers
 
 abbrev μ-loop : tie.MeasureT-loop
 μ-loop segment₀ blocks₀ buffers₀ line₀ out₀ chunk before aloud held₀ at₀ segment blocks buffers line out held at = length chunk - at
@@ -52,6 +56,9 @@ part-print-end c = search needs
 print-requires : tie.Need-print-requires Inv-loop μ-loop
 print-requires c κs = search needs
 
+last-requires : tie.Need-last-requires Inv-loop μ-loop
+last-requires c κs = search needs
+
 same-length : tie.Need-same-length Inv-loop μ-loop
 same-length c = search needs
 
@@ -68,7 +75,7 @@ same-length-5 : tie.Need-same-length-5 Inv-loop μ-loop
 same-length-5 c = search needs
 
 returns : tie.Need-returns Inv-loop μ-loop
-returns c = (omega arith, λ g a e. absurd (true≢false (sym e)))
+returns c = (omega (arith, c .last .ensures .0), ((λ g a e. absurd (true≢false (sym e ∙ c .last .ensures .1))), ((λ g a. at-behind g _ _ _ _ _ _ _ _ (piece-at g (c .before .before .before .before .before .before .before .before .before .before .before .before .before .before .before .before .before .before .before .before .before .before .before .before .before .before .before .before .before .before .args .chunk .now) _ _ _ _ _ (c .before .before .before .before .before .before .before .before .before .before .before .before .before .before .before .before .before .before .before .before .before .before .before .loop .at) (c .before .before .before .before .before .before .before .before .before .before .before .before .before .before .before .feed .result .taken) _ _ (c .before .before .before .before .before .before .before .before .before .before .before .before .before .before .before .feed .ensures .1 .1 .0 _ (c .before .before .before .before .before .before .before .before .before .before .before .before .before .before .before .before .before .before .before .before .before .before .before .loop .inv .7 g a)))), kept-on _ _ _ _ _ _ _ _ _ (c .before .before .before .before .before .before .before .before .before .before .before .before .before .before .before .before .before .before .before .before .before .before .before .loop .inv .8) (c .before .before .before .before .before .before .before .before .before .before .before .before .before .before .before .feed .ensures .1 .1 .1))))
 
 add-at : tie.Need-add-at Inv-loop μ-loop
 add-at c = omega (arith, c .before .before .before .before .before .before .before .before .before .before .before .before .before .before .before .feed .ensures .0 .0, rest-length (c .before .before .before .before .before .before .before .before .before .before .before .before .before .before .before .before .before .before .before .before .before .before .before .before .before .before .before .before .before .before .args .chunk .now) (c .before .before .before .before .before .before .before .before .before .before .before .before .before .before .before .before .before .before .before .before .before .before .before .loop .at), c .before .before .before .before .before .before .before .before .before .before .before .before .before .before .before .before .before .before .before .before .before .before .loop-test .taken, c .before .before .before .before .before .before .before .before .before .before .before .before .before .before .before .before .before .before .before .before .before .before .before .before .before .before .before .before .before .before .good)
@@ -79,7 +86,7 @@ loop-less c =
     omega (arith, some, c .before .before .before .before .before .before .before .before .before .before .before .before .before .before .before .before .before .before .before .before .before .before .loop-test .taken)
 
 loop-again : tie.Need-loop-again Inv-loop μ-loop
-loop-again c = (omega (arith, c .before .before .before .before .before .before .before .before .before .before .before .before .before .before .before .feed .ensures .0 .0, rest-length (c .before .before .before .before .before .before .before .before .before .before .before .before .before .before .before .before .before .before .before .before .before .before .before .before .before .before .before .before .before .before .args .chunk .now) (c .before .before .before .before .before .before .before .before .before .before .before .before .before .before .before .before .before .before .before .before .before .before .before .loop .at), c .before .before .before .before .before .before .before .before .before .before .before .before .before .before .before .before .before .before .before .before .before .before .loop-test .taken), search needs, search needs, search needs, search needs, search needs, c .before .before .before .before .before .before .before .before .before .before .before .before .before .before .before .feed .ensures .0 .1, λ g a. piece-at g (c .before .before .before .before .before .before .before .before .before .before .before .before .before .before .before .before .before .before .before .before .before .before .before .before .before .before .before .before .before .before .args .chunk .now) _ _ _ _ _ (c .before .before .before .before .before .before .before .before .before .before .before .before .before .before .before .before .before .before .before .before .before .before .before .loop .at) (c .before .before .before .before .before .before .before .before .before .before .before .before .before .before .before .feed .result .taken) _ _ (c .before .before .before .before .before .before .before .before .before .before .before .before .before .before .before .feed .ensures .1 .1 _ (c .before .before .before .before .before .before .before .before .before .before .before .before .before .before .before .before .before .before .before .before .before .before .before .loop .inv .7 g a)))
+loop-again c = (omega (arith, c .before .before .before .before .before .before .before .before .before .before .before .before .before .before .before .feed .ensures .0 .0, rest-length (c .before .before .before .before .before .before .before .before .before .before .before .before .before .before .before .before .before .before .before .before .before .before .before .before .before .before .before .before .before .before .args .chunk .now) (c .before .before .before .before .before .before .before .before .before .before .before .before .before .before .before .before .before .before .before .before .before .before .before .loop .at), c .before .before .before .before .before .before .before .before .before .before .before .before .before .before .before .before .before .before .before .before .before .before .loop-test .taken), search needs, search needs, search needs, search needs, search needs, c .before .before .before .before .before .before .before .before .before .before .before .before .before .before .before .feed .ensures .0 .1, (λ g a. piece-at g (c .before .before .before .before .before .before .before .before .before .before .before .before .before .before .before .before .before .before .before .before .before .before .before .before .before .before .before .before .before .before .args .chunk .now) _ _ _ _ _ (c .before .before .before .before .before .before .before .before .before .before .before .before .before .before .before .before .before .before .before .before .before .before .before .loop .at) (c .before .before .before .before .before .before .before .before .before .before .before .before .before .before .before .feed .result .taken) _ _ (c .before .before .before .before .before .before .before .before .before .before .before .before .before .before .before .feed .ensures .1 .1 .0 _ (c .before .before .before .before .before .before .before .before .before .before .before .before .before .before .before .before .before .before .before .before .before .before .before .loop .inv .7 g a))), kept-on _ _ _ _ _ _ _ _ _ (c .before .before .before .before .before .before .before .before .before .before .before .before .before .before .before .before .before .before .before .before .before .before .before .loop .inv .8) (c .before .before .before .before .before .before .before .before .before .before .before .before .before .before .before .feed .ensures .1 .1 .1))
 
 same-length-6 : tie.Need-same-length-6 Inv-loop μ-loop
 same-length-6 c = search needs
@@ -97,7 +104,7 @@ same-length-10 : tie.Need-same-length-10 Inv-loop μ-loop
 same-length-10 c = search needs
 
 returns-2 : tie.Need-returns-2 Inv-loop μ-loop
-returns-2 c = (c .before .loop .inv .6, λ g a e. chunk-at g _ _ _ _ _ _ _ _ _ (c .loop-test .left) (c .before .loop .inv .7 g a))
+returns-2 c = (c .before .loop .inv .6, ((λ g a e. chunk-at g _ _ _ _ _ _ _ _ _ (c .loop-test .left) (c .before .loop .inv .7 g a)), ((λ g a. at-behind g _ _ _ _ _ _ _ _ (c .before .loop .inv .7 g a)), c .before .loop .inv .8)))
 
 pub answer-chunk-spec : {M : Type 1} → statement M
 answer-chunk-spec =
@@ -114,6 +121,7 @@ answer-chunk-spec =
     part-print-start
     part-print-end
     print-requires
+    last-requires
     same-length
     same-length-2
     same-length-3

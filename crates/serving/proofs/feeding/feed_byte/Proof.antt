@@ -1,6 +1,8 @@
 use native.Mathlib.Omega.{arith}
 use Rattle.serving.proofs.Steps.{line-answered, frame-held, line-at, byte-at}
 use borrow.Author.Needs.{needs}
+use mathlib.Core.Path.{refl}
+use Rattle.serving.proofs.Keeps.{line-kept}
 use Rattle.serving.proofs.feeding.feed_byte.Statement.{statement}
 use Rattle.serving.proofs.feeding.feed_byte.Tie as tie
 
@@ -32,7 +34,7 @@ same-length-5 : tie.Need-same-length-5
 same-length-5 c = search needs
 
 returns : tie.Need-returns
-returns c = ((omega arith, omega (arith, c .before .before .before .before .before .before .before .before .answer-line .ensures .0 .1)), λ g a. line-at g _ _ _ _ _ _ _ (c .before .before .before .before .before .before .before .before .before .before .before .before .before .before .before .if1 .taken) (line-answered g _ _ _ _ _ _ _ _ _ _ _ (c .before .before .before .before .before .before .before .before .answer-line .ensures .1) (omega (arith, c .before .before .before .before .before .before .before .before .before .before .before .before .before .before .before .before .before .before .before .before .before .pre .1, c .before .before .before .before .before .before .before .before .before .before .before .before .before .before .before .before .before .before .before .before .before .pre .3)) (c .before .before .before .before .before .before .before .before .answer-line .ensures .0 .1) (frame-held g _ _ _ _ _ _ _ a) (a .printed)))
+returns c = ((omega arith, omega (arith, c .before .before .before .before .before .before .before .before .answer-line .ensures .0 .1)), ((λ g a. line-at g _ _ _ _ _ _ _ (c .before .before .before .before .before .before .before .before .before .before .before .before .before .before .before .if1 .taken) (line-answered g _ _ _ _ _ _ _ _ _ _ _ (c .before .before .before .before .before .before .before .before .answer-line .ensures .1) (omega (arith, c .before .before .before .before .before .before .before .before .before .before .before .before .before .before .before .before .before .before .before .before .before .pre .1, c .before .before .before .before .before .before .before .before .before .before .before .before .before .before .before .before .before .before .before .before .before .pre .3)) (c .before .before .before .before .before .before .before .before .answer-line .ensures .0 .1) (frame-held g _ _ _ _ _ _ _ a) (a .printed))), line-kept _ _ _ _ _ _ _ _ _ _ _ (c .before .before .before .before .before .before .before .before .answer-line .ensures .1)))
 
 keep-requires : tie.Need-keep-requires
 keep-requires c κs = search needs
@@ -41,7 +43,7 @@ same-length-6 : tie.Need-same-length-6
 same-length-6 c = search needs
 
 returns-2 : tie.Need-returns-2
-returns-2 c = ((c .before .before .keep .ensures .1, omega (arith, c .before .before .before .before .before .before .before .before .before .before .pre .3)), λ g a. byte-at g _ _ _ _ _ _ _ _ _ _ (c .before .before .before .before .if1 .left) (c .before .before .keep .ensures .0) a)
+returns-2 c = ((c .before .before .keep .ensures .1, omega (arith, c .before .before .before .before .before .before .before .before .before .before .pre .3)), ((λ g a. byte-at g _ _ _ _ _ _ _ _ _ _ (c .before .before .before .before .if1 .left) (c .before .before .keep .ensures .0) a), λ _. (refl, refl, refl)))
 
 pub feed-byte-spec : {M : Type 1} → statement M
 feed-byte-spec =

@@ -1,0 +1,30 @@
+-- Memories that are not sound are left as they are.
+use Prim.Native.Nat.{ℕ}
+use mathlib.Core.Path.{_≡_, refl, ap, _∙_}
+use mathlib.Core.Bool.{Bool, false}
+use mathlib.Core.List.{List}
+use borrow.Author.Tests.{eq-eqb}
+use lib.ListN.{length}
+use Rattle.words.specs.Word.{zeros}
+use Rattle.words.proofs.Runs.{length-zeros}
+use Rattle.rules.specs.Limits.{answerRoom}
+use Rattle.sound.specs.Sound.{soundly}
+use Rattle.desk.specs.Answered.{usable}
+use Rattle.lines.specs.Asked.{Asked}
+use Rattle.serving.specs.Served.{Kept}
+
+pub line-kept : (segment blocks buffers line out segment′ blocks′ buffers′ out′ : List ℕ) (used r : ℕ) → Asked segment blocks buffers line out segment′ blocks′ buffers′ out′ used r
+    → Kept segment blocks buffers segment′ blocks′ buffers′
+unfolding usable
+line-kept segment blocks buffers line out segment′ blocks′ buffers′ out′ used r a h =
+    let u : usable segment blocks buffers (zeros answerRoom) ≡ false = rw (eq-eqb (length (zeros answerRoom)) answerRoom (length-zeros answerRoom)) h in
+    let x = a .event .unfit u in
+    (x .1, x .2, x .3)
+
+-- one change behind another
+pub kept-on : (segment blocks buffers segment′ blocks′ buffers′ segment″ blocks″ buffers″ : List ℕ) → Kept segment blocks buffers segment′ blocks′ buffers′
+    → Kept segment′ blocks′ buffers′ segment″ blocks″ buffers″ → Kept segment blocks buffers segment″ blocks″ buffers″
+kept-on segment blocks buffers segment′ blocks′ buffers′ segment″ blocks″ buffers″ k l h =
+    let x = k h in
+    let y = l (ap (λ (a : List ℕ). soundly a blocks′ buffers′) (x .0) ∙ ap (λ (a : List ℕ). soundly segment a buffers′) (x .1) ∙ ap (λ (a : List ℕ). soundly segment blocks a) (x .2) ∙ h) in
+    (y .0 ∙ x .0, y .1 ∙ x .1, y .2 ∙ x .2)
