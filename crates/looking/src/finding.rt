@@ -1,5 +1,5 @@
 // What look shows, found as numbers: a refusal, or where the bytes lie and how many there are.
-use blocks::layout::RECORD_HEAD;
+use blocks::RECORD_HEAD;
 use blocks::reading::Found;
 use judges::accessors::Accessor;
 use judges::accessors::accessor_of;
