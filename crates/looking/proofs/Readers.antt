@@ -1,14 +1,12 @@
 -- What is found for a reader is what each desk shows that the memories stand for.
-use Prim.Native.Nat.{ℕ, _*_, _≤_, _<_, min}
+use Prim.Native.Nat.{ℕ, _*_, _≤_, _<_}
 use mathlib.Core.Path.{_≡_, refl, sym, ap, _∙_, subst}
-use mathlib.Core.Bool.{Bool, true, false, cond, false≢true}
+use mathlib.Core.Bool.{Bool, true, false, false≢true}
 use mathlib.Core.List.{List}
 use native.Mathlib.Omega.{arith}
-use native.Mathlib.Decide.{decLt}
-use borrow.Author.Tests.{le-leb, eq-eqb, ne-eqb}
-use lib.Dec.{eqb}
+use borrow.Author.Tests.{eq-eqb, ne-eqb}
 use lib.ListN.{length}
-use Rattle.rules.specs.Limits.{files, places, entries, bufferBytes}
+use Rattle.rules.specs.Limits.{entries, bufferBytes}
 use Rattle.rules.specs.State.{Req, idle, reading, writing, readDone, writeDone, Built}
 use Rattle.rules.specs.Reply.{leaves}
 use Rattle.rules.specs.Look.{lookFile, lookReq}
@@ -31,7 +29,7 @@ use Rattle.judges.specs.declared.outstanding.Outstanding.the-variants.{Complete
 use Rattle.judges.specs.declared.accessors.Accessor.{Accessor}
 use Rattle.judges.specs.declared.accessors.Accessor.the-variants.{Refused, Open}
 use Rattle.judges.specs.Requests.{outstandingOf}
-use Rattle.judges.specs.Accessors.{wordsAt, accessorAt, accessorOf}
+use Rattle.judges.specs.Accessors.{accessorAt, accessorOf}
 use Rattle.judges.proofs.Names.{accessor-is}
 use Rattle.judges.proofs.Waits.{fine-at}
 use Rattle.transfers.proofs.Fits.{Fit, fit}

@@ -1,5 +1,5 @@
 -- What look shows fits a record buffer.
-use Prim.Native.Nat.{ℕ, _+_, _*_, _≤_}
+use Prim.Native.Nat.{ℕ, _+_, _≤_}
 use mathlib.Core.Path.{_≡_, refl, sym, _∙_}
 use mathlib.Core.Bool.{true, false, false≢true}
 use mathlib.Core.List.{List, [], _∷_}
@@ -13,14 +13,13 @@ use Rattle.rules.specs.Store.{recordWords}
 use Rattle.rules.specs.Reply.{leaves}
 use Rattle.rules.specs.Look.{oldest, lookFile, lookReq}
 use Rattle.rules.specs.Desk.{Desk, look, respond, replyBytes}
-use Rattle.rules.specs.Allocation.{Alloc}
 use Rattle.rules.proofs.Split.{by-cases, pick-true, pick-false}
 use Rattle.shares.specs.Groups.{All, Small}
 use Rattle.shares.proofs.Says.{small-recs}
 use Rattle.laws.specs.Bounds.{Bounded}
 use Rattle.laws.proofs.Bounds.{bounds-at}
 use Rattle.memory.specs.Stands.{Bytes}
-use Rattle.memory.specs.Fine.{Fine, StandsFor}
+use Rattle.memory.specs.Fine.{Fine}
 use Rattle.midst.proofs.Begins.{mid-begin}
 use Rattle.judges.specs.declared.accessors.Accessor.{Accessor}
 use Rattle.judges.specs.Accessors.{accessorOf}

@@ -10,7 +10,6 @@ use kinds::limits::BUFFER_BYTES;
 use kinds::limits::PLACES;
 use kinds::limits::SHARE_BYTES;
 use segment::layout;
-ghost use mathlib.Core.Path.{_≡_};
 ghost use Rattle.judges.specs.declared.outstanding.Outstanding.the-variants.{Completed};
 ghost use Rattle.tallies.specs.Tallies.{FileStands};
 ghost use Rattle.looking.specs.Shown.{OfFile, OfReader, Finds, Stood, Opens, ReaderOpens};

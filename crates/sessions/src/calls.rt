@@ -3,7 +3,6 @@ use loading::load;
 use looking::look;
 use looking::look_status;
 use saving::save;
-ghost use mathlib.Core.Path.{_≡_};
 ghost use Prim.Native.Nat.{_+_, _≤_};
 ghost use lib.ListN.{length};
 
