@@ -5,15 +5,16 @@
 //!   opinion run                   the event program on standard input
 //!   opinion coverage SEED K N     K sessions of N calls: how often each thing occurred
 //!
-//! Built with the feature `library`, which links the proved desk (tools/check-host builds it):
+//! With the library of the proved desk.  DESK is the command line of the program that calls it,
+//! desk.c, and has an emulator before it where the machine needs one (tools/check-host builds it).
 //!
-//!   opinion library SEED K N      K sessions of N calls, and what goes with them, on both
-//!   opinion library-run           the event program on standard input, answered by the library
-//!   opinion library-replay        the calls of a session on standard input, answered by the library
+//!   opinion library SEED K N -- DESK    K sessions of N calls, and what goes with them, on both
+//!   opinion library-run -- DESK         the event program on standard input, answered by the library
+//!   opinion library-replay -- DESK      the calls of a session on standard input, answered by the
+//!                                       library
 
 mod coverage;
 mod generator;
-#[cfg(feature = "library")]
 mod library;
 mod model;
 mod outcome;
@@ -21,13 +22,14 @@ mod session;
 #[cfg(test)]
 mod tests;
 
+use library::Library;
 use model::desk::Desk;
 use std::io::{Read, Write};
 
 const USAGE: &str = "opinion session SEED N | opinion replay | opinion run \
                      | opinion coverage SEED SESSIONS N \
-                     | opinion library SEED SESSIONS N | opinion library-run \
-                     | opinion library-replay";
+                     | opinion library SEED SESSIONS N -- DESK... | opinion library-run -- DESK... \
+                     | opinion library-replay -- DESK...";
 
 fn main() {
     let arguments: Vec<String> = std::env::args().skip(1).collect();
@@ -39,15 +41,18 @@ fn main() {
         ["coverage", seed, sessions, n] => {
             coverage::coverage_text(number(seed), number(sessions), number(n)).into_bytes()
         }
-        #[cfg(feature = "library")]
-        ["library", seed, sessions, n] => {
-            let agree = library::compare_all(number(seed), number(sessions), number(n) as usize);
+        ["library", seed, sessions, n, "--", ref desk @ ..] => {
+            let (seed, sessions, n) = (number(seed), number(sessions), number(n) as usize);
+            let agree = library::compare_all(&library_of(desk), seed, sessions, n);
             std::process::exit(if agree { 0 } else { 1 });
         }
-        #[cfg(feature = "library")]
-        ["library-run"] => library::answer_lines(&lines(&input())),
-        #[cfg(feature = "library")]
-        ["library-replay"] => library::replay_text(&String::from_utf8_lossy(&input())).into_bytes(),
+        ["library-run", "--", ref desk @ ..] => {
+            library::answer_lines(&library_of(desk), &lines(&input()))
+        }
+        ["library-replay", "--", ref desk @ ..] => {
+            let session = String::from_utf8_lossy(&input()).into_owned();
+            library::replay_text(&library_of(desk), &session).into_bytes()
+        }
         _ => {
             eprintln!("{USAGE}");
             std::process::exit(2);
@@ -60,6 +65,14 @@ fn main() {
 fn number(text: &str) -> u64 {
     text.parse().unwrap_or_else(|_| {
         eprintln!("not a number: {text}");
+        std::process::exit(2)
+    })
+}
+
+/// The library that this command line gives.
+fn library_of(desk: &[&str]) -> Library {
+    Library::new(desk).unwrap_or_else(|fault| {
+        eprintln!("{fault}");
         std::process::exit(2)
     })
 }

@@ -84,7 +84,6 @@ impl Generator {
     }
 
     /// All eight files in play, with many accessors each.
-    #[cfg(feature = "library")]
     pub fn at_all_files(mut self) -> Generator {
         self.files = (0..8).collect();
         self.crowded = true;

@@ -1,6 +1,7 @@
 //! A case: calls that reach a desk, bytes changed behind the library's back, and the calls that
 //! are compared.  One that fails is made smaller, and printed so that it can be tried again.
 
+use super::program::Library;
 use super::twin::{text, Difference, Twin};
 use crate::generator::Call;
 use crate::model::desk::Desk;
@@ -35,16 +36,16 @@ pub struct Case {
 
 impl Case {
     /// Where library and model differ, if they do.
-    pub fn difference(&self) -> Option<Difference> {
-        match self.start() {
+    pub fn difference(&self, library: &Library) -> Option<Difference> {
+        match self.start(library) {
             Ok(mut twin) => self.calls.iter().find_map(|call| twin.call(call).err()),
             Err(difference) => Some(difference),
         }
     }
 
-    fn start(&self) -> Result<Twin, Difference> {
+    fn start<'a>(&self, library: &'a Library) -> Result<Twin<'a>, Difference> {
         if self.before.is_empty() && self.changes.is_empty() {
-            return Twin::fresh();
+            return Twin::fresh(library);
         }
         let mut desk = Desk::fresh();
         for call in &self.before {
@@ -52,16 +53,16 @@ impl Case {
         }
         let mut memories = desk.memories();
         apply(&self.changes, &mut memories);
-        Ok(Twin::of(&memories))
+        Ok(Twin::of(library, &memories))
     }
 
     /// Calls and changes are dropped while it still fails.
-    pub fn shrunk(mut self) -> Case {
+    pub fn shrunk(mut self, library: &Library) -> Case {
         loop {
             let size = self.size();
-            self = shrink(self, |case| &mut case.calls);
-            self = shrink(self, |case| &mut case.changes);
-            self = shrink(self, |case| &mut case.before);
+            self = shrink(self, library, |case| &mut case.calls);
+            self = shrink(self, library, |case| &mut case.changes);
+            self = shrink(self, library, |case| &mut case.before);
             if self.size() == size {
                 return self;
             }
@@ -73,7 +74,7 @@ impl Case {
     }
 
     /// What to call, a line a call, and where the two differ.
-    pub fn report(&self) -> String {
+    pub fn report(&self, library: &Library) -> String {
         let mut lines = Vec::new();
         if !self.before.is_empty() {
             lines.push("these calls reach the desk:".to_string());
@@ -87,7 +88,8 @@ impl Case {
         }
         lines.push("these calls show the difference, at the last one:".to_string());
         lines.extend(self.calls.iter().map(line));
-        lines.push(self.difference().unwrap_or_else(|| "it does not show again".to_string()));
+        let difference = self.difference(library);
+        lines.push(difference.unwrap_or_else(|| "it does not show again".to_string()));
         lines.join("\n")
     }
 }
@@ -104,7 +106,7 @@ pub fn apply(changes: &[Change], memories: &mut Memories) {
 }
 
 /// Drops halves, quarters, ... and single items of one of a case's lists.
-fn shrink<T: Clone>(mut case: Case, list: fn(&mut Case) -> &mut Vec<T>) -> Case {
+fn shrink<T: Clone>(mut case: Case, library: &Library, list: fn(&mut Case) -> &mut Vec<T>) -> Case {
     let mut run = list(&mut case).len();
     while run > 0 {
         let mut from = 0;
@@ -113,7 +115,7 @@ fn shrink<T: Clone>(mut case: Case, list: fn(&mut Case) -> &mut Vec<T>) -> Case 
             let items = list(&mut smaller);
             let end = (from + run).min(items.len());
             items.drain(from..end);
-            if smaller.difference().is_some() {
+            if smaller.difference(library).is_some() {
                 case = smaller;
             } else {
                 from += run;

@@ -2,6 +2,7 @@
 
 use super::caller::Caller;
 use super::case::Case;
+use super::program::Library;
 use super::reached::Reached;
 use super::tally::Tally;
 use crate::generator::frames::{build_frame, control_frame, read_frame, write_frame};
@@ -9,7 +10,7 @@ use crate::generator::random::Random;
 use crate::generator::Call;
 
 /// Sends each frame to a desk that some calls reached; the case, if one is answered otherwise.
-pub fn all_frames(seed: u64, tally: &mut Tally) -> Result<(), Case> {
+pub fn all_frames(library: &Library, seed: u64, tally: &mut Tally) -> Result<(), Case> {
     let mut caller = Caller::new(seed);
     let mut random = Random::new(seed);
     let reached = Reached::by(&mut caller, random.between(20, 120));
@@ -28,7 +29,7 @@ pub fn all_frames(seed: u64, tally: &mut Tally) -> Result<(), Case> {
     }
     frames.extend([0, 1, 8, 255].iter().flat_map(|file| builds(*file)));
     let calls: Vec<Call> = frames.into_iter().map(Call::Event).collect();
-    reached.try_each(&calls, tally)
+    reached.try_each(library, &calls, tally)
 }
 
 /// Every first byte with every length a small frame can have, and some long ones.

@@ -1,188 +1,110 @@
 //! The library's side: a host that lends memories and calls.
 
-use super::abi::*;
-use super::lent::{ask, Fault, Lent, Output};
+use super::program::{Fault, Library, Reply, Request, Run};
 use crate::generator::Call;
 use crate::model::limits::{ANSWER_BYTES, BUFFER_BYTES};
 use crate::model::segment::Memories;
 use crate::outcome::Outcome;
 
-#[derive(Clone)]
-pub struct Host {
-    segment: Lent,
-    blocks: Lent,
-    buffers: Lent,
+pub struct Host<'a> {
+    library: &'a Library,
+    /// Hosts share the program, which holds the memories of one of them: what it holds is known by
+    /// this number.
+    number: usize,
+    /// The library's memories, to the byte: as they were lent, with every change that was told.
+    memories: Memories,
+    shift: usize,
     /// The lengths of the answer and the record memory that it lends.
     answer_length: usize,
     record_length: usize,
     calls: usize,
 }
 
-// SAFETY, of each call below: each pointer leads to as many bytes as the length behind it says,
-// and none of them overlap.
-impl Host {
+impl<'a> Host<'a> {
     /// Lends these memories, of any lengths, and answer and record memories of the right ones.
-    pub fn new(memories: &Memories) -> Host {
-        Host::lending(memories, ANSWER_BYTES, BUFFER_BYTES)
+    pub fn new(library: &'a Library, memories: &Memories) -> Host<'a> {
+        Host::lending(library, memories, ANSWER_BYTES, BUFFER_BYTES)
     }
 
-    pub fn lending(memories: &Memories, answer_length: usize, record_length: usize) -> Host {
+    pub fn lending(
+        library: &'a Library,
+        memories: &Memories,
+        answer_length: usize,
+        record_length: usize,
+    ) -> Host<'a> {
         let shift = memories.segment.first().map_or(0, |b| usize::from(*b));
-        Host {
-            segment: Lent::new(&memories.segment, shift + 1),
-            blocks: Lent::new(&memories.blocks, shift + 2),
-            buffers: Lent::new(&memories.buffers, shift + 7),
-            answer_length,
-            record_length,
-            calls: 0,
-        }
+        let (number, memories) = (library.new_host(), memories.clone());
+        Host { library, number, memories, shift, answer_length, record_length, calls: 0 }
     }
 
-    /// Other memories of the same lengths.
+    /// Other memories, which the next call lends.
     pub fn set(&mut self, memories: &Memories) {
-        self.segment.bytes_mut().copy_from_slice(&memories.segment);
-        self.blocks.bytes_mut().copy_from_slice(&memories.blocks);
-        self.buffers.bytes_mut().copy_from_slice(&memories.buffers);
+        self.memories = memories.clone();
+        self.number = self.library.new_host();
     }
 
-    /// Whether these are the bytes of the memories now.
-    pub fn holds(&self, memories: &Memories) -> bool {
-        self.segment.bytes() == memories.segment
-            && self.blocks.bytes() == memories.blocks
-            && self.buffers.bytes() == memories.buffers
+    pub fn library(&self) -> &'a Library {
+        self.library
     }
 
-    pub fn memories(&self) -> Memories {
-        Memories {
-            segment: self.segment.bytes().to_vec(),
-            blocks: self.blocks.bytes().to_vec(),
-            buffers: self.buffers.bytes().to_vec(),
-        }
-    }
-
-    pub fn segment(&self) -> &[u8] {
-        self.segment.bytes()
-    }
-
-    pub fn blocks(&self) -> &[u8] {
-        self.blocks.bytes()
-    }
-
-    pub fn buffers(&self) -> &[u8] {
-        self.buffers.bytes()
+    pub fn memories(&self) -> &Memories {
+        &self.memories
     }
 
     pub fn call(&mut self, call: &Call) -> Result<Outcome, Fault> {
         self.calls += 1;
-        let shade = (self.calls % 251) as u8 + 1;
-        let outcome = match call {
-            Call::Event(frame) => self.event(frame, shade),
-            Call::Look(file, reader) => self.look(*file, *reader, shade),
-            Call::Save(file, room) => self.save(*file, *room, shade),
-            Call::Load(file, text) => self.load(*file, text),
+        let shade = self.calls % 251 + 1;
+        let request = match call {
+            Call::Event(frame) => {
+                Request::new(b'E').number(shade).number(self.answer_length).lent(frame, self.calls)
+            }
+            Call::Look(file, reader) => Request::new(b'L')
+                .number(shade)
+                .number(self.record_length)
+                .number(*file)
+                .number(*reader),
+            Call::Save(file, room) => Request::new(b'S').number(shade).number(*room).number(*file),
+            Call::Load(file, text) => Request::new(b'D').number(*file).lent(text, self.calls),
         };
-        self.check_guards()?;
-        outcome
+        let Reply { status, bytes, .. } = self.ask(request)?;
+        Ok(match call {
+            Call::Event(_) => Outcome::of_answer(bytes),
+            _ => Outcome { status, bytes },
+        })
     }
 
     pub fn fresh(&mut self) -> Result<u8, Fault> {
-        let status = unsafe {
-            tendrilhook_fresh(
-                self.segment.pointer(),
-                self.segment.length(),
-                self.blocks.pointer(),
-                self.blocks.length(),
-                self.buffers.pointer(),
-                self.buffers.length(),
-            )
-        };
-        self.check_guards()?;
-        Ok(status)
+        Ok(self.ask(Request::new(b'F'))?.status)
     }
 
-    fn event(&mut self, frame: &[u8], shade: u8) -> Result<Outcome, Fault> {
-        let mut answer = Output::new(self.answer_length, shade);
-        let mut lent_frame = Lent::new(frame, self.calls);
-        let length = unsafe {
-            tendrilhook_event(
-                self.segment.pointer(),
-                self.segment.length(),
-                self.blocks.pointer(),
-                self.blocks.length(),
-                self.buffers.pointer(),
-                self.buffers.length(),
-                answer.pointer(),
-                answer.length(),
-                lent_frame.pointer(),
-                lent_frame.length(),
-            )
+    fn ask(&mut self, request: Request) -> Result<Reply, Fault> {
+        let request = match self.library.lender() == self.number {
+            true => request,
+            false => self.lend().then(request),
         };
-        lent_frame.check_same(frame, "frame")?;
-        answer.set_given_length(length);
-        Ok(Outcome::of_answer(answer.written("answer")?))
+        let reply = self.library.ask(self.number, &request)?;
+        for run in &reply.changes {
+            self.change(run).ok_or("a change is told of bytes that there are not")?;
+        }
+        match reply.fault.is_empty() {
+            true => Ok(reply),
+            false => Err(reply.fault),
+        }
     }
 
-    fn look(&mut self, file: usize, reader: usize, shade: u8) -> Result<Outcome, Fault> {
-        let mut record = Output::new(self.record_length, shade);
-        let status = unsafe {
-            tendrilhook_look(
-                self.segment.pointer(),
-                self.segment.length(),
-                self.blocks.pointer(),
-                self.blocks.length(),
-                self.buffers.pointer(),
-                self.buffers.length(),
-                file,
-                reader,
-                record.pointer(),
-                record.length(),
-                record.given_length(),
-            )
-        };
-        Ok(Outcome { status, bytes: record.written("record")? })
+    fn lend(&self) -> Request {
+        let Memories { segment, blocks, buffers } = &self.memories;
+        Request::new(b'M')
+            .lent(segment, self.shift + 1)
+            .lent(blocks, self.shift + 2)
+            .lent(buffers, self.shift + 7)
     }
 
-    fn save(&mut self, file: usize, room: usize, shade: u8) -> Result<Outcome, Fault> {
-        let mut output = Output::new(room, shade);
-        let status = unsafe {
-            tendrilhook_save(
-                self.segment.pointer(),
-                self.segment.length(),
-                self.blocks.pointer(),
-                self.blocks.length(),
-                self.buffers.pointer(),
-                self.buffers.length(),
-                file,
-                output.pointer(),
-                output.length(),
-                output.given_length(),
-            )
-        };
-        Ok(Outcome { status, bytes: output.written("sheet")? })
-    }
-
-    fn load(&mut self, file: usize, text: &[u8]) -> Result<Outcome, Fault> {
-        let mut lent_text = Lent::new(text, self.calls);
-        let status = unsafe {
-            tendrilhook_load(
-                self.segment.pointer(),
-                self.segment.length(),
-                self.blocks.pointer(),
-                self.blocks.length(),
-                self.buffers.pointer(),
-                self.buffers.length(),
-                file,
-                lent_text.pointer(),
-                lent_text.length(),
-            )
-        };
-        lent_text.check_same(text, "text")?;
-        Ok(Outcome { status, bytes: Vec::new() })
-    }
-
-    fn check_guards(&self) -> Result<(), Fault> {
-        ask(self.segment.guards_stand(), "bytes beside the segment were changed")?;
-        ask(self.blocks.guards_stand(), "bytes beside the blocks were changed")?;
-        ask(self.buffers.guards_stand(), "bytes beside the buffers were changed")
+    fn change(&mut self, run: &Run) -> Option<()> {
+        let Memories { segment, blocks, buffers } = &mut self.memories;
+        let memory = [segment, blocks, buffers].into_iter().nth(run.part)?;
+        let end = run.at.checked_add(run.bytes.len())?;
+        memory.get_mut(run.at..end)?.copy_from_slice(&run.bytes);
+        Some(())
     }
 }

@@ -3,6 +3,7 @@
 use super::caller::Caller;
 use super::case::line;
 use super::host::Host;
+use super::program::Library;
 use super::reached::Reached;
 use super::twin::{Difference, Twin};
 use super::UNSOUND;
@@ -21,7 +22,7 @@ struct Loan {
 }
 
 /// How many calls agreed.
-pub fn wrong_lengths(seed: u64) -> Result<u64, Difference> {
+pub fn wrong_lengths(library: &Library, seed: u64) -> Result<u64, Difference> {
     let mut caller = Caller::new(seed);
     let mut random = Random::new(seed);
     let desk = Reached::by(&mut caller, 60).desk;
@@ -41,7 +42,7 @@ pub fn wrong_lengths(seed: u64) -> Result<u64, Difference> {
                 _ => true,
             });
             let told = loan.text();
-            calls += refused(&loan, &made, which).map_err(|d| format!("{told}: {d}"))?;
+            calls += refused(library, &loan, &made, which).map_err(|d| format!("{told}: {d}"))?;
         }
     }
     Ok(calls)
@@ -67,14 +68,19 @@ fn wrong_loan(good: &Memories, which: usize, random: &mut Random) -> Loan {
 }
 
 /// Each call is refused, and all bytes stay; so is fresh, which is lent the desk's memories alone.
-fn refused(loan: &Loan, calls: &[Call], which: usize) -> Result<u64, Difference> {
-    let mut host = Host::lending(&loan.memories, loan.answer, loan.record);
+fn refused(
+    library: &Library,
+    loan: &Loan,
+    calls: &[Call],
+    which: usize,
+) -> Result<u64, Difference> {
+    let mut host = Host::lending(library, &loan.memories, loan.answer, loan.record);
     for call in calls {
         let outcome = host.call(call)?;
         if outcome != (Outcome { status: UNSOUND, bytes: Vec::new() }) {
             return Err(format!("status {} by this call:\n{}", outcome.status, line(call)));
         }
-        if !host.holds(&loan.memories) {
+        if *host.memories() != loan.memories {
             return Err(format!("a memory was changed by this call:\n{}", line(call)));
         }
     }
@@ -82,7 +88,7 @@ fn refused(loan: &Loan, calls: &[Call], which: usize) -> Result<u64, Difference>
         return Ok(calls.len() as u64);
     }
     let status = host.fresh()?;
-    if status != UNSOUND || !host.holds(&loan.memories) {
+    if status != UNSOUND || *host.memories() != loan.memories {
         return Err(format!("fresh: status {status}, or it changed a memory"));
     }
     Ok(calls.len() as u64 + 1)
@@ -113,7 +119,7 @@ impl Loan {
 }
 
 /// Fresh asks nothing of the bytes, and leaves none of them.
-pub fn fresh_desks(seed: u64) -> Result<u64, Difference> {
+pub fn fresh_desks(library: &Library, seed: u64) -> Result<u64, Difference> {
     let mut random = Random::new(seed);
     let mut memories = Desk::fresh().memories();
     let mut calls = 0;
@@ -121,7 +127,7 @@ pub fn fresh_desks(seed: u64) -> Result<u64, Difference> {
         for memory in [&mut memories.segment, &mut memories.blocks, &mut memories.buffers] {
             memory.iter_mut().for_each(|byte| *byte = random.byte());
         }
-        Twin::made_fresh(&memories)?;
+        Twin::made_fresh(library, &memories)?;
         calls += 1;
     }
     Ok(calls)

@@ -2,6 +2,7 @@
 
 use super::caller::{unbuilt, Caller};
 use super::case::Case;
+use super::program::Library;
 use super::reached::Reached;
 use super::tally::Tally;
 use crate::generator::random::Random;
@@ -21,7 +22,7 @@ pub fn far(number: usize, random: &mut Random) -> usize {
 }
 
 /// The case, if one is answered otherwise.
-pub fn all_numbers(seed: u64, tally: &mut Tally) -> Result<(), Case> {
+pub fn all_numbers(library: &Library, seed: u64, tally: &mut Tally) -> Result<(), Case> {
     let mut caller = Caller::new(seed);
     let mut random = Random::new(seed);
     let reached = Reached::by(&mut caller, random.between(20, 120));
@@ -33,7 +34,7 @@ pub fn all_numbers(seed: u64, tally: &mut Tally) -> Result<(), Case> {
         calls.push(Call::Load(file, caller.good_sheet()));
         calls.push(Call::Load(file, Vec::new()));
     }
-    reached.try_each(&calls, tally)
+    reached.try_each(library, &calls, tally)
 }
 
 /// Every reader of every file, and far ones of both.

@@ -2,6 +2,7 @@
 
 use super::caller::Caller;
 use super::case::Case;
+use super::program::Library;
 use super::tally::Tally;
 use super::twin::Twin;
 use crate::generator::Call;
@@ -26,9 +27,14 @@ impl Reached {
     }
 
     /// Makes each call on this desk; the case, if one is answered otherwise.
-    pub fn try_each(&self, calls: &[Call], tally: &mut Tally) -> Result<(), Case> {
+    pub fn try_each(
+        &self,
+        library: &Library,
+        calls: &[Call],
+        tally: &mut Tally,
+    ) -> Result<(), Case> {
         let memories = self.desk.memories();
-        let mut twin = Twin::of(&memories);
+        let mut twin = Twin::of(library, &memories);
         for call in calls {
             match twin.call(call) {
                 Ok(outcome) => {

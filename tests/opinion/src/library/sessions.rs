@@ -4,6 +4,7 @@
 use super::caller::Caller;
 use super::case::{apply, Case};
 use super::damage::changes;
+use super::program::Library;
 use super::sheets::comes_back;
 use super::tally::Tally;
 use super::twin::Twin;
@@ -15,16 +16,21 @@ use crate::model::status::DONE;
 use crate::outcome::{make_call, Outcome};
 
 /// A session of so many calls, now and then a long one; the case, if one is answered otherwise.
-pub fn session(seed: u64, calls: usize, tally: &mut Tally) -> Result<(), Case> {
+pub fn session(library: &Library, seed: u64, calls: usize, tally: &mut Tally) -> Result<(), Case> {
     let calls = if seed % 25 == 0 { 10 * calls } else { calls };
-    let mut twin = Twin::fresh().map_err(|_| Case::default())?;
+    let mut twin = Twin::fresh(library).map_err(|_| Case::default())?;
     let mut caller = Caller::new(seed);
     play(Case::default(), &mut twin, &Desk::fresh(), &mut caller, calls, tally)
 }
 
 /// A session that begins with a request and a timer at each of the 64 places: no entry is free.
-pub fn full_session(seed: u64, calls: usize, tally: &mut Tally) -> Result<(), Case> {
-    let mut twin = Twin::fresh().map_err(|_| Case::default())?;
+pub fn full_session(
+    library: &Library,
+    seed: u64,
+    calls: usize,
+    tally: &mut Tally,
+) -> Result<(), Case> {
+    let mut twin = Twin::fresh(library).map_err(|_| Case::default())?;
     let mut case = Case::default();
     for frame in full_house(&mut Random::new(seed)) {
         send(Call::Event(frame), &mut case, &mut twin, tally)?;
@@ -58,12 +64,12 @@ fn full_house(random: &mut Random) -> Vec<Vec<u8>> {
 }
 
 /// A desk reached by some calls, bytes of it changed, and a few calls on what that makes.
-pub fn damaged_session(seed: u64, rounds: usize, tally: &mut Tally) -> Result<(), Case> {
+pub fn damaged_session(library: &Library, seed: u64, tally: &mut Tally) -> Result<(), Case> {
     let mut caller = Caller::new(seed);
     let mut random = Random::new(seed.wrapping_add(1 << 32));
     let mut desk = Desk::fresh();
     let mut before = Vec::new();
-    for _ in 0..rounds {
+    for _ in 0..10 {
         for _ in 0..random.between(1, 30) {
             let call = caller.next(&desk);
             make_call(&mut desk, &call);
@@ -74,7 +80,7 @@ pub fn damaged_session(seed: u64, rounds: usize, tally: &mut Tally) -> Result<()
             let changes = changes(&desk, &reached, &mut random);
             let mut memories = reached.clone();
             apply(&changes, &mut memories);
-            let mut twin = Twin::of(&memories);
+            let mut twin = Twin::of(library, &memories);
             tally.memory(twin.model().err());
             let mut case = Case { before: before.clone(), changes, calls: Vec::new() };
             for call in caller.one_of_each(twin.model().unwrap_or(&desk)) {
@@ -114,7 +120,9 @@ fn step(call: Call, case: &mut Case, twin: &mut Twin, tally: &mut Tally) -> Resu
     };
     let outcome = send(call, case, twin, tally)?;
     match saved {
-        Some(file) if outcome.status == DONE => comes_back(&outcome.bytes, file, tally),
+        Some(file) if outcome.status == DONE => {
+            comes_back(twin.library(), &outcome.bytes, file, tally)
+        }
         _ => Ok(()),
     }
 }

@@ -5,6 +5,7 @@ use super::bad_sheets::{damaged, every_byte, heads};
 use super::caller::{unbuilt, Caller};
 use super::case::Case;
 use super::numbers::MUCH;
+use super::program::Library;
 use super::reached::Reached;
 use super::sessions::send;
 use super::tally::Tally;
@@ -32,7 +33,7 @@ const EXTREME: [(usize, usize); 8] =
     [(128, 1), (1, 1), (1, 16), (99, 10), (128, 15), (128, 2), (62, 16), (3, 7)];
 
 /// Texts of every kind, loaded into a desk that some calls reached.
-pub fn all_sheets(seed: u64, tally: &mut Tally) -> Result<(), Case> {
+pub fn all_sheets(library: &Library, seed: u64, tally: &mut Tally) -> Result<(), Case> {
     let mut caller = Caller::new(seed);
     let mut random = Random::new(seed);
     let reached = Reached::by(&mut caller, random.between(20, 120));
@@ -43,7 +44,7 @@ pub fn all_sheets(seed: u64, tally: &mut Tally) -> Result<(), Case> {
     sheets.push(full_sheet(seed, &mut random));
     let mut texts = heads();
     for sheet in &sheets {
-        comes_back(sheet, file, tally)?;
+        comes_back(library, sheet, file, tally)?;
         texts.extend(damaged(sheet));
         if sheet.len() <= SHORT.len() {
             texts.extend(every_byte(sheet));
@@ -51,13 +52,18 @@ pub fn all_sheets(seed: u64, tally: &mut Tally) -> Result<(), Case> {
     }
     texts.extend(sheets);
     let calls: Vec<Call> = texts.into_iter().map(|text| Call::Load(file, text)).collect();
-    reached.try_each(&calls, tally)
+    reached.try_each(library, &calls, tally)
 }
 
 /// A sheet loads into a fresh desk, and saves again as itself, into exactly as many bytes or more.
-pub fn comes_back(sheet: &[u8], file: usize, tally: &mut Tally) -> Result<(), Case> {
+pub fn comes_back(
+    library: &Library,
+    sheet: &[u8],
+    file: usize,
+    tally: &mut Tally,
+) -> Result<(), Case> {
     let mut case = Case::default();
-    let mut twin = Twin::fresh().map_err(|_| Case::default())?;
+    let mut twin = Twin::fresh(library).map_err(|_| Case::default())?;
     let mut call = |call| send(call, &mut case, &mut twin, tally);
     let loaded = call(Call::Load(file, sheet.to_vec()))?;
     let again = call(Call::Save(file, sheet.len()))?;

@@ -2,6 +2,7 @@
 //! compared.
 
 use super::host::Host;
+use super::program::Library;
 use super::UNSOUND;
 use crate::generator::Call;
 use crate::model::desk::Desk;
@@ -15,26 +16,26 @@ use crate::session::hex;
 /// How the two differ.
 pub type Difference = String;
 
-pub struct Twin {
-    host: Host,
+pub struct Twin<'a> {
+    host: Host<'a>,
     model: Result<Desk, Unsound>,
     /// What the library's memories must be.
     memories: Memories,
 }
 
-impl Twin {
+impl<'a> Twin<'a> {
     /// The library's own fresh desk beside the model's.
-    pub fn fresh() -> Result<Twin, Difference> {
+    pub fn fresh(library: &'a Library) -> Result<Twin<'a>, Difference> {
         let mut memories = Desk::fresh().memories();
         for part in [&mut memories.segment, &mut memories.blocks, &mut memories.buffers] {
             part.iter_mut().enumerate().for_each(|(at, byte)| *byte = (at * 7 + at / 251) as u8);
         }
-        Twin::made_fresh(&memories)
+        Twin::made_fresh(library, &memories)
     }
 
     /// The library makes a fresh desk of memories with any bytes in them.
-    pub fn made_fresh(memories: &Memories) -> Result<Twin, Difference> {
-        let mut host = Host::new(memories);
+    pub fn made_fresh(library: &'a Library, memories: &Memories) -> Result<Twin<'a>, Difference> {
+        let mut host = Host::new(library, memories);
         let status = host.fresh()?;
         if status != DONE {
             return Err(format!("fresh: status {status}"));
@@ -46,12 +47,16 @@ impl Twin {
     }
 
     /// Both start from these memories, sound or not.
-    pub fn of(memories: &Memories) -> Twin {
+    pub fn of(library: &'a Library, memories: &Memories) -> Twin<'a> {
         Twin {
-            host: Host::new(memories),
+            host: Host::new(library, memories),
             model: Desk::load_memories(memories),
             memories: memories.clone(),
         }
+    }
+
+    pub fn library(&self) -> &'a Library {
+        self.host.library()
     }
 
     /// The model's desk, or why the memories are not sound.
@@ -94,11 +99,12 @@ impl Twin {
     }
 
     fn compare_memories(&self) -> Result<(), Difference> {
-        compare(self.host.segment(), &self.memories.segment, segment_place)?;
-        compare(self.host.blocks(), &self.memories.blocks, |at| {
+        let library = self.host.memories();
+        compare(&library.segment, &self.memories.segment, segment_place)?;
+        compare(&library.blocks, &self.memories.blocks, |at| {
             format!("blocks, byte {at}: share {}, its byte {}", at / SHARE_BYTES, at % SHARE_BYTES)
         })?;
-        compare(self.host.buffers(), &self.memories.buffers, |at| {
+        compare(&library.buffers, &self.memories.buffers, |at| {
             let place = at / BUFFER_BYTES;
             let (file, accessor) = (place / PLACES, place % PLACES);
             let byte = at % BUFFER_BYTES;

@@ -9,5 +9,4 @@ pub const ENTRIES: u16 = 128;
 /// A line carries at most 261 bytes.
 pub const LINE_BYTES: usize = 261;
 /// No sheet is longer.
-#[cfg(any(test, feature = "library"))]
 pub const SHEET_BYTES: usize = 8192;

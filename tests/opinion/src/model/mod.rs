@@ -17,9 +17,7 @@ pub mod file;
 pub mod geometry;
 pub mod limits;
 pub mod line;
-#[cfg(any(test, feature = "library"))]
 mod lists;
-#[cfg(any(test, feature = "library"))]
 pub mod loading;
 mod look;
 mod memories;
@@ -28,7 +26,6 @@ mod open;
 pub mod record;
 pub mod request;
 mod ring;
-#[cfg(any(test, feature = "library"))]
 pub mod segment;
 mod settle;
 pub mod sheet;
