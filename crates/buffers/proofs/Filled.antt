@@ -1,16 +1,13 @@
--- Laws of the bytes of a buffer: how they are written, how they are tested, and that they are the rules'.
+-- Laws of the bytes of a buffer: how they are written, and that they are the rules'.
 use Prim.Native.Nat.{ℕ, _+_, _-_, _≤_}
-use mathlib.Core.Bool.{true}
 use mathlib.Core.Path.{_≡_, refl, sym, ap, _∙_}
 use mathlib.Core.List.{List, [], _++_}
 use mathlib.Core.Option.{none, some}
 use native.Mathlib.Omega.{arith}
-use lib.ListN.{length, take, drop, length-append, length-drop, take-append-drop}
-use lib.Seq.{sets, take-all, length-take-le}
-use Rattle.words.specs.Word.{zeros, quiet}
+use lib.ListN.{length, length-append}
+use lib.Seq.{sets}
+use Rattle.words.specs.Word.{zeros}
 use Rattle.words.proofs.Runs.{length-zeros, sets-at}
-use Rattle.words.proofs.Stands.{Stands, right, same, part-read}
-use Rattle.words.proofs.Zeros.{quiet-stands, quiet-true}
 use Rattle.words.proofs.Parts.{sets-whole}
 use Rattle.rules.specs.Limits.{bufferBytes}
 use Rattle.rules.specs.State.{Acc}
@@ -35,26 +32,6 @@ fill-written x₀ x₁ x₂ d n h e₁ e₂ =
 
 pub clear-written : (x₀ x₁ : List ℕ) → length x₀ ≡ bufferBytes → x₁ ≡ sets x₀ 0 (zeros bufferBytes) → x₁ ≡ zeros bufferBytes
 clear-written x₀ x₁ n e = e ∙ sets-whole x₀ (zeros bufferBytes) (length-zeros bufferBytes ∙ sym n)
-
--- The test says that what stands there are data and zeros, and each such buffer passes.
-
-pub holds-filled : (xs : List ℕ) (n : ℕ) → length xs ≡ bufferBytes → n ≤ bufferBytes → quiet xs n (bufferBytes - n) ≡ true → xs ≡ filled (take n xs)
-unfolding filled
-holds-filled xs n l h q =
-    let z = zeros (bufferBytes - n) in
-    let m : length z ≡ bufferBytes - n = length-zeros (bufferBytes - n) in
-    let e : length (take n xs) ≡ n = length-take-le n xs (omega arith) in
-    let d : length (drop n xs) ≤ length z = omega (arith, length-drop n xs) in
-    let r : take (length z) (drop n xs) ≡ z = part-read z xs n (omega arith) (quiet-stands xs (bufferBytes - n) n q) in
-    rw e (sym (take-append-drop n xs) ∙ ap (λ (x : List ℕ). take n xs ++ x) (sym (take-all (length z) (drop n xs) d) ∙ r))
-
-pub filled-holds : (d : List ℕ) → length d ≤ bufferBytes → quiet (filled d) (length d) (bufferBytes - length d) ≡ true
-unfolding filled
-filled-holds d h =
-    let z = zeros (bufferBytes - length d) in
-    let s : Stands (sets (d ++ z) 0 (d ++ z)) 0 (d ++ z) = same (d ++ z) (d ++ z) 0 (omega arith) in
-    let t : Stands (d ++ z) 0 (d ++ z) = rw (sets-whole (d ++ z) (d ++ z) refl) at s in
-    quiet-true (d ++ z) (bufferBytes - length d) (length d) (right d z (d ++ z) 0 (length d) (omega arith) t)
 
 -- "lies at the start of the accessor's buffer, which is otherwise zero"
 pub buffer-some : (a : Acc) → buffer (some a) ≡ filled (lies (a .req))

@@ -1,10 +1,10 @@
 // Record buffers: a completed read's record, or a waiting write's data, lies at the start of one, and all behind it is zero.
 // Place i of the desk, 8 × file + accessor, has the bytes from 260 × i on of the lent memory.
 ghost use mathlib.Core.Path.{_≡_};
-ghost use Prim.Native.Nat.{_-_, _*_, _≤_, _<_};
+ghost use Prim.Native.Nat.{_*_, _≤_, _<_};
 ghost use lib.ListN.{length, take};
 ghost use lib.Seq.{sets};
-ghost use Rattle.words.specs.Word.{zeros, quiet};
+ghost use Rattle.words.specs.Word.{zeros};
 ghost use Rattle.rules.specs.Limits.{bufferBytes};
 ghost use Rattle.buffers.specs.Buffer.{bufferCount, buffersBytes, filled, bufferAt};
 use kinds::limits::BUFFER_BYTES;
@@ -27,14 +27,6 @@ pub fn clear(buffer: &mut [u8])
     words::zero(buffer, 0, BUFFER_BYTES);
 }
 
-// Whether all behind the first `size` bytes is zero.
-pub fn holds(buffer: &[u8], size: usize) -> bool
-    requires { ⌜ (length (now buffer) ≡ bufferBytes) × (size ≤ bufferBytes) ⌝ }
-    ensures { λ r. ⌜ r ≡ quiet (now (buffer .entry)) size (bufferBytes - size) ⌝ }
-{
-    words::quiet(buffer, size, BUFFER_BYTES - size)
-}
-
 // The same on the whole memory, for the buffer of a place.
 
 pub fn fill_at(buffers: &mut [u8], place: usize, data: &[u8])
@@ -53,15 +45,6 @@ pub fn clear_at(buffers: &mut [u8], place: usize)
     let a = BUFFER_BYTES * place;
     let e = a + BUFFER_BYTES;
     clear(&mut buffers[a..e]);
-}
-
-pub fn holds_at(buffers: &[u8], place: usize, size: usize) -> bool
-    requires { ⌜ (length (now buffers) ≡ buffersBytes) × (place < bufferCount) × (size ≤ bufferBytes) ⌝ }
-    ensures { λ r. ⌜ r ≡ quiet (bufferAt place (now (buffers .entry))) size (bufferBytes - size) ⌝ }
-{
-    let a = BUFFER_BYTES * place;
-    let e = a + BUFFER_BYTES;
-    holds(&buffers[a..e], size)
 }
 
 // The bytes that lie in the buffer of a place, `size` of them.

@@ -24,7 +24,7 @@ use Rattle.midst.specs.Outcome.{refusalOf, Outcome, Done, Gave}
 use Rattle.midst.specs.Outcome as outcome
 use Rattle.midst.proofs.Accepted.{accepted-file}
 use Rattle.midst.proofs.Stayed.{Built′, stays-built, respond-is, outcome-stays}
-use Rattle.desk.specs.Answered.{Acted, Four}
+use Rattle.desk.specs.Acted.{Acted, Four}
 
 module _ (fr : List ℕ) (e : Event) (q : Ask) (f : ℕ) (said : frameOf fr ≡ frame.Event e) (is : frameAsks (frame.Event e) (drop 5 fr) ≡ on f q) where
   pub asked-is : asked (event fr) ≡ on f q

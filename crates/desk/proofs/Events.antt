@@ -30,7 +30,7 @@ use Rattle.midst.proofs.Accepted.{accepted-counts}
 use Rattle.midst.proofs.Stayed.{time-stays}
 use Rattle.tallies.specs.Tallies.{FileStands}
 use Rattle.tallies.proofs.Counted.{accepted-stands}
-use Rattle.desk.specs.Answered.{Acted}
+use Rattle.desk.specs.Acted.{Acted}
 use Rattle.desk.proofs.Writes.{write-long}
 use Rattle.desk.proofs.Accepts.{accepts, acted, acted-data}
 use Rattle.desk.proofs.Known.{built-build, built-open, built-read, built-write, built-control, built-collect, built-close, built-counts, four-read, four-collect, counts-done}

@@ -31,7 +31,7 @@ use Rattle.midst.specs.Mid.{Apart}
 use Rattle.midst.specs.Outcome.{refusalOf, Outcome, Done}
 use Rattle.midst.proofs.Accepted.{accepted-build, accepted-open, accepted-read, accepted-write, accepted-control, accepted-collect, accepted-close, accepted-counts}
 use Rattle.midst.proofs.Stayed.{Built′}
-use Rattle.desk.specs.Answered.{Four}
+use Rattle.desk.specs.Acted.{Four}
 use Rattle.desk.proofs.Accepts.{built-stays}
 
 -- the file is built

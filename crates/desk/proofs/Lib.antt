@@ -2,8 +2,7 @@ pub mod Tells
 pub mod Accepts
 pub mod Known
 pub mod Refuses
-pub mod Finals
-pub mod Same
 pub mod Writes
 pub mod Events
 pub mod Serves
+pub mod Same

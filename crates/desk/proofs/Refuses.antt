@@ -27,7 +27,7 @@ use Rattle.midst.proofs.Accepted.{accepted-code}
 use Rattle.midst.proofs.Refused.{stands-refused}
 use Rattle.midst.proofs.Stayed.{still-stays}
 use Rattle.judges.specs.Refused.{Refuses}
-use Rattle.desk.specs.Answered.{Responds}
+use Rattle.desk.specs.Acted.{Responds}
 use Rattle.desk.specs.Refusals.{operationOf, Twice, Refusal}
 use Rattle.desk.proofs.Tells.{tells-none}
 
@@ -80,12 +80,6 @@ module _ {xs blocks buffers : List ℕ} {d : Desk} {s : Alloc} (S : StandsFor xs
       let e = N blocks buffers d s S in
       on-refused f (calls.control p none) 5 n (ap (λ (y : Frame). frameAsks y (drop 5 fr)) said) (λ _. refl) e (λ z. accepted-code d f p (sym e ∙ z)) T
   frame-refused frame.Shape said u T = shape-refused (ap (λ (y : Frame). frameAsks y (drop 5 fr)) said) T
-
-pub refusal-size : (xs : List ℕ) (y : Frame) (memory memory′ : List ℕ) (k : ℕ) → Refusal xs y memory memory′ k → k ≡ 2
-unfolding Refusal
-refusal-size xs (frame.Event e) memory memory′ k T = T .size
-refusal-size xs (frame.Code f p) memory memory′ k (n, N, T) = T .size
-refusal-size xs frame.Shape memory memory′ k T = T .size
 
 -- the number 0 says that the call is not refused
 pub not-refused : (fr : List ℕ) (e : Event) (n : ℕ) (d : Desk) → frameOf fr ≡ frame.Event e → n ≡ refusalOf (answered d (frameAsks (frame.Event e) (drop 5 fr)) .reply) → n ≡ 0

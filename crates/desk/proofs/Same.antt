@@ -1,50 +1,141 @@
--- The contract of the event call leaves nothing open: two results that meet it are the same, in answer and in all lent memories.
+-- The contracts of the functions that act leave nothing open: two results that meet one are the same, in the answer and in all lent memories.
 use Prim.Native.Nat.{ℕ, _<_}
 use mathlib.Core.Path.{_≡_, refl, sym, ap, _∙_}
-use mathlib.Core.Bool.{true, false}
-use mathlib.Core.List.{List}
-use lib.Dec.{eqb}
-use lib.ListN.{length}
-use Rattle.rules.specs.Limits.{files, answerRoom}
-use Rattle.rules.specs.State.{File, unbuilt, built}
-use Rattle.rules.specs.Desk.{Desk, Call, event, asked, fileOf, respond}
-use Rattle.rules.specs.Allocation.{Alloc, allocAsked}
-use Rattle.rules.proofs.Split.{by-cases, and-true}
-use Rattle.laws.specs.Runs.{OnFile}
+use mathlib.Core.List.{List, [], map}
+use native.Mathlib.Decide.{ℕ-discrete}
+use lib.ListN.{length, set}
+use lib.Seq.{sets}
+use borrow.Author.Tests.{lt-ltb}
+use Rattle.kinds.specs.declared.Answer.{Answer}
+use Rattle.kinds.specs.declared.Answer.the-variants.{Passed}
+use Rattle.rules.specs.Limits.{files}
+use Rattle.rules.specs.State.{unbuilt}
+use Rattle.rules.specs.Reply.{Reply, answers, shows}
+use Rattle.rules.specs.Calls.{Ask, ask}
+use Rattle.rules.specs.Calls as calls
+use Rattle.rules.specs.Desk.{Desk, on, time, fileOf, fileTime, answered}
+use Rattle.rules.specs.Allocation.{Alloc, allotAll, allocTime, allocAsked}
+use Rattle.laws.specs.Runs.{Proper, OnFile}
 use Rattle.laws.specs.Queues.{Agree}
+use Rattle.laws.specs.Entries.{Agreed}
 use Rattle.laws.proofs.Files.{on-file}
-use Rattle.memory.specs.Stands.{Bytes}
+use Rattle.laws.proofs.Proper.{ProperAsked}
+use Rattle.laws.proofs.Allocated.{happens-here}
+use Rattle.laws.proofs.Allocated as laws
+use Rattle.memory.specs.Stands.{Stands, shareAt, buffersAt}
+use Rattle.memory.specs.Covers.{Covers, Alike}
 use Rattle.memory.specs.Fine.{Fine, StandsFor}
 use Rattle.memory.proofs.Once.{agreed-covers}
 use Rattle.memory.proofs.Determined.{stands-same}
-use Rattle.sound.specs.Sound.{soundly}
-use Rattle.sound.proofs.desk.Both.{sound-stands}
-use Rattle.midst.specs.Outcome.{Stays}
-use Rattle.desk.specs.Answered.{usable, Responds, Answered}
+use Rattle.midst.specs.Outcome.{refusalOf, Outcome, Done, Gave}
+use Rattle.midst.proofs.Accepted.{accepted-file}
+use Rattle.midst.proofs.Alike.{file-set}
+use Rattle.midst.proofs.Keeps.{answered-fine}
+use Rattle.midst.proofs.Stayed.{Built′}
+use Rattle.promises.proofs.Unbuilt.{not-both, time-unbuilt}
+use Rattle.desk.proofs.Known.{built-build, built-open, built-read, built-write, built-control, built-collect, built-close}
+use Rattle.laws.proofs.Isolation.{answered-time}
 
--- the same memories behind a call
-pub stays-same : (d : Desk) (s : Alloc) (c : Call) (blocks buffers x b y x′ b′ y′ : List ℕ) → Stays d s c blocks buffers x b y → Stays d s c blocks buffers x′ b′ y′
-    → (x ≡ x′) × (b ≡ b′) × (y ≡ y′)
-stays-same d s c blocks buffers x b y x′ b′ y′ S T =
-    let e : Desk = respond d c .desk in
-    let t : Alloc = allocAsked d (asked c) s in
-    stands-same e t x b y x′ b′ y′ (agreed-covers e t (S .stands .agreed) (λ f h. on-file Fine Agree (λ c i. i .queues) (fileOf e f) (S .stands .fine f h)))
-    (S .stands .stands) (T .stands .stands)
-    (λ f h u. (S .rest f h u .0 ∙ sym (T .rest f h u .0), S .rest f h u .1 ∙ sym (T .rest f h u .1)))
+answerOf : Reply → Answer
+answerOf (answers a d) = a
+answerOf (shows st d) = Passed
 
-module _ (xs blocks buffers memory frame : List ℕ) (bytes : Bytes xs) (blocks-bytes : Bytes blocks) (buffers-bytes : Bytes buffers) where
-  pub answered-same : (x b y m x′ b′ y′ m′ : List ℕ) (n n′ : ℕ) → Answered xs blocks buffers memory frame x b y m n → Answered xs blocks buffers memory frame x′ b′ y′ m′ n′
-      → (n ≡ n′) × (x ≡ x′) × (b ≡ b′) × (y ≡ y′) × (m ≡ m′)
-  unfolding usable
-  answered-same x b y m x′ b′ y′ m′ n n′ A B =
-      by-cases (usable xs blocks buffers memory)
-      (λ h.
-      let (d, s, S) = sound-stands xs blocks buffers bytes blocks-bytes buffers-bytes (and-true (eqb (length memory) answerRoom) (soundly xs blocks buffers) h .1) in
-      let P = A .fit h d s S in
-      let Q = B .fit h d s S in
-      let e = stays-same d s (event frame) blocks buffers x b y x′ b′ y′ (P .stays) (Q .stays) in
-      (P .told .size ∙ sym (Q .told .size), e .0, e .1, e .2, P .told .bytes ∙ sym (Q .told .bytes)))
-      (λ h.
-      let p = A .unfit h in
-      let q = B .unfit h in
-      (p .0 ∙ sym (q .0), p .1 ∙ sym (q .1), p .2 ∙ sym (q .2), p .3 ∙ sym (q .3), p .4 ∙ sym (q .4)))
+dataOf : Reply → List ℕ
+dataOf (answers a d) = d
+dataOf (shows st d) = d
+
+covered : (e : Desk) (t : Alloc) → Agreed e t → ((g : ℕ) → g < files → OnFile Fine (fileOf e g)) → Covers e t
+covered e t A F = agreed-covers e t A (λ g h. on-file Fine Agree (λ c i. i .queues) (fileOf e g) (F g h))
+
+-- build, open, read, write, control, collect and close
+unfoldable pub Acts : Ask → Type 0
+Acts (calls.build r b n x) = Unit {0}
+Acts (calls.opens a s m) = Unit {0}
+Acts (calls.read p n) = Unit {0}
+Acts (calls.write p n t) = Unit {0}
+Acts (calls.control p c) = Unit {0}
+Acts (calls.collect p) = Unit {0}
+Acts (calls.close p) = Unit {0}
+Acts calls.counts = ⊥
+Acts (calls.load t) = ⊥
+Acts (calls.save n) = ⊥
+Acts (calls.look p) = ⊥
+
+-- where they are not refused, the file is built then
+acts-built : (d : Desk) (f : ℕ) (q : Ask) → Acts q → Proper q → refusalOf (answered d (on f q) .reply) ≡ 0 → Built′ (ask (fileOf d f) q)
+unfolding Acts Proper
+acts-built d f (calls.build r b n x) a k e = built-build d f r b n x e
+acts-built d f (calls.opens m s n) a k e = built-open d f m s n e
+acts-built d f (calls.read p n) a k e = built-read d f p n e
+acts-built d f (calls.write p n t) a k e = built-write d f p n t k e
+acts-built d f (calls.control p c) a k e = built-control d f p c e
+acts-built d f (calls.collect p) a k e = built-collect d f p e
+acts-built d f (calls.close p) a k e = built-close d f p e
+acts-built d f calls.counts a k e = absurd a
+acts-built d f (calls.load t) a k e = absurd a
+acts-built d f (calls.save n) a k e = absurd a
+acts-built d f (calls.look p) a k e = absurd a
+
+module _ {xs blocks buffers : List ℕ} {d : Desk} {s : Alloc} (S : StandsFor xs blocks buffers d s) (f : ℕ) (q : Ask) (acts : Acts q) (k : Proper q)
+    (ok : refusalOf (answered d (on f q) .reply) ≡ 0) where
+  B : Built′ (ask (fileOf d f) q)
+  B = acts-built d f q acts k ok
+
+  low : f < files
+  low = accepted-file d f q ok
+
+  desk-is : answered d (on f q) .desk ≡ set d f (ask (fileOf d f) q .file)
+  unfolding answered
+  desk-is = rw (lt-ltb f files low, answered)
+
+  alloc-is : allocAsked d (on f q) s ≡ allotAll f (ask (fileOf d f) q .haps) s
+  unfolding allocAsked
+  alloc-is = rw (lt-ltb f files low, allocAsked, happens-here f d q)
+
+  covers : Covers (set d f (ask (fileOf d f) q .file)) (allotAll f (ask (fileOf d f) q .haps) s)
+  unfolding ProperAsked
+  covers =
+      rw (← desk-is, ← alloc-is)
+      (covered (answered d (on f q) .desk) (allocAsked d (on f q) s) (laws.answers d s (on f q) k (S .agreed)) (answered-fine d (on f q) (S .agreed .eight) k (S .fine)))
+
+  module _ (x b y x′ b′ y′ : List ℕ) (O : Outcome f d s (ask (fileOf d f) q) blocks buffers x b y) (P : Outcome f d s (ask (fileOf d f) q) blocks buffers x′ b′ y′) where
+    alike : Alike (set d f (ask (fileOf d f) q .file)) b y b′ y′
+    alike g h u = go (ℕ-discrete g f)
+      where
+        go : Dec (g ≡ f) → (shareAt g b ≡ shareAt g b′) × (buffersAt g y ≡ buffersAt g y′)
+        go (yes e) = absurd (not-both (fileOf (set d f (ask (fileOf d f) q .file)) g) (B .file) (ap (fileOf (set d f (ask (fileOf d f) q .file))) e ∙ file-set d f (ask (fileOf d f) q .file) (rw (S .agreed .eight) low) ∙ B .is) u)
+        go (no n) = (O .apart .shares g h n ∙ sym (P .apart .shares g h n), O .apart .others g h n ∙ sym (P .apart .others g h n))
+
+    pub outcome-same : (x ≡ x′) × (b ≡ b′) × (y ≡ y′)
+    outcome-same = stands-same (set d f (ask (fileOf d f) q .file)) (allotAll f (ask (fileOf d f) q .haps) s) x b y x′ b′ y′ covers (O .stands) (P .stands) alike
+
+  -- build, open, write, control and close answer with no data
+  pub done-same : (x b y x′ b′ y′ : List ℕ) (a a′ : Answer) → Done f d s (ask (fileOf d f) q) blocks buffers x b y a → Done f d s (ask (fileOf d f) q) blocks buffers x′ b′ y′ a′
+      → (a ≡ a′) × (x ≡ x′) × (b ≡ b′) × (y ≡ y′)
+  unfolding answerOf
+  done-same x b y x′ b′ y′ a a′ D E =
+      let (ex, eb, ey) = outcome-same x b y x′ b′ y′ (D .outcome) (E .outcome) in
+      (ap answerOf (sym (D .reply) ∙ E .reply), ex, eb, ey)
+
+  -- read and collect
+  pub gave-same : (memory x b y m x′ b′ y′ m′ : List ℕ) (a a′ : Answer) (n n′ : ℕ) → Gave f d s (ask (fileOf d f) q) blocks buffers memory x b y m a n
+      → Gave f d s (ask (fileOf d f) q) blocks buffers memory x′ b′ y′ m′ a′ n′ → (a ≡ a′) × (n ≡ n′) × (m ≡ m′) × (x ≡ x′) × (b ≡ b′) × (y ≡ y′)
+  unfolding answerOf dataOf
+  gave-same memory x b y m x′ b′ y′ m′ a a′ n n′ G H =
+      let (ex, eb, ey) = outcome-same x b y x′ b′ y′ (G .outcome) (H .outcome) in
+      let e : G .bytes ≡ H .bytes = ap dataOf (sym (G .reply) ∙ H .reply) in
+      (ap answerOf (sym (G .reply) ∙ H .reply), G .size ∙ ap length e ∙ sym (H .size), G .behind ∙ ap (sets memory 4) e ∙ sym (H .behind), ex, eb, ey)
+
+-- time, which is lent no blocks
+module _ {xs blocks buffers : List ℕ} {d : Desk} {s : Alloc} (S : StandsFor xs blocks buffers d s) (e : ℕ) where
+  abbrev Passes : List ℕ → List ℕ → Type 0
+  Passes x y =
+      Stands x blocks y (map (fileTime e) d) (allocTime e s) × ((g : ℕ) → g < files → fileOf d g ≡ unbuilt → buffersAt g y ≡ buffersAt g buffers)
+
+  pub passed-same : (x y x′ y′ : List ℕ) → Passes x y → Passes x′ y′ → (x ≡ x′) × (y ≡ y′)
+  unfolding answered allocAsked ProperAsked
+  passed-same x y x′ y′ (T, o) (U, p) =
+      let c = covered (map (fileTime e) d) (allocTime e s) (laws.answers d s (time e) tt (S .agreed)) (answered-fine d (time e) (S .agreed .eight) tt (S .fine)) in
+      let r = stands-same (map (fileTime e) d) (allocTime e s) x blocks y x′ blocks y′ c T U
+      (λ g h u. (refl, o g h (time-unbuilt e (fileOf d g) (sym (answered-time d g e) ∙ u)) ∙ sym (p g h (time-unbuilt e (fileOf d g) (sym (answered-time d g e) ∙ u))))) in
+      (r .0, r .2)

@@ -10,7 +10,7 @@ use Rattle.rules.specs.Reply.{Reply}
 use Rattle.rules.specs.Desk.{Desk, Call}
 use Rattle.rules.specs.Allocation.{Alloc}
 use Rattle.midst.specs.Outcome.{Told}
-use Rattle.desk.specs.Answered.{Acted, Responds}
+use Rattle.desk.specs.Acted.{Acted, Responds}
 use Rattle.desk.proofs.Tells.{tells}
 
 pub served : {d : Desk} {s : Alloc} {c : Call} {blocks buffers memory xs′ blocks′ buffers′ memory₁ memory′ : List ℕ} {a : Answer} {k n : ℕ}

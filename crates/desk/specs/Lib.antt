@@ -1,2 +1,2 @@
-pub mod Answered
+pub mod Acted
 pub mod Refusals

@@ -21,7 +21,7 @@ ghost use Rattle.rules.specs.Desk as rules;
 ghost use Rattle.rules.specs.Allocation.{Alloc};
 ghost use Rattle.memory.specs.Fine.{StandsFor};
 ghost use Rattle.midst.specs.Outcome.{Sound, refusalOf};
-ghost use Rattle.desk.specs.Answered.{Acted};
+ghost use Rattle.desk.specs.Acted.{Acted};
 
 // Where a write's data stand in its frame.
 const DATA: usize = 5;

@@ -23,7 +23,9 @@ ghost use Rattle.rules.specs.Desk as rules;
 ghost use Rattle.rules.specs.Allocation.{Alloc};
 ghost use Rattle.memory.specs.Fine.{StandsFor};
 ghost use Rattle.midst.specs.Outcome.{Sound, refusalOf};
-ghost use Rattle.desk.specs.Answered.{Responds, Answered};
+ghost use Rattle.promises.specs.Promise.{Promise};
+ghost use Rattle.promises.specs.Promise as host;
+ghost use Rattle.desk.specs.Acted.{Responds};
 
 // "264 bytes for its answer".
 pub const ANSWER_BYTES: usize = 264;
@@ -54,7 +56,7 @@ pub fn event(
     answer: &mut [u8],
     frame: &[u8],
 ) -> usize
-    ensures { λ r. ⌜ Answered (now (segment .entry)) (now (blocks .entry)) (now (buffers .entry)) (now (answer .entry)) (now («frame» .entry)) (now (segment .exit)) (now (blocks .exit)) (now (buffers .exit)) (now (answer .exit)) r ⌝ }
+    ensures { λ r. ⌜ Promise (record { segment = now (segment .entry); blocks = now (blocks .entry); buffers = now (buffers .entry) }) (host.event (now (answer .entry)) (now («frame» .entry))) (host.answer r (now (answer .exit))) (record { segment = now (segment .exit); blocks = now (blocks .exit); buffers = now (buffers .exit) }) ⌝ }
 {
     if answer.len() != ANSWER_BYTES {
         return 0;

@@ -5,11 +5,8 @@ use mathlib.Core.List.{List}
 use native.Mathlib.Omega.{arith}
 use lib.ListN.{length, take, drop}
 use lib.Seq.{sets, sets-eq, take-at}
-use Rattle.words.specs.Word.{zeros}
-use Rattle.rules.specs.Limits.{answerRoom}
 use Rattle.rules.specs.Line.{lineFrame, lineOf}
-use Rattle.desk.specs.Answered.{Answered}
-use Rattle.lines.specs.Asked.{Asked}
+use Rattle.lines.specs.Asked.{Gives, Asked}
 
 -- a part from the first byte on
 pub front : (n : ℕ) (l : List ℕ) → take (n - 0) l ≡ take n l
@@ -25,13 +22,13 @@ pub frame-decoded : (line zs frame : List ℕ) (n : ℕ) → n ≡ length (lineF
 frame-decoded line zs frame n s e h = front n frame ∙ rw e (put-first zs (lineFrame line) n s (omega arith))
 
 pub line-asked : (segment blocks buffers line out frame segment′ blocks′ buffers′ answer out′ : List ℕ) (used n r : ℕ)
-    → Answered segment blocks buffers (zeros answerRoom) frame segment′ blocks′ buffers′ answer n → frame ≡ lineFrame line
+    → Gives segment blocks buffers frame segment′ blocks′ buffers′ answer n → frame ≡ lineFrame line
     → out′ ≡ sets out used (lineOf (take (n - 0) answer)) → r ≡ used + (2 * n + 1)
     → Asked segment blocks buffers line out segment′ blocks′ buffers′ out′ used r
 line-asked segment blocks buffers line out frame segment′ blocks′ buffers′ answer out′ used n r a e o k = record {
   answer = answer;
   size = n;
-  event = subst (λ (f : List ℕ). Answered segment blocks buffers (zeros answerRoom) f segment′ blocks′ buffers′ answer n) e a;
+  event = subst (λ (f : List ℕ). Gives segment blocks buffers f segment′ blocks′ buffers′ answer n) e a;
   printed = o ∙ ap (λ (x : List ℕ). sets out used (lineOf x)) (front n answer);
   end = k;
 }

@@ -40,38 +40,30 @@ use Rattle.midst.specs.Outcome.{replyStatus, refusalOf, Outcome, Stays}
 use Rattle.midst.proofs.Refused.{stands-refused}
 use Rattle.midst.proofs.New.{made}
 use Rattle.midst.proofs.Stayed.{Built′, outcome-stays, still-stays}
-use Rattle.shows.specs.Seen.{Seen, unsound, stands, replyOf}
-use Rattle.shows.specs.Sheets.{Loaded, laidOut, loadedAs, loadedOn}
-use Rattle.shows.proofs.Seen.{sees}
+use Rattle.promises.specs.Promise.{Memories, status, Standing, Seen, unsound, stands, replyOf, said, Behind, Promise}
+use Rattle.promises.specs.Promise as host
+use Rattle.promises.proofs.Seen.{sees}
+use Rattle.loading.specs.LaidOut.{laidOut}
 use Rattle.loading.proofs.Judged.{gives, Loads, load-case, Judges}
 
--- the memories, with a status
-abbrev left : ℕ → List ℕ → List ℕ → List ℕ → Loaded
-left st xs blocks buffers = record { status = st; segment = xs; blocks = blocks; buffers = buffers }
+abbrev lent : List ℕ → List ℕ → List ℕ → Memories
+lent xs blocks buffers = record { segment = xs; blocks = blocks; buffers = buffers }
 
 -- the file's row, share and buffers are written
 pub lays : (f : ℕ) (s : Sheet) (xs blocks buffers xs′ blocks′ buffers′ : List ℕ) (x : hand.File) → x ≡ inHand (loaded s) → xs′ ≡ fill xs (rowAt (fileRow f)) (fileRowWords x)
     → blocks′ ≡ sets blocks (shareBytes * f) (loaded s .store .share) → buffers′ ≡ sets buffers (places * bufferBytes * f) (zeros (places * bufferBytes))
-    → left 0 xs′ blocks′ buffers′ ≡ laidOut f (loaded s) xs blocks buffers
+    → lent xs′ blocks′ buffers′ ≡ laidOut f (loaded s) (lent xs blocks buffers)
 unfolding laidOut fileRowWords fileWords
 lays f s xs blocks buffers xs′ blocks′ buffers′ x e w b u = rw (w, e, b, u)
 
 module _ (xs blocks buffers : List ℕ) (f : ℕ) (t : List ℕ) where
   -- 29, 31, 43
 
-  pub refused-bytes : (r : ℕ) → Judges xs blocks buffers f t r → (r ≡ 0 → ⊥) → (v : Option Desk) → Seen xs blocks buffers v → left r xs blocks buffers ≡ loadedOn v f t xs blocks buffers
-  unfolding loadedOn loadedAs
-  refused-bytes r j n v k = rw (← j v k) (go (readSheet t))
-    where
-      go : (o : Option Sheet) → left r xs blocks buffers ≡ loadedAs r o f xs blocks buffers
-      go none = refl
-      go (some s) = rw (loadedAs, ne-eqb r 0 n) refl
-
-  pub refused-stays : (r : ℕ) → Judges xs blocks buffers f t r → (r ≡ 0 → ⊥) → (d : Desk) (s : Alloc) → StandsFor xs blocks buffers d s
+  refused-stays : (r : ℕ) → Judges xs blocks buffers f t r → (r ≡ 0 → ⊥) → (d : Desk) (s : Alloc) → StandsFor xs blocks buffers d s
       → Stays d s (load f t) blocks buffers xs blocks buffers
   unfolding respond asked replyOf refusalOf
   refused-stays r j n d s S =
-      let e : r ≡ gives d f t = j (some d) (stands d s S) in
+      let e : r ≡ gives d f t = j _ (stands d s S) in
       let R = stands-refused f (calls.load t) S (λ z. n (e ∙ high (load-case d f t) e ∙ z)) in
       still-stays S (load f t) (R .desk) (R .alloc)
     where
@@ -79,10 +71,22 @@ module _ (xs blocks buffers : List ℕ) (f : ℕ) (t : List ℕ) where
       high (inl (z, L)) e = absurd (n (e ∙ z))
       high (inr l) e = rw (le-ltb (gives d f t) leastRefusal l) refl
 
+  pub refused-load : (r : ℕ) → Judges xs blocks buffers f t r → (r ≡ 0 → ⊥) → Promise (lent xs blocks buffers) (host.load f t) (status r) (lent xs blocks buffers)
+  unfolding Promise said
+  refused-load r j n v k = (ap status (j v k), go v k)
+    where
+      go : (v : Option Standing) → Seen xs blocks buffers v → Behind v (load f t) (lent xs blocks buffers) (lent xs blocks buffers)
+      go none k = unfold Behind in refl
+      go (some v) (stands d s S) = unfold Behind in refused-stays r j n d s S
+
   -- 0
 
   pub judges-zero : (r : ℕ) → r ≡ 0 → Judges xs blocks buffers f t r → Judges xs blocks buffers f t 0
   judges-zero r z j = subst (Judges xs blocks buffers f t) z j
+
+  unsound-zero : 0 ≡ replyStatus (replyOf none (load f t)) → ⊥
+  unfolding replyOf replyStatus
+  unsound-zero e = omega arith
 
   loads-of : (d : Desk) → 0 ≡ gives d f t → Loads d f t
   loads-of d e = go (load-case d f t)
@@ -100,17 +104,13 @@ module _ (xs blocks buffers : List ℕ) (f : ℕ) (t : List ℕ) where
   unfolding replyOf replyStatus
   done-asks bs bb bf j = let (v, k) = sees bs bb bf in go v k (j v k)
     where
-      go : (v : Option Desk) → Seen xs blocks buffers v → 0 ≡ replyStatus (replyOf v (load f t)) → Asks
-      go v (unsound u) e = absurd (omega arith)
+      go : (v : Option Standing) → Seen xs blocks buffers v → 0 ≡ replyStatus (replyOf v (load f t)) → Asks
+      go v (unsound u) e = absurd (unsound-zero e)
       go v (stands d s S) e =
           let L = loads-of d e in
           ((S .stands .segment .size, S .stands .bodies .blocks-size, S .stands .bodies .buffers-size, L .file), (L .sheet, L .reads))
 
-  module _ (j : Judges xs blocks buffers f t 0) (xs′ blocks′ buffers′ : List ℕ) (h : (s : Sheet) → readSheet t ≡ some s → left 0 xs′ blocks′ buffers′ ≡ laidOut f (loaded s) xs blocks buffers) where
-    pub done-bytes : Asks → (v : Option Desk) → Seen xs blocks buffers v → left 0 xs′ blocks′ buffers′ ≡ loadedOn v f t xs blocks buffers
-    unfolding loadedOn loadedAs
-    done-bytes (_, (s, e)) v k = rw (← j v k, e) (h s e)
-
+  module _ (j : Judges xs blocks buffers f t 0) (xs′ blocks′ buffers′ : List ℕ) (h : (s : Sheet) → readSheet t ≡ some s → lent xs′ blocks′ buffers′ ≡ laidOut f (loaded s) (lent xs blocks buffers)) where
     -- the store that is packed
     packed : Sheet → Store
     packed s = putAll (s .geo) (s .recs) emptyStore
@@ -127,14 +127,22 @@ module _ (xs blocks buffers : List ℕ) (f : ℕ) (t : List ℕ) where
     unfolding leaves loaded say newFile
     quiet s a = allotAll-quiet f puts (puts-quiet f) (s .recs) a
 
-    pub done-stays : Bytes xs′ → Bytes blocks′ → Bytes buffers′ → (d : Desk) (a : Alloc) → StandsFor xs blocks buffers d a → Stays d a (load f t) blocks buffers xs′ blocks′ buffers′
+    done-stays : Bytes xs′ → Bytes blocks′ → Bytes buffers′ → (d : Desk) (a : Alloc) → StandsFor xs blocks buffers d a → Stays d a (load f t) blocks buffers xs′ blocks′ buffers′
     unfolding replyOf asked laidOut packed leaves hushed loaded say newFile fileWords
     done-stays bs bb bf d a S =
-        let L = loads-of d (j (some d) (stands d a S)) in
+        let L = loads-of d (j _ (stands d a S)) in
         let s : Sheet = L .sheet in
         let e = asked-load d (L .new) s (L .reads) in
         let k = h s (L .reads) in
-        let O = made S f (L .file) (L .new) (s .geo) (packed s) (long s (L .reads)) xs′ blocks′ buffers′ (ap (λ (x : Loaded). x .segment) k) (ap (λ (x : Loaded). x .blocks) k) (ap (λ (x : Loaded). x .buffers) k)
+        let O = made S f (L .file) (L .new) (s .geo) (packed s) (long s (L .reads)) xs′ blocks′ buffers′ (ap (λ (x : Memories). x .segment) k) (ap (λ (x : Memories). x .blocks) k) (ap (λ (x : Memories). x .buffers) k)
         bs bb bf (leaves (shows 0 []) (loaded s)) refl (quiet s a) in
         outcome-stays S (load f t) f (calls.load t) refl (L .file) (subst Built′ (sym e) (record { file = hushed (loaded s); is = refl }))
         (subst (λ (x : Out). Outcome f d a x blocks buffers xs′ blocks′ buffers′) (sym e) O)
+
+    pub done-load : Bytes xs′ → Bytes blocks′ → Bytes buffers′ → Promise (lent xs blocks buffers) (host.load f t) (status 0) (lent xs′ blocks′ buffers′)
+    unfolding Promise said
+    done-load bs bb bf v k = (ap status (j v k), go v k)
+      where
+        go : (v : Option Standing) → Seen xs blocks buffers v → Behind v (load f t) (lent xs blocks buffers) (lent xs′ blocks′ buffers′)
+        go none k = absurd (unsound-zero (j none k))
+        go (some v) (stands d s S) = unfold Behind in done-stays bs bb bf d s S

@@ -25,8 +25,8 @@ use Rattle.sound.specs.Sound.{soundly}
 use Rattle.midst.specs.Outcome.{replyStatus}
 use Rattle.judges.specs.Accessors.{wordsAt}
 use Rattle.judges.proofs.Files.{is-built, not-built}
-use Rattle.shows.specs.Seen.{Seen, replyOf}
-use Rattle.shows.proofs.Seen.{seen-none, seen-some}
+use Rattle.promises.specs.Promise.{Standing, Seen, replyOf}
+use Rattle.promises.proofs.Seen.{seen-none, seen-some}
 use Rattle.reader.specs.Sheets.{isSome}
 use Rattle.reader.proofs.Sheets.{some-is}
 
@@ -84,7 +84,7 @@ module _ (d : Desk) (f : ℕ) (t : List ℕ) where
 -- it is what the judge says, on each way out
 module _ (xs blocks buffers : List ℕ) (f : ℕ) (t : List ℕ) where
   abbrev pub Judges : ℕ → Type 0
-  Judges r = (v : Option Desk) → Seen xs blocks buffers v → r ≡ replyStatus (replyOf v (load f t))
+  Judges r = (v : Option Standing) → Seen xs blocks buffers v → r ≡ replyStatus (replyOf v (load f t))
 
   pub judges-unsound : soundly xs blocks buffers ≡ false → Judges 29
   unfolding replyOf replyStatus

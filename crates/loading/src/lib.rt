@@ -12,8 +12,9 @@ ghost use Rattle.rules.specs.Allocation.{Alloc};
 ghost use Rattle.blocks.specs.Memory.{blocksBytes};
 ghost use Rattle.memory.specs.Fine.{StandsFor};
 ghost use Rattle.midst.specs.Outcome.{replyStatus, Stays};
-ghost use Rattle.shows.specs.Seen.{Seen, replyOf};
-ghost use Rattle.shows.specs.Sheets.{laidOut, Loads};
+ghost use Rattle.promises.specs.Promise.{status, Standing, Seen, replyOf, Promise};
+ghost use Rattle.promises.specs.Promise as host;
+ghost use Rattle.loading.specs.LaidOut.{laidOut};
 
 mod packing;
 
@@ -29,7 +30,7 @@ use sound::sound;
 
 // The status, 0 where load is not refused.
 fn judge_load(segment: &[u8], blocks: &[u8], buffers: &[u8], file: usize, text: &[u8]) -> u8
-    ensures { λ r. ⌜ ((v : Option Desk) → Seen (now (segment .entry)) (now (blocks .entry)) (now (buffers .entry)) v → r ≡ replyStatus (replyOf v (rules.load file (now («text» .entry))))) ⌝ }
+    ensures { λ r. ⌜ ((v : Option Standing) → Seen (now (segment .entry)) (now (blocks .entry)) (now (buffers .entry)) v → r ≡ replyStatus (replyOf v (rules.load file (now («text» .entry))))) ⌝ }
 {
     if !sound(segment, blocks, buffers) {
         return refusals::UNSOUND;
@@ -50,7 +51,7 @@ fn judge_load(segment: &[u8], blocks: &[u8], buffers: &[u8], file: usize, text: 
 fn lay_out(segment: &mut [u8], blocks: &mut [u8], buffers: &mut [u8], f: usize, text: &[u8])
     requires { ⌜ (length (now segment) ≡ segmentBytes) × (length (now blocks) ≡ blocksBytes) × (length (now buffers) ≡ places * bufferBytes * files) × (f < files) ⌝ }
     requires { ⌜ ((s : Sheet) × (readSheet (now «text») ≡ some s)) ⌝ }
-    ensures { λ _. ⌜ ((s : Sheet) → readSheet (now («text» .entry)) ≡ some s → record { status = 0; segment = now (segment .exit); blocks = now (blocks .exit); buffers = now (buffers .exit) } ≡ laidOut f (loaded s) (now (segment .entry)) (now (blocks .entry)) (now (buffers .entry))) ⌝ }
+    ensures { λ _. ⌜ ((s : Sheet) → readSheet (now («text» .entry)) ≡ some s → record { segment = now (segment .exit); blocks = now (blocks .exit); buffers = now (buffers .exit) } ≡ laidOut f (loaded s) (record { segment = now (segment .entry); blocks = now (blocks .entry); buffers = now (buffers .entry) })) ⌝ }
 {
     let mut frame = [0u8; LINE_BYTES];
     let file = pack(blocks, f, text, &mut frame);
@@ -66,8 +67,7 @@ pub fn load(
     file: usize,
     text: &[u8],
 ) -> u8
-    ensures bytes { λ r. ⌜ Loads (now (segment .entry)) (now (blocks .entry)) (now (buffers .entry)) file (now («text» .entry)) (record { status = r; segment = now (segment .exit); blocks = now (blocks .exit); buffers = now (buffers .exit) }) ⌝ }
-    ensures stays { λ r. ⌜ ((d : Desk) (s : Alloc) → StandsFor (now (segment .entry)) (now (blocks .entry)) (now (buffers .entry)) d s → Stays d s (rules.load file (now («text» .entry))) (now (blocks .entry)) (now (buffers .entry)) (now (segment .exit)) (now (blocks .exit)) (now (buffers .exit))) ⌝ }
+    ensures { λ r. ⌜ Promise (record { segment = now (segment .entry); blocks = now (blocks .entry); buffers = now (buffers .entry) }) (host.load file (now («text» .entry))) (status r) (record { segment = now (segment .exit); blocks = now (blocks .exit); buffers = now (buffers .exit) }) ⌝ }
 {
     let status = judge_load(segment, blocks, buffers, file, text);
     if status != 0 {

@@ -33,7 +33,7 @@ use Rattle.midst.specs.Outcome.{replyStatus}
 use Rattle.midst.proofs.Begins.{mid-begin}
 use Rattle.tallies.specs.Tallies.{FileStands}
 use Rattle.tallies.proofs.Counted.{held-file}
-use Rattle.shows.specs.Parts.{nothing, ofBlocks, before, ofFile}
+use Rattle.promises.specs.Parts.{nothing, ofBlocks, before, ofFile}
 use Rattle.looking.specs.declared.finding.Shown.the-variants.{Refused, Block}
 use Rattle.looking.specs.Shown.{partShown, statusShown, Inside, OfFile, Finds}
 use Rattle.looking.proofs.Oldest.{oldest-place, oldest-some, oldest-none}

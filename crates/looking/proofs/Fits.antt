@@ -26,8 +26,8 @@ use Rattle.midst.proofs.Begins.{mid-begin}
 use Rattle.transfers.proofs.Ports.{taken}
 use Rattle.judges.specs.declared.accessors.Accessor.{Accessor}
 use Rattle.judges.specs.Accessors.{accessorOf}
-use Rattle.shows.specs.Seen.{Seen, unsound, stands, replyOf}
-use Rattle.shows.specs.Parts.{bytesOf, before, ofFile, ofReq, partOf}
+use Rattle.promises.specs.Promise.{Standing, Seen, unsound, stands, replyOf}
+use Rattle.promises.specs.Parts.{bytesOf, before, ofFile, ofReq, partOn, partOf}
 use Rattle.looking.proofs.Oldest.{oldest-body}
 use Rattle.looking.proofs.Looked.{Refuses, Looked, refused, writer, reader, looked}
 
@@ -72,21 +72,21 @@ module _ {xs blocks buffers : List ℕ} {d : Desk} {s : Alloc} (S : StandsFor xs
     req-fits p a at (writeDone st log) e = file-fits
 
   -- whoever looks
-  pub fits : (f p : ℕ) → bytesOf (partOf (some d) f p) blocks buffers ≡ replyBytes (respond d (look f p) .reply)
+  pub fits : (f p : ℕ) → bytesOf (partOn d f p) blocks buffers ≡ replyBytes (respond d (look f p) .reply)
   unfolding bytesOf replyBytes
   fits f p = go (accessorOf d f p) (looked d f p)
     where
-      none-shown : (n : ℕ) → Refuses d f p n → bytesOf (partOf (some d) f p) blocks buffers ≡ replyBytes (respond d (look f p) .reply)
+      none-shown : (n : ℕ) → Refuses d f p n → bytesOf (partOn d f p) blocks buffers ≡ replyBytes (respond d (look f p) .reply)
       none-shown n R = rw (R .part, R .reply)
 
-      go : (x : Accessor) → Looked d f p x → bytesOf (partOf (some d) f p) blocks buffers ≡ replyBytes (respond d (look f p) .reply)
+      go : (x : Accessor) → Looked d f p x → bytesOf (partOn d f p) blocks buffers ≡ replyBytes (respond d (look f p) .reply)
       go x (refused n R) = none-shown n R
       go x (writer w q R) = none-shown 34 R
       go x (reader w q R) = rw (R .part, R .reply) (req-fits f (R .file) (R .b) (R .is) p (R .a) (R .at) (R .a .req) refl)
 
 -- and whatever the memories are seen as
-pub seen-fits : (xs blocks buffers : List ℕ) (v : Option Desk) → Seen xs blocks buffers v → (f p : ℕ)
+pub seen-fits : (xs blocks buffers : List ℕ) (v : Option Standing) → Seen xs blocks buffers v → (f p : ℕ)
     → bytesOf (partOf v f p) blocks buffers ≡ replyBytes (replyOf v (look f p))
-unfolding bytesOf partOf replyOf replyBytes
+unfolding bytesOf partOn partOf replyOf replyBytes
 seen-fits xs blocks buffers v (unsound e) f p = refl
 seen-fits xs blocks buffers v (stands d s S) f p = fits S f p

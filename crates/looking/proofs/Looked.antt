@@ -23,11 +23,11 @@ use Rattle.judges.specs.Requests.{outstandingOf}
 use Rattle.judges.specs.Sides.{sideOf}
 use Rattle.judges.specs.Accessors.{accessorIn, accessorOn, accessorOf}
 use Rattle.tally.specs.Count.{bit}
-use Rattle.shows.specs.Parts.{nothing, ofReq, ofReader, partOf}
+use Rattle.promises.specs.Parts.{nothing, ofReq, ofReader, partOn}
 
 -- refused with n
 pub record Refuses (d : Desk) (f p n : ℕ) : Type 0 where
-  pub part : partOf (some d) f p ≡ nothing
+  pub part : partOn d f p ≡ nothing
   pub reply : respond d (look f p) .reply ≡ shows n []
 
 -- an open reader
@@ -39,7 +39,7 @@ pub record Reads (d : Desk) (f p : ℕ) (q : Outstanding) : Type 0 where
   pub at : accAt b p ≡ some a
   pub side : a .writer ≡ false
   pub request : outstandingOf (a .req) ≡ q
-  pub part : partOf (some d) f p ≡ ofReq f p (a .req) b
+  pub part : partOn d f p ≡ ofReq f p (a .req) b
   pub reply : respond d (look f p) .reply ≡ lookReq (a .req) b .reply
 
 -- by the accessor that f and p name; 34 to a writer
@@ -49,7 +49,7 @@ pub data Looked (d : Desk) (f p : ℕ) : Accessor → Type 0 where
   reader : (w : ℕ) (q : Outstanding) → Reads d f p q → Looked d f p (Open w 1 q)
 
 module _ (d : Desk) (f p : ℕ) where
-  by-place : f < files → (b : Built) → fileOf d f ≡ built b → partOf (some d) f p ≡ ofReader f p (built b) → respond d (look f p) .reply ≡ looking.look p b .reply
+  by-place : f < files → (b : Built) → fileOf d f ≡ built b → partOn d f p ≡ ofReader f p (built b) → respond d (look f p) .reply ≡ looking.look p b .reply
       → (o : Option Acc) → accAt b p ≡ o → Looked d f p (accessorIn (b .geo .words) o)
   unfolding ofReader looking.look leaves accessorIn sideOf
   by-place h b is e k none i = refused 32 (record { part = e ∙ rw (ofReader, i); reply = k ∙ rw (looking.look, i) })
@@ -70,15 +70,15 @@ module _ (d : Desk) (f p : ℕ) where
             reply = k ∙ rw (looking.look, i, j);
           }))
 
-  by-file : f < files → partOf (some d) f p ≡ ofReader f p (fileOf d f) → respond d (look f p) .reply ≡ ask (fileOf d f) (calls.look p) .reply
+  by-file : f < files → partOn d f p ≡ ofReader f p (fileOf d f) → respond d (look f p) .reply ≡ ask (fileOf d f) (calls.look p) .reply
       → (x : File) → fileOf d f ≡ x → Looked d f p (accessorOn x p)
   unfolding ofReader ask askBuilt askUnbuilt refusal unmade accessorOn
   by-file h e k unbuilt i = refused 31 (record { part = e ∙ rw i; reply = k ∙ rw i })
   by-file h e k (built b) i = by-place h b i (e ∙ ap (ofReader f p) i) (k ∙ ap (λ x. ask x (calls.look p) .reply) i) (accAt b p) refl
 
   pub looked : Looked d f p (accessorOf d f p)
-  unfolding accessorOf partOf respond asked answered refusal
+  unfolding accessorOf partOn respond asked answered refusal
   looked =
       by-cases (ltb f files)
-      (λ t. rw (accessorOf, t) (by-file (ltb-true f files t) (rw (partOf, t)) (rw (answered, t)) (fileOf d f) refl))
-      (λ t. rw (accessorOf, t) (refused 31 (record { part = rw (partOf, t); reply = rw (answered, t) })))
+      (λ t. rw (accessorOf, t) (by-file (ltb-true f files t) (rw (partOn, t)) (rw (answered, t)) (fileOf d f) refl))
+      (λ t. rw (accessorOf, t) (refused 31 (record { part = rw (partOn, t); reply = rw (answered, t) })))

@@ -22,7 +22,7 @@ use Rattle.blocks.specs.declared.reading.Found.the-variants.{At, Nothing}
 use Rattle.blocks.specs.Reading.{Readable, Legible, oldestOf, found}
 use Rattle.blocks.proofs.reading.Stores.{legible, found-oldest}
 use Rattle.blocks.proofs.reading.Walk.{at-same, at-none}
-use Rattle.shows.specs.Parts.{before}
+use Rattle.promises.specs.Parts.{before}
 
 -- it is one of the records
 before-low : (l : List Rec) (r : Rec) → oldest l ≡ some r → before l < length l

@@ -10,9 +10,9 @@ use Rattle.memory.specs.Stands.{Bytes}
 use Rattle.midst.specs.Outcome.{replyStatus}
 use Rattle.sound.specs.Sound.{soundly}
 use Rattle.sound.proofs.desk.Both.{sound-stands}
-use Rattle.shows.specs.Seen.{Seen, replyOf}
-use Rattle.shows.specs.Parts.{Part, bytesOf, partOf}
-use Rattle.shows.proofs.Seen.{seen-none, seen-some}
+use Rattle.promises.specs.Promise.{Standing, Seen, replyOf}
+use Rattle.promises.specs.Parts.{Part, bytesOf, partOf}
+use Rattle.promises.proofs.Seen.{seen-none, seen-some}
 use Rattle.words.proofs.Parts.{span}
 use Rattle.looking.specs.declared.finding.Shown.{Shown}
 use Rattle.looking.specs.declared.finding.Shown.the-variants.{Refused, Block, Buffer}
@@ -21,7 +21,7 @@ use Rattle.looking.proofs.Fits.{seen-fits}
 
 -- whatever the memories hold
 abbrev pub Shows : List ℕ → List ℕ → List ℕ → ℕ → ℕ → Shown → Type 0
-Shows xs blocks buffers f p x = (v : Option Desk) → Seen xs blocks buffers v → Tells (partOf v f p) (replyOf v (look f p)) x
+Shows xs blocks buffers f p x = (v : Option Standing) → Seen xs blocks buffers v → Tells (partOf v f p) (replyOf v (look f p)) x
 
 pub sound-stood : (xs blocks buffers : List ℕ) → Bytes xs → Bytes blocks → Bytes buffers → soundly xs blocks buffers ≡ true → Stood xs blocks
 sound-stood xs blocks buffers bs bb bf e = (buffers, sound-stands xs blocks buffers bs bb bf e)
@@ -38,7 +38,7 @@ module _ (xs blocks buffers : List ℕ) (f p : ℕ) where
         rw (S .stands .bodies .blocks-size, S .stands .bodies .buffers-size) (F .inside)
 
     pub sound-shows : (x : Shown) → Finds (OfReader f p) xs blocks x → Shows xs blocks buffers f p x
-    unfolding replyOf
+    unfolding replyOf partOf
     sound-shows x F = seen-some (λ v. Tells (partOf v f p) (replyOf v (look f p)) x) e (λ d s S. F .tells buffers d s S)
 
 -- the part is within its memory
@@ -54,13 +54,13 @@ module _ (xs blocks buffers : List ℕ) (f p : ℕ) (x : Shown) (F : Shows xs bl
   -- the bytes of the part are what look promises
   abbrev Given : List ℕ → Type 0
   Given ys =
-      ((v : Option Desk) → Seen xs blocks buffers v → ys ≡ bytesOf (partOf v f p) blocks buffers)
-      × ((v : Option Desk) → Seen xs blocks buffers v → ys ≡ replyBytes (replyOf v (look f p)))
+      ((v : Option Standing) → Seen xs blocks buffers v → ys ≡ bytesOf (partOf v f p) blocks buffers)
+      × ((v : Option Standing) → Seen xs blocks buffers v → ys ≡ replyBytes (replyOf v (look f p)))
 
   given : (ys : List ℕ) → ys ≡ bytesOf (partShown x) blocks buffers → Given ys
   given ys e = (part, λ v k. part v k ∙ seen-fits xs blocks buffers v k f p)
     where
-      part : (v : Option Desk) → Seen xs blocks buffers v → ys ≡ bytesOf (partOf v f p) blocks buffers
+      part : (v : Option Standing) → Seen xs blocks buffers v → ys ≡ bytesOf (partOf v f p) blocks buffers
       part v k = e ∙ ap (λ (q : Part). bytesOf q blocks buffers) (F v k .shows)
 
   pub refused-given : (n : ℕ) → x ≡ Refused n → Given []
@@ -77,7 +77,7 @@ module _ (xs blocks buffers : List ℕ) (f p : ℕ) (x : Shown) (F : Shows xs bl
 
   -- and so is the status
   abbrev Said : ℕ → Type 0
-  Said n = (v : Option Desk) → Seen xs blocks buffers v → n ≡ replyStatus (replyOf v (look f p))
+  Said n = (v : Option Standing) → Seen xs blocks buffers v → n ≡ replyStatus (replyOf v (look f p))
 
   pub refused-said : (n : ℕ) → x ≡ Refused n → Said n
   unfolding statusShown

@@ -35,7 +35,7 @@ use Rattle.judges.proofs.Waits.{fine-at}
 use Rattle.transfers.proofs.Fits.{Fit, fit}
 use Rattle.transfers.proofs.Ports.{port-full, port-entry}
 use Rattle.tallies.specs.Tallies.{FileStands}
-use Rattle.shows.specs.Parts.{ofBuffers, ofFile, ofReq}
+use Rattle.promises.specs.Parts.{ofBuffers, ofFile, ofReq}
 use Rattle.looking.specs.declared.finding.Shown.{Shown}
 use Rattle.looking.specs.declared.finding.Shown.the-variants as shown
 use Rattle.looking.specs.Shown.{partShown, statusShown, Inside, OfFile, OfReader, Finds, Stood, Opens}

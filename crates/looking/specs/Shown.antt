@@ -15,7 +15,7 @@ use Rattle.midst.specs.Outcome.{replyStatus, Sound}
 use Rattle.judges.specs.declared.outstanding.Outstanding.{Outstanding}
 use Rattle.judges.specs.declared.accessors.Accessor.the-variants.{Open}
 use Rattle.judges.specs.Accessors.{accessorAt}
-use Rattle.shows.specs.Parts.{Part, nothing, ofBlocks, ofBuffers, ofFile, partOf}
+use Rattle.promises.specs.Parts.{Part, nothing, ofBlocks, ofBuffers, ofFile, partOn}
 use Rattle.looking.specs.declared.finding.Shown.{Shown}
 use Rattle.looking.specs.declared.finding.Shown.the-variants.{Refused, Block, Buffer}
 
@@ -46,7 +46,7 @@ abbrev pub OfFile : ℕ → Desk → Shown → Type 0
 OfFile f d x = (b : Built) → fileOf d f ≡ built b → Tells (ofFile f b) (lookFile b .reply) x
 
 abbrev pub OfReader : ℕ → ℕ → Desk → Shown → Type 0
-OfReader f p d x = Tells (partOf (some d) f p) (respond d (look f p) .reply) x
+OfReader f p d x = Tells (partOn d f p) (respond d (look f p) .reply) x
 
 -- on every desk that the memories, with some buffers, stand for
 pub record Finds (Of : Desk → Shown → Type 0) (xs blocks : List ℕ) (x : Shown) : Type 0 where

@@ -14,14 +14,14 @@ ghost use Rattle.rules.specs.Limits.{bufferBytes};
 ghost use Rattle.rules.specs.Desk.{Desk, replyBytes};
 ghost use Rattle.rules.specs.Desk as rules;
 ghost use Rattle.midst.specs.Outcome.{replyStatus};
-ghost use Rattle.shows.specs.Seen.{Seen, replyOf};
-ghost use Rattle.shows.specs.Parts.{bytesOf, partOf};
+ghost use Rattle.promises.specs.Promise.{Standing, Seen, replyOf};
+ghost use Rattle.promises.specs.Parts.{bytesOf, partOf};
 ghost use Rattle.looking.specs.Shown.{Inside, Tells};
 
 // What is shown, whatever the memories hold.
 fn shown(segment: &[u8], blocks: &[u8], buffers: &[u8], file: usize, reader: usize) -> Shown
     ensures inside { λ r. ⌜ Inside (length (now (blocks .entry))) (length (now (buffers .entry))) r ⌝ }
-    ensures tells { λ r. ⌜ ((v : Option Desk) → Seen (now (segment .entry)) (now (blocks .entry)) (now (buffers .entry)) v → Tells (partOf v file reader) (replyOf v (rules.look file reader)) r) ⌝ }
+    ensures tells { λ r. ⌜ ((v : Option Standing) → Seen (now (segment .entry)) (now (blocks .entry)) (now (buffers .entry)) v → Tells (partOf v file reader) (replyOf v (rules.look file reader)) r) ⌝ }
 {
     if !sound::sound(segment, blocks, buffers) {
         return Shown::Refused(refusals::UNSOUND);
@@ -37,8 +37,8 @@ pub fn look<'a>(
     file: usize,
     reader: usize,
 ) -> &'a [u8]
-    ensures part { λ r. ⌜ ((v : Option Desk) → Seen (now (segment .entry)) (now (blocks .entry)) (now (buffers .entry)) v → now r ≡ bytesOf (partOf v file reader) (now (blocks .entry)) (now (buffers .entry))) ⌝ }
-    ensures shown { λ r. ⌜ ((v : Option Desk) → Seen (now (segment .entry)) (now (blocks .entry)) (now (buffers .entry)) v → now r ≡ replyBytes (replyOf v (rules.look file reader))) ⌝ }
+    ensures part { λ r. ⌜ ((v : Option Standing) → Seen (now (segment .entry)) (now (blocks .entry)) (now (buffers .entry)) v → now r ≡ bytesOf (partOf v file reader) (now (blocks .entry)) (now (buffers .entry))) ⌝ }
+    ensures shown { λ r. ⌜ ((v : Option Standing) → Seen (now (segment .entry)) (now (blocks .entry)) (now (buffers .entry)) v → now r ≡ replyBytes (replyOf v (rules.look file reader))) ⌝ }
     ensures short { λ r. ⌜ length (now r) ≤ bufferBytes ⌝ }
 {
     let what = shown(segment, blocks, buffers, file, reader);
@@ -51,7 +51,7 @@ pub fn look<'a>(
 
 // Its status: 29, 31, 32, 34, 39, or 0.
 pub fn look_status(segment: &[u8], blocks: &[u8], buffers: &[u8], file: usize, reader: usize) -> u8
-    ensures { λ r. ⌜ ((v : Option Desk) → Seen (now (segment .entry)) (now (blocks .entry)) (now (buffers .entry)) v → r ≡ replyStatus (replyOf v (rules.look file reader))) ⌝ }
+    ensures { λ r. ⌜ ((v : Option Standing) → Seen (now (segment .entry)) (now (blocks .entry)) (now (buffers .entry)) v → r ≡ replyStatus (replyOf v (rules.look file reader))) ⌝ }
 {
     let what = shown(segment, blocks, buffers, file, reader);
     match what {

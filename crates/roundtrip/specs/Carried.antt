@@ -1,24 +1,20 @@
--- The round trip for the code: of every result that meets the contracts of save and load.
+-- The round trip for the code: of every result that meets the promises of save and load.
+use Prim.Native.Nat.{ℕ, _≤_}
 use mathlib.Core.Path.{_≡_}
 use mathlib.Core.List.{List}
-use Prim.Native.Nat.{ℕ, _≤_}
 use lib.ListN.{length, take}
 use Rattle.rules.specs.State.{Built, built}
 use Rattle.rules.specs.Desk.{Desk, fileOf, load, respond}
-use Rattle.shows.specs.Sheets.{Saved, Saves, Loaded}
+use Rattle.promises.specs.Promise.{Memories, save, written, Promise}
 
--- the bytes that save wrote
-abbrev pub textOf : Saved → List ℕ
-textOf r = take (r .size) (r .output)
-
--- the file b was saved as r, and r's text was loaded into file g of desk c, which came to l
-pub record Carried (b : Built) (r : Saved) (c : Desk) (g : ℕ) (l : Loaded) : Type 0 where
-  pub loads : l .status ≡ 0
+-- the file b was saved as a text; loaded into file g of desk c it gave a status and left the memories m
+pub record Carried (b : Built) (text : List ℕ) (c : Desk) (g status : ℕ) (m : Memories) : Type 0 where
+  pub loads : status ≡ 0
   -- "A saved sheet loads back to the same geometry and records"
   pub back : Built
-  pub leaves : fileOf (respond c (load g (textOf r)) .desk) g ≡ built back
+  pub leaves : fileOf (respond c (load g text) .desk) g ≡ built back
   pub geo : back .geo ≡ b .geo
   pub recs : back .store .recs ≡ b .store .recs
   -- "and saving that gives the same sheet", in any output that the sheet fits
-  pub again : (output : List ℕ) (q : Saved) → Saves (l .segment) (l .blocks) (l .buffers) g output q → r .size ≤ length output
-      → (q .status ≡ 0) × (q .size ≡ r .size) × (textOf q ≡ textOf r)
+  pub again : (output output′ : List ℕ) (st n : ℕ) (m′ : Memories) → Promise m (save g output) (written st n output′) m′ → length text ≤ length output
+      → (st ≡ 0) × (n ≡ length text) × (take n output′ ≡ text)

@@ -32,19 +32,20 @@ use Rattle.judges.proofs.Files.{is-built, not-built}
 use Rattle.tallies.specs.Tallies.{FileStands}
 use Rattle.tallies.proofs.Counted.{row-is, share-is, room}
 use Rattle.sound.specs.Sound.{soundly}
-use Rattle.shows.specs.Seen.{Seen, replyOf}
-use Rattle.shows.specs.Sheets.{savedAs}
-use Rattle.shows.proofs.Seen.{seen-none, seen-some}
+use Rattle.promises.specs.Promise.{Memories, Given, written, Standing, Seen, replyOf, shown, Promise}
+use Rattle.promises.specs.Promise as host
+use Rattle.promises.proofs.Seen.{seen-none, seen-some}
+use Rattle.promises.proofs.Still.{save-behind}
 use Rattle.saving.specs.Sheets.{sheetOf}
 
 -- refused: nothing is written
-refused-as : (st : ℕ) (out : List ℕ) (r : Reply) → r ≡ shows st [] → record { status = st; size = 0; output = out } ≡ savedAs r out
-unfolding savedAs replyStatus replyBytes
+refused-as : (st : ℕ) (out : List ℕ) (r : Reply) → r ≡ shows st [] → written st 0 out ≡ shown out r
+unfolding shown replyStatus replyBytes
 refused-as st out r e = rw e
 
 -- written
-written-as : (t out out′ : List ℕ) (n : ℕ) (r : Reply) → r ≡ shows 0 t → n ≡ length t → out′ ≡ sets out 0 t → record { status = 0; size = n; output = out′ } ≡ savedAs r out
-unfolding savedAs replyStatus replyBytes
+written-as : (t out out′ : List ℕ) (n : ℕ) (r : Reply) → r ≡ shows 0 t → n ≡ length t → out′ ≡ sets out 0 t → written 0 n out′ ≡ shown out r
+unfolding shown replyStatus replyBytes
 written-as t out out′ n r e u v = rw (e, u, v)
 
 save-fits : (n : ℕ) (b : Built) → length (sheet (b .geo) (b .store .recs)) ≤ n → save n b .reply ≡ shows 0 (sheet (b .geo) (b .store .recs))
@@ -65,11 +66,11 @@ module _ {xs blocks buffers : List ℕ} {d : Desk} {s : Alloc} (S : StandsFor xs
 
   module _ (n : ℕ) (u : n ≡ length (sheetOf (x .words) (x .ring) ys)) (out : List ℕ) where
     -- 44: output too short
-    pub short-as : length out < n → record { status = 44; size = 0; output = out } ≡ savedAs (save (length out) b .reply) out
+    pub short-as : length out < n → written 44 0 out ≡ shown out (save (length out) b .reply)
     short-as c = refused-as 44 out (save (length out) b .reply) (save-short (length out) b (omega (arith, c, u, ap length sheet-is)))
 
     pub sheet-as : n ≤ length out → (out′ : List ℕ) → out′ ≡ sets out 0 (sheetOf (x .words) (x .ring) ys)
-        → record { status = 0; size = n; output = out′ } ≡ savedAs (save (length out) b .reply) out
+        → written 0 n out′ ≡ shown out (save (length out) b .reply)
     sheet-as c out′ v =
         written-as (sheet (b .geo) (b .store .recs)) out out′ n (save (length out) b .reply) (save-fits (length out) b (omega (arith, c, u, ap length sheet-is)))
         (u ∙ ap length sheet-is) (v ∙ ap (sets out 0) sheet-is)
@@ -84,24 +85,30 @@ above : (d : Desk) (f n : ℕ) → files ≤ f → respond d (rules.save f n) .r
 unfolding respond asked answered refusal
 above d f n h = rw (le-ltb f files h, answered) refl
 
+-- the memories are lent to be read, and are what the rules leave
+pub saves : (m : Memories) (f : ℕ) (out : List ℕ) (g : Given) → ((v : Option Standing) → Seen (m .segment) (m .blocks) (m .buffers) v → g ≡ shown out (replyOf v (rules.save f (length out))))
+    → Promise m (host.save f out) g m
+unfolding Promise
+saves m f out g h v S = (h v S, save-behind m v S f (length out))
+
 -- a file whose R is not 0 is built
 pub save-stands : {xs blocks buffers : List ℕ} {d : Desk} {s : Alloc} (f w : ℕ) → w ≡ wordsAt xs f → (w ≡ 0 → ⊥) → StandsFor xs blocks buffers d s → FileStands xs blocks f
 save-stands {xs} {buffers = buffers} {d = d} {s = s} f w e h S =
     let (b, k) = is-built S f w e h in
     record { file = words-low xs f w e h; buffers = buffers; d = d; s = s; b = b; stands = S; is = k }
 
-abbrev Comes : ℕ → List ℕ → ℕ → ℕ → List ℕ → Option Desk → Type 0
-Comes f out st n out′ v = record { status = st; size = n; output = out′ } ≡ savedAs (replyOf v (rules.save f (length out))) out
+abbrev Comes : ℕ → List ℕ → ℕ → ℕ → List ℕ → Option Standing → Type 0
+Comes f out st n out′ v = written st n out′ ≡ shown out (replyOf v (rules.save f (length out)))
 
 module _ {xs blocks buffers : List ℕ} (f : ℕ) (out : List ℕ) where
   -- 29
-  pub save-unsound : soundly xs blocks buffers ≡ false → (v : Option Desk) → Seen xs blocks buffers v → Comes f out 29 0 out v
+  pub save-unsound : soundly xs blocks buffers ≡ false → (v : Option Standing) → Seen xs blocks buffers v → Comes f out 29 0 out v
   unfolding replyOf
   save-unsound t = seen-none (Comes f out 29 0 out) t (refused-as 29 out (shows 29 []) refl)
 
   module _ (t : soundly xs blocks buffers ≡ true) (w : ℕ) (e : w ≡ wordsAt xs f) where
     -- 31: file above 7 or not built
-    pub save-unbuilt : w ≡ 0 → (v : Option Desk) → Seen xs blocks buffers v → Comes f out 31 0 out v
+    pub save-unbuilt : w ≡ 0 → (v : Option Standing) → Seen xs blocks buffers v → Comes f out 31 0 out v
     unfolding replyOf ask askUnbuilt refusal unmade
     save-unbuilt z =
         seen-some (Comes f out 31 0 out) t
@@ -112,10 +119,10 @@ module _ {xs blocks buffers : List ℕ} (f : ℕ) (out : List ℕ) where
         go d s S (no h) = above d f (length out) (omega arith)
 
     pub save-built : (w ≡ 0 → ⊥) → (st n : ℕ) (out′ : List ℕ)
-        → ((buffers : List ℕ) (d : Desk) (s : Alloc) (b : Built) → StandsFor xs blocks buffers d s → fileOf d f ≡ built b → record { status = st; size = n; output = out′ } ≡ savedAs (save (length out) b .reply) out)
-        → (v : Option Desk) → Seen xs blocks buffers v → Comes f out st n out′ v
+        → ((buffers : List ℕ) (d : Desk) (s : Alloc) (b : Built) → StandsFor xs blocks buffers d s → fileOf d f ≡ built b → written st n out′ ≡ shown out (save (length out) b .reply))
+        → (v : Option Standing) → Seen xs blocks buffers v → Comes f out st n out′ v
     unfolding replyOf ask askBuilt
     save-built h st n out′ g =
         seen-some (Comes f out st n out′) t
         (λ d s S. let (b, k) = is-built S f w e h in
-        g buffers d s b S k ∙ ap (λ (r : Reply). savedAs r out) (sym (on-file d f (length out) (built b) (words-low xs f w e h) k)))
+        g buffers d s b S k ∙ ap (λ (r : Reply). shown out r) (sym (on-file d f (length out) (built b) (words-low xs f w e h) k)))

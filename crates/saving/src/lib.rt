@@ -15,7 +15,8 @@ ghost use Rattle.rules.specs.Desk.{Desk, fileOf};
 ghost use Rattle.rules.specs.Allocation.{Alloc};
 ghost use Rattle.memory.specs.Fine.{StandsFor};
 ghost use Rattle.tallies.specs.Tallies.{FileStands};
-ghost use Rattle.shows.specs.Sheets.{savedAs, Saves};
+ghost use Rattle.promises.specs.Promise.{written, shown, Promise};
+ghost use Rattle.promises.specs.Promise as host;
 
 // The status, and the length of the sheet.
 pub struct Saved {
@@ -32,7 +33,7 @@ fn refused(status: u8) -> Saved
 // A file that is built, into the output if that is long enough.
 fn save_file(segment: &[u8], blocks: &[u8], file: usize, output: &mut [u8]) -> Saved
     requires { ⌜ FileStands (now segment) (now blocks) file ⌝ }
-    ensures saved { λ r. ⌜ ((buffers : List ℕ) (d : Desk) (s : Alloc) (b : Built) → StandsFor (now (segment .entry)) (now (blocks .entry)) buffers d s → fileOf d file ≡ built b → record { status = r .status; size = r .length; output = now (output .exit) } ≡ savedAs (sheets.save (length (now (output .entry))) b .reply) (now (output .entry))) ⌝ }
+    ensures saved { λ r. ⌜ ((buffers : List ℕ) (d : Desk) (s : Alloc) (b : Built) → StandsFor (now (segment .entry)) (now (blocks .entry)) buffers d s → fileOf d file ≡ built b → written (r .status) (r .length) (now (output .exit)) ≡ shown (now (output .entry)) (sheets.save (length (now (output .entry))) b .reply)) ⌝ }
     ensures fits { λ r. ⌜ r .length ≤ length (now (output .entry)) ⌝ }
 {
     let taken = midst::take_file(segment, file);
@@ -51,7 +52,7 @@ fn save_file(segment: &[u8], blocks: &[u8], file: usize, output: &mut [u8]) -> S
 // A file's sheet, from the first byte of the output on. 29: a memory of the wrong length, or unsound; 31: file above 7 or not built; 44: output too
 // short, with nothing written.
 pub fn save(segment: &[u8], blocks: &[u8], buffers: &[u8], file: usize, output: &mut [u8]) -> Saved
-    ensures saved { λ r. ⌜ Saves (now (segment .entry)) (now (blocks .entry)) (now (buffers .entry)) file (now (output .entry)) (record { status = r .status; size = r .length; output = now (output .exit) }) ⌝ }
+    ensures saved { λ r. ⌜ Promise (record { segment = now (segment .entry); blocks = now (blocks .entry); buffers = now (buffers .entry) }) (host.save file (now (output .entry))) (written (r .status) (r .length) (now (output .exit))) (record { segment = now (segment .entry); blocks = now (blocks .entry); buffers = now (buffers .entry) }) ⌝ }
     ensures fits { λ r. ⌜ r .length ≤ length (now (output .entry)) ⌝ }
 {
     if !sound::sound(segment, blocks, buffers) {

@@ -1,25 +1,25 @@
 -- Memories that are not sound are left as they are.
 use Prim.Native.Nat.{ℕ}
-use mathlib.Core.Path.{_≡_, refl, ap, _∙_}
+use mathlib.Core.Path.{_≡_, ap, _∙_}
 use mathlib.Core.Bool.{Bool, false}
 use mathlib.Core.List.{List}
-use borrow.Author.Tests.{eq-eqb}
-use lib.ListN.{length}
 use Rattle.words.specs.Word.{zeros}
 use Rattle.words.proofs.Runs.{length-zeros}
 use Rattle.rules.specs.Limits.{answerRoom}
+use Rattle.rules.specs.Line.{lineFrame}
 use Rattle.sound.specs.Sound.{soundly}
-use Rattle.desk.specs.Answered.{usable}
+use Rattle.promises.specs.Promise.{Memories}
+use Rattle.promises.proofs.Events.{event-keeps}
 use Rattle.lines.specs.Asked.{Asked}
 use Rattle.serving.specs.Served.{Kept}
 
 pub line-kept : (segment blocks buffers line out segment′ blocks′ buffers′ out′ : List ℕ) (used r : ℕ) → Asked segment blocks buffers line out segment′ blocks′ buffers′ out′ used r
     → Kept segment blocks buffers segment′ blocks′ buffers′
-unfolding usable
 line-kept segment blocks buffers line out segment′ blocks′ buffers′ out′ used r a h =
-    let u : usable segment blocks buffers (zeros answerRoom) ≡ false = rw (eq-eqb (length (zeros answerRoom)) answerRoom (length-zeros answerRoom)) h in
-    let x = a .event .unfit u in
-    (x .1, x .2, x .3)
+    let m : Memories = record { segment = segment; blocks = blocks; buffers = buffers } in
+    let m′ : Memories = record { segment = segment′; blocks = blocks′; buffers = buffers′ } in
+    let e = event-keeps m (zeros answerRoom) (lineFrame line) (length-zeros answerRoom) m′ (a .answer) (a .size) (a .event) h in
+    (ap (λ (n : Memories). n .segment) e, ap (λ (n : Memories). n .blocks) e, ap (λ (n : Memories). n .buffers) e)
 
 -- one change behind another
 pub kept-on : (segment blocks buffers segment′ blocks′ buffers′ segment″ blocks″ buffers″ : List ℕ) → Kept segment blocks buffers segment′ blocks′ buffers′

@@ -14,11 +14,11 @@ use Rattle.words.proofs.Runs.{length-zeros}
 use Rattle.rules.specs.Limits.{answerRoom}
 use Rattle.rules.specs.Line.{digitsOf, lineFrame, lineOf}
 use Rattle.rules.specs.Desk.{event, respond, replyBytes}
-use Rattle.rules.proofs.Split.{by-cases, true-and, pick-true, pick-false}
-use Rattle.sound.proofs.desk.Both.{stands-sound}
+use Rattle.rules.proofs.Split.{by-cases, pick-true, pick-false}
 use Rattle.hex.proofs.Trip.{length-digits}
-use Rattle.desk.specs.Answered.{Answered, usable}
-use Rattle.lines.specs.Asked.{mostAnswer, Asked}
+use Rattle.promises.specs.Promise.{Memories}
+use Rattle.promises.proofs.Events.{event-says}
+use Rattle.lines.specs.Asked.{mostAnswer, Gives, Asked}
 use Rattle.lines.proofs.Parts.{front, put-first}
 use Rattle.serving.specs.Going.{mostHeld, Going, lineEnds, byte, goes, ends, written, Printed, At}
 use Rattle.serving.proofs.Parts.{filled-more, kept-more, frame-kept, some-held, none-held}
@@ -28,18 +28,20 @@ pub line-answered : (g : Going) (segment blocks buffers line out segment′ bloc
     → Asked segment blocks buffers line out segment′ blocks′ buffers′ out′ used r → used + mostAnswer ≤ length out → r ≤ used + mostAnswer
     → lineFrame line ≡ lineFrame (g .part)
     → Printed g segment blocks buffers out used → Printed (lineEnds g) segment′ blocks′ buffers′ out′ r
-unfolding usable lineEnds lineOf
+unfolding lineEnds lineOf
 line-answered g segment blocks buffers line out segment′ blocks′ buffers′ out′ used r a h k e p =
     let n = a .size in
     let v = a .answer in
     let room = length-zeros answerRoom in
-    let x = subst (λ (f : List ℕ). Answered segment blocks buffers (zeros answerRoom) f segment′ blocks′ buffers′ v n) e (a .event) in
-    let t = x .fit (true-and _ _ (eq-eqb (length (zeros answerRoom)) answerRoom room) (stands-sound segment blocks buffers (g .desk) (g .alloc) (p .stands))) (g .desk) (g .alloc) (p .stands) in
+    let x = subst (λ (f : List ℕ). Gives segment blocks buffers f segment′ blocks′ buffers′ v n) e (a .event) in
+    let m : Memories = record { segment = segment; blocks = blocks; buffers = buffers } in
+    let m′ : Memories = record { segment = segment′; blocks = blocks′; buffers = buffers′ } in
+    let (stays, told) = event-says m (zeros answerRoom) (lineFrame (g .part)) room m′ v n x (g .desk) (g .alloc) (p .stands) in
     let said = replyBytes (respond (g .desk) (event (lineFrame (g .part))) .reply) in
-    let w : take n v ≡ said = rw (t .told .bytes) (put-first (zeros answerRoom) said n (t .told .size) (omega (arith, a .end, t .told .size, room))) in
-    let long : length (lineOf said) ≡ 2 * n + 1 = omega (arith, length-append (digitsOf said) (10 ∷ []), length-digits said, t .told .size) in
+    let w : take n v ≡ said = rw (told .bytes) (put-first (zeros answerRoom) said n (told .size) (omega (arith, a .end, told .size, room))) in
+    let long : length (lineOf said) ≡ 2 * n + 1 = omega (arith, length-append (digitsOf said) (10 ∷ []), length-digits said, told .size) in
     record {
-      stands = t .stays .stands;
+      stands = stays .stands;
       filled =
           ap (take r) (a .printed)
           ∙ ap (λ (y : List ℕ). take r (sets out used (lineOf y))) w

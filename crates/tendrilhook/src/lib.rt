@@ -1,16 +1,8 @@
 // The calls that a host in C makes; include/tendrilhook.h says what they do.
 use judges::refusals;
 use kinds::limits::BUFFER_BYTES;
-ghost use mathlib.Core.Path.{_≡_};
-ghost use Rattle.rules.specs.Allocation.{Alloc};
-ghost use Rattle.rules.specs.Desk.{Desk};
-ghost use Rattle.rules.specs.Desk as rules;
-ghost use Rattle.memory.specs.Fine.{StandsFor};
-ghost use Rattle.fresh.specs.Made.{made};
-ghost use Rattle.midst.specs.Outcome.{Stays};
-ghost use Rattle.desk.specs.Answered.{Answered};
-ghost use Rattle.shows.specs.Sheets.{Saves, Loads};
-ghost use Rattle.shows.specs.Copies.{Copies};
+ghost use Rattle.promises.specs.Promise.{Promise};
+ghost use Rattle.promises.specs.Promise as host;
 
 // One event: the answer's length; 0 where a lent memory has the wrong length or unsound content, and then nothing is written.
 #[no_mangle]
@@ -21,7 +13,7 @@ pub extern "C" fn tendrilhook_event(
     answer: &mut [u8],
     frame: &[u8],
 ) -> usize
-    ensures { λ r. ⌜ Answered (now (segment .entry)) (now (blocks .entry)) (now (buffers .entry)) (now (answer .entry)) (now («frame» .entry)) (now (segment .exit)) (now (blocks .exit)) (now (buffers .exit)) (now (answer .exit)) r ⌝ }
+    ensures { λ r. ⌜ Promise (record { segment = now (segment .entry); blocks = now (blocks .entry); buffers = now (buffers .entry) }) (host.event (now (answer .entry)) (now («frame» .entry))) (host.answer r (now (answer .exit))) (record { segment = now (segment .exit); blocks = now (blocks .exit); buffers = now (buffers .exit) }) ⌝ }
 {
     desk::event(segment, blocks, buffers, answer, frame)
 }
@@ -29,7 +21,7 @@ pub extern "C" fn tendrilhook_event(
 // A fresh desk: its status, 0, or 29 where a length is wrong, and then nothing is written.
 #[no_mangle]
 pub extern "C" fn tendrilhook_fresh(segment: &mut [u8], blocks: &mut [u8], buffers: &mut [u8]) -> u8
-    ensures { λ r. ⌜ record { status = r; segment = now (segment .exit); blocks = now (blocks .exit); buffers = now (buffers .exit) } ≡ made (now (segment .entry)) (now (blocks .entry)) (now (buffers .entry)) ⌝ }
+    ensures { λ r. ⌜ Promise (record { segment = now (segment .entry); blocks = now (blocks .entry); buffers = now (buffers .entry) }) host.fresh (host.status r) (record { segment = now (segment .exit); blocks = now (blocks .exit); buffers = now (buffers .exit) }) ⌝ }
 {
     fresh::fresh(segment, blocks, buffers)
 }
@@ -45,7 +37,7 @@ pub extern "C" fn tendrilhook_look<'a>(
     record: &mut [u8],
     length: &mut usize,
 ) -> u8
-    ensures { λ r. ⌜ Copies (now (segment .entry)) (now (blocks .entry)) (now (buffers .entry)) file reader (now («record» .entry)) (record { status = r; size = now (length .exit); output = now («record» .exit) }) ⌝ }
+    ensures { λ r. ⌜ Promise (record { segment = now (segment .entry); blocks = now (blocks .entry); buffers = now (buffers .entry) }) (host.look file reader (now («record» .entry))) (host.written r (now (length .exit)) (now («record» .exit))) (record { segment = now (segment .entry); blocks = now (blocks .entry); buffers = now (buffers .entry) }) ⌝ }
 {
     if record.len() != BUFFER_BYTES {
         *length = 0;
@@ -67,7 +59,7 @@ pub extern "C" fn tendrilhook_save(
     output: &mut [u8],
     length: &mut usize,
 ) -> u8
-    ensures { λ r. ⌜ Saves (now (segment .entry)) (now (blocks .entry)) (now (buffers .entry)) file (now (output .entry)) (record { status = r; size = now (length .exit); output = now (output .exit) }) ⌝ }
+    ensures { λ r. ⌜ Promise (record { segment = now (segment .entry); blocks = now (blocks .entry); buffers = now (buffers .entry) }) (host.save file (now (output .entry))) (host.written r (now (length .exit)) (now (output .exit))) (record { segment = now (segment .entry); blocks = now (blocks .entry); buffers = now (buffers .entry) }) ⌝ }
 {
     let saved = saving::save(segment, blocks, buffers, file, output);
     *length = saved.length;
@@ -83,8 +75,7 @@ pub extern "C" fn tendrilhook_load(
     file: usize,
     text: &[u8],
 ) -> u8
-    ensures bytes { λ r. ⌜ Loads (now (segment .entry)) (now (blocks .entry)) (now (buffers .entry)) file (now («text» .entry)) (record { status = r; segment = now (segment .exit); blocks = now (blocks .exit); buffers = now (buffers .exit) }) ⌝ }
-    ensures stays { λ r. ⌜ ((d : Desk) (s : Alloc) → StandsFor (now (segment .entry)) (now (blocks .entry)) (now (buffers .entry)) d s → Stays d s (rules.load file (now («text» .entry))) (now (blocks .entry)) (now (buffers .entry)) (now (segment .exit)) (now (blocks .exit)) (now (buffers .exit))) ⌝ }
+    ensures { λ r. ⌜ Promise (record { segment = now (segment .entry); blocks = now (blocks .entry); buffers = now (buffers .entry) }) (host.load file (now («text» .entry))) (host.status r) (record { segment = now (segment .exit); blocks = now (blocks .exit); buffers = now (buffers .exit) }) ⌝ }
 {
     loading::load(segment, blocks, buffers, file, text)
 }

@@ -1,6 +1,6 @@
 use Rattle.memory.specs.Stands.{Bytes}
-use Rattle.desk.proofs.Refuses.{event-refused, frame-refused, refusal-size, not-refused}
-use Rattle.desk.proofs.Finals.{short-memory, unsound, both-fit, unfit, refused, done}
+use Rattle.desk.proofs.Refuses.{event-refused, frame-refused, not-refused}
+use Rattle.promises.proofs.Events.{event-length, event-unsound, event-done}
 use Rattle.sound.proofs.desk.Both.{sound-stands}
 use borrow.Author.Tests.{not-true, not-false}
 use native.Mathlib.Omega.{arith}
@@ -19,7 +19,7 @@ use Rattle.sound.proofs.sound.Reads as sound-reads
 
 -- src/lib.rt:47:9
 returns : tie.Need-returns
-returns c = unfit _ _ _ _ _ (short-memory _ _ _ _ (c .if1 .taken))
+returns c = event-length _ _ _ (c .if1 .taken)
 
 -- src/lib.rt:49:9
 sound-requires : tie.Need-sound-requires
@@ -39,7 +39,7 @@ same-length-3 c = refl
 
 -- src/lib.rt:50:9
 returns-2 : tie.Need-returns-2
-returns-2 c = unfit _ _ _ _ _ (unsound _ _ _ _ (c .before .before .before .before .before .if1 .left) (sym (c .before .sound .ensures) ∙ not-true _ (c .if2 .taken)))
+returns-2 c = event-unsound _ _ _ (c .before .before .before .before .before .if1 .left) (sym (c .before .sound .ensures) ∙ not-true _ (c .if2 .taken))
 
 -- src/lib.rt:52:9
 decode-requires : tie.Need-decode-requires
@@ -72,7 +72,7 @@ same-length-7 c = search needs
 
 -- src/lib.rt:54:9
 returns-3 : tie.Need-returns-3
-returns-3 c = refused _ _ _ _ _ (both-fit _ _ _ _ (c .before .before .before .before .before .before .before .before .before .before .before .before .if1 .left) (sym (c .before .before .before .before .before .before .before .before .sound .ensures) ∙ not-false _ (c .before .before .before .before .before .before .before .if2 .left))) _ _ (refusal-size _ _ _ _ _ (c .before .before .refuse .ensures)) (λ d s S. frame-refused S _ _ _ _ _ (sym (c .before .before .before .before .before .before .decode .ensures)) (c .before .before .before .before .before .match .keys2) (c .before .before .refuse .ensures))
+returns-3 c = event-done _ _ _ (c .before .before .before .before .before .before .before .before .before .before .before .before .if1 .left) _ _ _ (sym (c .before .before .before .before .before .before .before .before .sound .ensures) ∙ not-false _ (c .before .before .before .before .before .before .before .if2 .left)) (λ d s S. let r = frame-refused S _ _ _ _ _ (sym (c .before .before .before .before .before .before .decode .ensures)) (c .before .before .before .before .before .match .keys2) (c .before .before .refuse .ensures) in (r .stays, r .told))
 
 -- src/lib.rt:56:9
 judge-requires : tie.Need-judge-requires
@@ -101,7 +101,7 @@ same-length-11 c = search needs
 
 -- src/lib.rt:58:9
 returns-4 : tie.Need-returns-4
-returns-4 c = refused _ _ _ _ _ (both-fit _ _ _ _ (c .before .before .before .before .before .before .before .before .before .before .before .before .before .before .before .before .if1 .left) (sym (c .before .before .before .before .before .before .before .before .before .before .before .before .sound .ensures) ∙ not-false _ (c .before .before .before .before .before .before .before .before .before .before .before .if2 .left))) _ _ (c .before .before .refuse-event .ensures .size) (λ d s S. event-refused S _ _ _ _ _ _ (sym (c .before .before .before .before .before .before .before .before .before .before .decode .ensures) ∙ c .before .before .before .before .before .before .before .before .said .given .1) (c .before .before .before .before .before .judge .ensures _ _ _ d s S) (c .before .before .before .before .if3 .taken) (c .before .before .refuse-event .ensures))
+returns-4 c = event-done _ _ _ (c .before .before .before .before .before .before .before .before .before .before .before .before .before .before .before .before .if1 .left) _ _ _ (sym (c .before .before .before .before .before .before .before .before .before .before .before .before .sound .ensures) ∙ not-false _ (c .before .before .before .before .before .before .before .before .before .before .before .if2 .left)) (λ d s S. let r = event-refused S _ _ _ _ _ _ (sym (c .before .before .before .before .before .before .before .before .before .before .decode .ensures) ∙ c .before .before .before .before .before .before .before .before .said .given .1) (c .before .before .before .before .before .judge .ensures _ _ _ d s S) (c .before .before .before .before .if3 .taken) (c .before .before .refuse-event .ensures) in (r .stays, r .told))
 
 -- src/lib.rt:60:5
 serve-requires : tie.Need-serve-requires
@@ -126,7 +126,7 @@ same-length-15 c = search needs
 
 -- src/lib.rt:43:1
 returns-5 : tie.Need-returns-5
-returns-5 c = done _ _ _ _ _ (both-fit _ _ _ _ (c .before .before .before .before .before .before .before .before .before .before .before .before .before .before .before .before .before .before .before .before .before .before .before .before .before .if1 .left) (sym (c .before .before .before .before .before .before .before .before .before .before .before .before .before .before .before .before .before .before .before .before .before .sound .ensures) ∙ not-false _ (c .before .before .before .before .before .before .before .before .before .before .before .before .before .before .before .before .before .before .before .before .if2 .left))) _ _ _ _ _ (λ d s S. not-refused _ _ _ d (sym (c .before .before .before .before .before .before .before .before .before .before .before .before .before .before .before .before .before .before .before .decode .ensures) ∙ c .before .before .before .before .before .before .before .before .before .before .before .before .before .before .before .before .before .said .given .1) (c .before .before .before .before .before .before .before .before .before .before .before .before .before .before .judge .ensures _ _ _ d s S) (c .before .before .before .before .before .before .before .before .before .before .before .before .before .if3 .left)) (c .before .before .before .before .before .before .before .before .serve .ensures)
+returns-5 c = event-done _ _ _ (c .before .before .before .before .before .before .before .before .before .before .before .before .before .before .before .before .before .before .before .before .before .before .before .before .before .if1 .left) _ _ _ (sym (c .before .before .before .before .before .before .before .before .before .before .before .before .before .before .before .before .before .before .before .before .before .sound .ensures) ∙ not-false _ (c .before .before .before .before .before .before .before .before .before .before .before .before .before .before .before .before .before .before .before .before .if2 .left)) (λ d s S. let r = (c .before .before .before .before .before .before .before .before .serve .ensures) d s S in (r .stays, r .told))
 
 pub event-spec : {M : Type 1} → statement M
 event-spec =

@@ -1,6 +1,6 @@
 use borrow.Author.Needs.{needs}
 use Rattle.memory.specs.Stands.{Bytes}
-use Rattle.loading.proofs.Done.{refused-bytes, refused-stays, judges-zero, done-asks, done-bytes, done-stays}
+use Rattle.loading.proofs.Done.{refused-load, judges-zero, done-asks, done-load}
 use Rattle.loading.proofs.load.Statement.{statement}
 use Rattle.loading.proofs.load.Tie as tie
 
@@ -17,9 +17,7 @@ same-length-3 : tie.Need-same-length-3
 same-length-3 c = search needs
 
 returns : tie.Need-returns
-returns c =
-    let j = c .before .judge-load .ensures in
-    (refused-bytes _ _ _ _ _ _ j (c .if1 .taken), refused-stays _ _ _ _ _ _ j (c .if1 .taken))
+returns c = refused-load _ _ _ _ _ _ (c .before .judge-load .ensures) (c .if1 .taken)
 
 lay-out-requires : tie.Need-lay-out-requires
 unfolding Bytes
@@ -41,8 +39,7 @@ unfolding Bytes
 returns-2 c =
     let j = judges-zero _ _ _ _ _ _ (c .before .before .before .before .before .before .before .before .before .before .if1 .left) (c .before .before .before .before .before .before .before .before .before .before .before .judge-load .ensures) in
     let h = c .before .before .before .before .before .before .lay-out .ensures in
-    let k = done-asks _ _ _ _ _ (λ i. c .before .before .before .before .before .before .before .before .before .before .before .before .before .before .before .before .before .before .slice-known .given i .fits) (λ i. c .before .before .before .before .before .before .before .before .before .before .before .before .before .before .before .before .before .slice-known2 .given i .fits) (λ i. c .before .before .before .before .before .before .before .before .before .before .before .before .before .before .before .before .slice-known3 .given i .fits) j in
-    (done-bytes _ _ _ _ _ j _ _ _ h k, done-stays _ _ _ _ _ j _ _ _ h (λ i. c .before .before .before .before .slice-known4 .given i .fits) (λ i. c .before .before .slice-known5 .given i .fits) (λ i. c .slice-known6 .given i .fits))
+    done-load _ _ _ _ _ j _ _ _ h (λ i. c .before .before .before .before .slice-known4 .given i .fits) (λ i. c .before .before .slice-known5 .given i .fits) (λ i. c .slice-known6 .given i .fits)
 
 pub load-spec : {M : Type 1} → statement M
 load-spec =

@@ -1,6 +1,6 @@
 use Rattle.memory.specs.Stands.{Bytes}
 use Rattle.sound.proofs.desk.Both.{sound-stands}
-use Rattle.saving.proofs.Saves.{save-unsound, save-unbuilt, save-stands, save-built}
+use Rattle.saving.proofs.Saves.{save-unsound, save-unbuilt, save-stands, save-built, saves}
 use borrow.Author.Tests.{not-true, not-false}
 use mathlib.Core.Path.{sym, _∙_}
 use native.Mathlib.Omega.{arith}
@@ -21,7 +21,7 @@ refused-requires : tie.Need-refused-requires
 refused-requires c κs = search needs
 
 returns : tie.Need-returns
-returns c = (rw (c .refused .ensures .0, c .refused .ensures .1) (save-unsound _ _ (sym (c .before .before .sound .ensures) ∙ not-true _ (c .before .if1 .taken))), omega (arith, c .refused .ensures .1))
+returns c = (saves _ _ _ _ (rw (c .refused .ensures .0, c .refused .ensures .1) (save-unsound _ _ (sym (c .before .before .sound .ensures) ∙ not-true _ (c .before .if1 .taken)))), omega (arith, c .refused .ensures .1))
 
 words-of-requires : tie.Need-words-of-requires
 unfolding Bytes
@@ -31,7 +31,7 @@ refused-requires-2 : tie.Need-refused-requires-2
 refused-requires-2 c κs = search needs
 
 returns-2 : tie.Need-returns-2
-returns-2 c = (rw (c .refused2 .ensures .0, c .refused2 .ensures .1) (save-unbuilt _ _ (sym (c .before .before .before .before .sound .ensures) ∙ not-false _ (c .before .before .before .if1 .left)) _ (c .before .before .words-of .ensures) (c .before .if2 .taken)), omega (arith, c .refused2 .ensures .1))
+returns-2 c = (saves _ _ _ _ (rw (c .refused2 .ensures .0, c .refused2 .ensures .1) (save-unbuilt _ _ (sym (c .before .before .before .before .sound .ensures) ∙ not-false _ (c .before .before .before .if1 .left)) _ (c .before .before .words-of .ensures) (c .before .if2 .taken))), omega (arith, c .refused2 .ensures .1))
 
 save-file-requires : tie.Need-save-file-requires
 unfolding Bytes
@@ -41,7 +41,7 @@ same-length : tie.Need-same-length
 same-length c = search needs
 
 returns-3 : tie.Need-returns-3
-returns-3 c = (save-built _ (c .before .before .before .before .before .before .before .before .before .before .before .before .args .output .now) (sym (c .before .before .before .before .before .before .before .sound .ensures) ∙ not-false _ (c .before .before .before .before .before .before .if1 .left)) _ (c .before .before .before .before .before .words-of .ensures) (c .before .before .before .before .if2 .left) _ _ _ (c .before .before .save-file .ensures .0), c .before .before .save-file .ensures .1)
+returns-3 c = (saves _ _ _ _ (save-built _ (c .before .before .before .before .before .before .before .before .before .before .before .before .args .output .now) (sym (c .before .before .before .before .before .before .before .sound .ensures) ∙ not-false _ (c .before .before .before .before .before .before .if1 .left)) _ (c .before .before .before .before .before .words-of .ensures) (c .before .before .before .before .if2 .left) _ _ _ (c .before .before .save-file .ensures .0)), c .before .before .save-file .ensures .1)
 
 pub save-spec : {M : Type 1} → statement M
 save-spec =

@@ -5,23 +5,18 @@ use Rattle.tendrilhook.proofs.tendrilhook_load.Reads as reads
 use Rattle.tendrilhook.proofs.tendrilhook_load.Lts as lts
 use Rattle.loading.proofs.load.Reads as load-reads
 
--- src/lib.rt:89:5
 load-requires : tie.Need-load-requires
 load-requires c κs = search needs
 
--- src/lib.rt:78:1
 same-length : tie.Need-same-length
 same-length c = search needs
 
--- src/lib.rt:78:1
 same-length-2 : tie.Need-same-length-2
 same-length-2 c = search needs
 
--- src/lib.rt:78:1
 same-length-3 : tie.Need-same-length-3
 same-length-3 c = search needs
 
--- src/lib.rt:78:1
 returns : tie.Need-returns
 returns c = c .before .before .before .before .before .before .load .ensures
 

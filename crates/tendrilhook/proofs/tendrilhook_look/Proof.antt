@@ -8,29 +8,23 @@ use Rattle.looking.proofs.look.Reads as look-reads
 use Rattle.looking.proofs.look_status.Reads as look-status-reads
 use Rattle.words.proofs.copy.Reads as copy-reads
 
--- src/lib.rt:52:9
 returns : tie.Need-returns
-returns c = other-length _ _ _ _ _ _ (c .if1 .taken)
+returns c = other-length _ _ _ _ (c .if1 .taken)
 
--- src/lib.rt:54:9
 look-requires : tie.Need-look-requires
 look-requires c κs = search needs
 
--- src/lib.rt:55:5
 copy-requires : tie.Need-copy-requires
 copy-requires c κs = search needs
 
--- src/lib.rt:57:5
 look-status-requires : tie.Need-look-status-requires
 look-status-requires c κs = search needs
 
--- src/lib.rt:38:1
 same-length : tie.Need-same-length
 same-length c = search needs
 
--- src/lib.rt:38:1
 returns-2 : tie.Need-returns-2
-returns-2 c = copied _ _ _ _ _ _ (c .before .before .before .before .before .before .if1 .left) _ (c .before .before .before .before .before .look .ensures .1 .0) _ (c .before .before .before .copy .ensures) _ (c .look-status .ensures)
+returns-2 c = copied _ _ _ _ (c .before .before .before .before .before .before .if1 .left) _ (c .before .before .before .before .before .look .ensures .1 .0) _ (c .before .before .before .copy .ensures) _ (c .look-status .ensures)
 
 pub tendrilhook-look-spec : {M : Type 1} → statement M
 tendrilhook-look-spec =

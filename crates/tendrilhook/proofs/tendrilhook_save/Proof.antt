@@ -5,15 +5,12 @@ use Rattle.tendrilhook.proofs.tendrilhook_save.Reads as reads
 use Rattle.tendrilhook.proofs.tendrilhook_save.Lts as lts
 use Rattle.saving.proofs.save.Reads as save-reads
 
--- src/lib.rt:72:9
 save-requires : tie.Need-save-requires
 save-requires c κs = search needs
 
--- src/lib.rt:61:1
 same-length : tie.Need-same-length
 same-length c = search needs
 
--- src/lib.rt:61:1
 returns : tie.Need-returns
 returns c = c .before .before .save .ensures .0
 

@@ -1,0 +1,34 @@
+-- What an event comes to on the way through the call.
+use Prim.Native.Nat.{ℕ, _≤_}
+use mathlib.Core.Path.{_≡_}
+use mathlib.Core.List.{List, []}
+use mathlib.Core.Logic.{_⊎_}
+use lib.ListN.{length}
+use lib.Seq.{sets}
+use Rattle.kinds.specs.declared.Answer.{Answer}
+use Rattle.rules.specs.Limits.{bufferBytes}
+use Rattle.rules.specs.Answers.{answerBytes}
+use Rattle.rules.specs.Reply.{Reply, answers, shows}
+use Rattle.rules.specs.Desk.{Desk, Call, respond}
+use Rattle.rules.specs.Allocation.{Alloc}
+use Rattle.midst.specs.Outcome.{Told, Stays}
+
+-- memories and answer are the rules'
+pub record Responds (d : Desk) (s : Alloc) (c : Call) (blocks buffers memory xs′ blocks′ buffers′ memory′ : List ℕ) (n : ℕ) : Type 0 where
+  pub stays : Stays d s c blocks buffers xs′ blocks′ buffers′
+  pub told : Told (respond d c .reply) memory memory′ n
+
+-- a call that is done, before its answer's own bytes are written: the data of a record stand where they will end
+pub record Acted (d : Desk) (s : Alloc) (c : Call) (blocks buffers memory xs′ blocks′ buffers′ memory′ : List ℕ) (a : Answer) (n : ℕ) : Type 0 where
+  pub stays : Stays d s c blocks buffers xs′ blocks′ buffers′
+  pub bytes : List ℕ
+  pub reply : respond d c .reply ≡ answers a bytes
+  pub size : n ≡ length bytes
+  pub most : n ≤ bufferBytes
+  pub behind : memory′ ≡ sets memory 4 bytes
+  pub four : (bytes ≡ []) ⊎ (length (answerBytes a) ≡ 4)
+
+-- the data behind an answer begin at byte 4
+unfoldable pub Four : Reply → Type 0
+Four (answers a bytes) = (bytes ≡ []) ⊎ (length (answerBytes a) ≡ 4)
+Four (shows st bytes) = Unit {0}

@@ -1,0 +1,53 @@
+-- A file that is not built behind a call was not built before it.
+use Prim.Native.Nat.{ℕ, _<_}
+use mathlib.Core.Path.{_≡_, refl, sym, ap, _∙_}
+use mathlib.Core.Bool.{Bool, true, false, true≢false}
+use mathlib.Core.List.{List}
+use lib.Dec.{ltb, eqb}
+use lib.ListN.{length}
+use borrow.Author.Tests.{lt-ltb, eqb-true}
+use Rattle.rules.specs.Limits.{files}
+use Rattle.rules.specs.State.{Built, File, unbuilt, built}
+use Rattle.rules.specs.Reply.{Out, done, leaves}
+use Rattle.rules.specs.Close.{timePasses}
+use Rattle.rules.specs.Calls.{Ask, ask}
+use Rattle.rules.specs.Desk.{Desk, Call, Asked, on, time, bad, asked, answered, respond, fileOf, fileTime}
+use Rattle.rules.proofs.Split.{by-cases, pick-true}
+use Rattle.laws.specs.Runs.{Own, call, Proper}
+use Rattle.laws.proofs.Proper.{ProperAsked, asked-proper}
+use Rattle.laws.proofs.Isolation.{ownFile, answered-named, answered-other, answered-time}
+use Rattle.midst.proofs.Stayed.{stays-built}
+
+is-built : File → Bool
+is-built unbuilt = false
+is-built (built b) = true
+
+pub not-both : (x : File) (b : Built) → x ≡ built b → x ≡ unbuilt → ⊥
+unfolding is-built
+not-both x b e u = true≢false (ap is-built (sym e ∙ u))
+
+asks-unbuilt : (x : File) (q : Ask) → Proper q → ask x q .file ≡ unbuilt → x ≡ unbuilt
+asks-unbuilt unbuilt q k h = refl
+asks-unbuilt (built b) q k h = unfold ask in absurd (not-both (ask (built b) q .file) _ (stays-built b q k .is) h)
+
+pub time-unbuilt : (e : ℕ) (x : File) → fileTime e x ≡ unbuilt → x ≡ unbuilt
+unfolding fileTime timePasses done leaves
+time-unbuilt e unbuilt h = refl
+time-unbuilt e (built b) h = absurd (not-both (fileTime e (built b)) _ refl h)
+
+was-unbuilt : (d : Desk) (a : Asked) → ProperAsked a → (f : ℕ) → f < files → length d ≡ files → fileOf (answered d a .desk) f ≡ unbuilt → fileOf d f ≡ unbuilt
+unfolding ProperAsked
+was-unbuilt d (on g q) k f h n u =
+    by-cases (eqb g f)
+    (λ e.
+    let z : g ≡ f = eqb-true g f e in
+    let w : fileOf (answered d (on f q) .desk) f ≡ unbuilt = ap (λ (x : ℕ). fileOf (answered d (on x q) .desk) f) (sym z) ∙ u in
+    let v : ownFile f (fileOf d f) (call q) ≡ ask (fileOf d f) q .file = unfold ownFile in pick-true _ _ _ (lt-ltb f files h) in
+    asks-unbuilt (fileOf d f) q k (sym v ∙ sym (answered-named d f q n .0) ∙ w))
+    (λ e. sym (answered-other d f g q e) ∙ u)
+was-unbuilt d (time e) k f h n u = time-unbuilt e (fileOf d f) (sym (answered-time d f e) ∙ u)
+was-unbuilt d bad k f h n u = unfold answered in u
+
+pub unbuilt-before : (d : Desk) (c : Call) (f : ℕ) → f < files → length d ≡ files → fileOf (respond d c .desk) f ≡ unbuilt → fileOf d f ≡ unbuilt
+unfolding respond
+unbuilt-before d c f h n u = was-unbuilt d (asked c) (asked-proper c) f h n u

@@ -1,0 +1,9 @@
+pub mod Holds
+pub mod Steps
+pub mod Condition2
+pub mod Refusal29
+pub mod Sheets
+pub mod OneFile
+pub mod Stays
+pub mod isolation
+pub mod Condition3

@@ -1,0 +1,3 @@
+pub mod Cases
+pub mod Asks
+pub mod Found

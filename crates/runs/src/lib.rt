@@ -1,0 +1,1 @@
+// No code: what the five calls come to over whole runs.

@@ -1,4 +1,0 @@
-pub mod Seen
-pub mod Parts
-pub mod Sheets
-pub mod Copies
