@@ -35,22 +35,24 @@ pub fn coverage_text(seed: u64, sessions: u64, n: u64) -> String {
     text
 }
 
-fn kind(call: &Call, status: u8) -> &'static str {
+/// What a call is, and of an event which.
+pub fn kind(call: &Call, status: u8) -> &'static str {
     match call {
         Call::Look(..) => "look",
         Call::Save(..) => "save",
         Call::Load(..) => "load",
         Call::Event(_) if status == NOT_A_FRAME => "frame",
-        Call::Event(frame) => match frame[0] {
-            1 => "build",
-            2 => "open",
-            3 => "read",
-            4 => "write",
-            5 => "control",
-            6 => "collect",
-            7 => "close",
-            8 => "time",
-            _ => "counts",
+        Call::Event(frame) => match frame.first() {
+            Some(1) => "build",
+            Some(2) => "open",
+            Some(3) => "read",
+            Some(4) => "write",
+            Some(5) => "control",
+            Some(6) => "collect",
+            Some(7) => "close",
+            Some(8) => "time",
+            Some(9) => "counts",
+            _ => "frame",
         },
     }
 }

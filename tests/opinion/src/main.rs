@@ -9,6 +9,7 @@
 //! desk.c, and has an emulator before it where the machine needs one (tools/check-host builds it).
 //!
 //!   opinion library SEED K N -- DESK    K sessions of N calls, and what goes with them, on both
+//!   opinion isolation SEED K N -- DESK  K files' own calls, N each, alone and among those of others
 //!   opinion library-run -- DESK         the event program on standard input, answered by the library
 //!   opinion library-replay -- DESK      the calls of a session on standard input, answered by the
 //!                                       library
@@ -28,8 +29,9 @@ use std::io::{Read, Write};
 
 const USAGE: &str = "opinion session SEED N | opinion replay | opinion run \
                      | opinion coverage SEED SESSIONS N \
-                     | opinion library SEED SESSIONS N -- DESK... | opinion library-run -- DESK... \
-                     | opinion library-replay -- DESK...";
+                     | opinion library SEED SESSIONS N -- DESK... \
+                     | opinion isolation SEED SEEDS N -- DESK... \
+                     | opinion library-run -- DESK... | opinion library-replay -- DESK...";
 
 fn main() {
     let arguments: Vec<String> = std::env::args().skip(1).collect();
@@ -44,6 +46,11 @@ fn main() {
         ["library", seed, sessions, n, "--", ref desk @ ..] => {
             let (seed, sessions, n) = (number(seed), number(sessions), number(n) as usize);
             let agree = library::compare_all(&library_of(desk), seed, sessions, n);
+            std::process::exit(if agree { 0 } else { 1 });
+        }
+        ["isolation", seed, seeds, n, "--", ref desk @ ..] => {
+            let (seed, seeds, n) = (number(seed), number(seeds), number(n) as usize);
+            let agree = library::isolation::compare_runs(&library_of(desk), seed, seeds, n);
             std::process::exit(if agree { 0 } else { 1 });
         }
         ["library-run", "--", ref desk @ ..] => {

@@ -90,6 +90,12 @@ impl Generator {
         self
     }
 
+    /// These files in play.
+    pub fn at_files(mut self, files: &[usize]) -> Generator {
+        self.files = files.iter().map(|file| *file as u8).collect();
+        self
+    }
+
     /// Remembers good sheets, to load them later.
     pub fn saw_sheet(&mut self, text: &[u8]) {
         if self.sheets.len() < 12 {

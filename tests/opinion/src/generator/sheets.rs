@@ -71,7 +71,7 @@ impl Generator {
     }
 
     /// A sheet that breaks, mostly, one of the sheet's rules.
-    pub(super) fn damaged_sheet(&mut self) -> Vec<u8> {
+    pub fn damaged_sheet(&mut self) -> Vec<u8> {
         let good = self.good_sheet();
         let (mut geometry, held) = match read_sheet(&good) {
             Some((geometry, records)) => (geometry, records.len()),

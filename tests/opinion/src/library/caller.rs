@@ -22,6 +22,11 @@ impl Caller {
         Caller { generator: self.generator.at_all_files(), random: self.random }
     }
 
+    /// These files in play.
+    pub fn at_files(self, files: &[usize]) -> Caller {
+        Caller { generator: self.generator.at_files(files), random: self.random }
+    }
+
     pub fn next(&mut self, desk: &Desk) -> Call {
         let random = &mut self.random;
         match next_call(desk, &mut self.generator) {
@@ -73,6 +78,10 @@ impl Caller {
 
     pub fn good_sheet(&mut self) -> Vec<u8> {
         self.generator.good_sheet()
+    }
+
+    pub fn damaged_sheet(&mut self) -> Vec<u8> {
+        self.generator.damaged_sheet()
     }
 }
 

@@ -60,9 +60,10 @@ impl Case {
     pub fn shrunk(mut self, library: &Library) -> Case {
         loop {
             let size = self.size();
-            self = shrink(self, library, |case| &mut case.calls);
-            self = shrink(self, library, |case| &mut case.changes);
-            self = shrink(self, library, |case| &mut case.before);
+            let fails = |case: Case| case.difference(library).is_some();
+            self.calls = shrink(&self.calls, |calls| fails(Case { calls, ..self.clone() }));
+            self.changes = shrink(&self.changes, |changes| fails(Case { changes, ..self.clone() }));
+            self.before = shrink(&self.before, |before| fails(Case { before, ..self.clone() }));
             if self.size() == size {
                 return self;
             }
@@ -105,25 +106,24 @@ pub fn apply(changes: &[Change], memories: &mut Memories) {
     }
 }
 
-/// Drops halves, quarters, ... and single items of one of a case's lists.
-fn shrink<T: Clone>(mut case: Case, library: &Library, list: fn(&mut Case) -> &mut Vec<T>) -> Case {
-    let mut run = list(&mut case).len();
+/// Drops halves, quarters, ... and single items of a list while what is left still fails.
+pub fn shrink<T: Clone>(items: &[T], fails: impl Fn(Vec<T>) -> bool) -> Vec<T> {
+    let mut items = items.to_vec();
+    let mut run = items.len();
     while run > 0 {
         let mut from = 0;
-        while from < list(&mut case).len() {
-            let mut smaller = case.clone();
-            let items = list(&mut smaller);
+        while from < items.len() {
             let end = (from + run).min(items.len());
-            items.drain(from..end);
-            if smaller.difference(library).is_some() {
-                case = smaller;
+            let smaller = [&items[..from], &items[end..]].concat();
+            if fails(smaller.clone()) {
+                items = smaller;
             } else {
                 from += run;
             }
         }
         run /= 2;
     }
-    case
+    items
 }
 
 /// A call as a session's line begins, so that it can be replayed, and in words.

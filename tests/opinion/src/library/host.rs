@@ -6,6 +6,9 @@ use crate::model::limits::{ANSWER_BYTES, BUFFER_BYTES};
 use crate::model::segment::Memories;
 use crate::outcome::Outcome;
 
+/// So many numbers stand for different bytes.
+const SHADES: usize = 251;
+
 pub struct Host<'a> {
     library: &'a Library,
     /// Hosts share the program, which holds the memories of one of them: what it holds is known by
@@ -51,9 +54,20 @@ impl<'a> Host<'a> {
         &self.memories
     }
 
+    /// Lends answer and record memories of these lengths from now on.
+    pub fn lend_lengths(&mut self, answer: usize, record: usize) {
+        self.answer_length = answer;
+        self.record_length = record;
+    }
+
     pub fn call(&mut self, call: &Call) -> Result<Outcome, Fault> {
+        self.call_over(call, self.calls + 1)
+    }
+
+    /// The number says which bytes lie beforehand in what the call writes to.
+    pub fn call_over(&mut self, call: &Call, number: usize) -> Result<Outcome, Fault> {
         self.calls += 1;
-        let shade = self.calls % 251 + 1;
+        let shade = number % SHADES + 1;
         let request = match call {
             Call::Event(frame) => {
                 Request::new(b'E').number(shade).number(self.answer_length).lent(frame, self.calls)

@@ -94,7 +94,7 @@ fn refused(
     Ok(calls.len() as u64 + 1)
 }
 
-fn other_length(right: usize, random: &mut Random) -> usize {
+pub fn other_length(right: usize, random: &mut Random) -> usize {
     match random.below(10) {
         0 => 0,
         1 => right - 1,

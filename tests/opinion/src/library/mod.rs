@@ -13,6 +13,7 @@ mod damage;
 mod frames;
 mod header;
 mod host;
+pub mod isolation;
 mod lengths;
 mod numbers;
 mod program;

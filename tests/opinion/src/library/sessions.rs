@@ -14,6 +14,7 @@ use crate::generator::Call;
 use crate::model::desk::Desk;
 use crate::model::status::DONE;
 use crate::outcome::{make_call, Outcome};
+use std::ops::Range;
 
 /// A session of so many calls, now and then a long one; the case, if one is answered otherwise.
 pub fn session(library: &Library, seed: u64, calls: usize, tally: &mut Tally) -> Result<(), Case> {
@@ -32,7 +33,7 @@ pub fn full_session(
 ) -> Result<(), Case> {
     let mut twin = Twin::fresh(library).map_err(|_| Case::default())?;
     let mut case = Case::default();
-    for frame in full_house(&mut Random::new(seed)) {
+    for frame in full_house(0..8, &mut Random::new(seed)) {
         send(Call::Event(frame), &mut case, &mut twin, tally)?;
     }
     let free = twin.model().map_or(0, |desk| desk.entries.free.len());
@@ -41,10 +42,10 @@ pub fn full_session(
     play(case, &mut twin, &Desk::fresh(), &mut caller, calls, tally)
 }
 
-/// Eight waiting readers or eight waiting writers a file, each with a timeout.
-fn full_house(random: &mut Random) -> Vec<Vec<u8>> {
+/// Eight waiting readers or eight waiting writers at each of these files, each with a timeout.
+pub fn full_house(files: Range<u8>, random: &mut Random) -> Vec<Vec<u8>> {
     let (mut frames, mut waits) = (Vec::new(), Vec::new());
-    for file in 0..8 {
+    for file in files {
         // Room for the records of eight opens and eight closes, and for no other.
         frames.push(build_frame(file, random.between(1, 4), 4, 14, 1));
         let writes = random.percent(50);

@@ -1,5 +1,6 @@
 //! How many calls were compared, and what was answered.
 
+use crate::coverage::kind;
 use crate::generator::Call;
 use crate::model::desk::Desk;
 use crate::model::loading::Unsound;
@@ -23,7 +24,16 @@ impl Tally {
             Call::Save(..) => "save",
             Call::Load(..) => "load",
         };
-        *self.calls.entry(kind).or_default().entry(outcome.status).or_insert(0) += 1;
+        self.count(kind, outcome.status);
+    }
+
+    /// The same, but each kind of event for itself.
+    pub fn operation(&mut self, call: &Call, outcome: &Outcome) {
+        self.count(kind(call, outcome.status), outcome.status);
+    }
+
+    fn count(&mut self, kind: &'static str, status: u8) {
+        *self.calls.entry(kind).or_default().entry(status).or_insert(0) += 1;
     }
 
     /// A memory that was changed, and why it is not sound, if it is not.

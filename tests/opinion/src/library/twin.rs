@@ -16,6 +16,14 @@ use crate::session::hex;
 /// How the two differ.
 pub type Difference = String;
 
+/// The words of an entry, of a file's row and of a place's, as docs/SEGMENT.md names them.
+pub const ENTRY_NAMES: [&str; ENTRY_WORDS] =
+    ["link", "place", "unit", "limit", "keep", "status", "log", "size", "seconds", "word 9"];
+pub const FILE_NAMES: [&str; ROW_WORDS] =
+    ["R", "B", "D", "block", "spent", "held", "word 6", "word 7"];
+pub const PLACE_NAMES: [&str; ROW_WORDS] =
+    ["side", "ID", "share", "timeout", "extended", "typed", "keep", "first"];
+
 pub struct Twin<'a> {
     host: Host<'a>,
     model: Result<Desk, Unsound>,
@@ -131,29 +139,24 @@ fn compare(
 /// Where a byte of the segment lies, in the words of docs/SEGMENT.md.
 fn segment_place(at: usize) -> String {
     let word = at / 2;
-    let named = |names: [&'static str; 8], from: usize| names[(word - from) % ROW_WORDS];
+    let named = |names: [&'static str; ROW_WORDS], from: usize| names[(word - from) % ROW_WORDS];
     let what = if word < LISTS {
         format!("head of list {word}")
     } else if word < file_row(0) {
-        let names = [
-            "link", "place", "unit", "limit", "keep", "status", "log", "size", "seconds", "word 9",
-        ];
         let (entry, part) = ((word - LISTS) / ENTRY_WORDS, (word - LISTS) % ENTRY_WORDS);
-        format!("entry {entry}, {}", names[part])
+        format!("entry {entry}, {}", ENTRY_NAMES[part])
     } else if word < place_row(0) {
-        let names = ["R", "B", "D", "block", "spent", "held", "word 6", "word 7"];
         let file = (word - file_row(0)) / ROW_WORDS;
-        format!("row of file {file}, {}", named(names, file_row(0)))
+        format!("row of file {file}, {}", named(FILE_NAMES, file_row(0)))
     } else {
-        let names = ["side", "ID", "share", "timeout", "extended", "typed", "keep", "first"];
         let place = (word - place_row(0)) / ROW_WORDS;
-        format!("row of place {place}, {}", named(names, place_row(0)))
+        format!("row of place {place}, {}", named(PLACE_NAMES, place_row(0)))
     };
     format!("segment, byte {at}: {what}")
 }
 
 /// The answer's digits; of other calls the status and what goes with it.
-fn outcome_text(call: &Call, outcome: &Outcome) -> String {
+pub fn outcome_text(call: &Call, outcome: &Outcome) -> String {
     let Outcome { status, bytes } = outcome;
     match call {
         Call::Event(_) if bytes.is_empty() => "no answer (29)".to_string(),

@@ -1,6 +1,7 @@
 //! Cases worked out by hand from document 01, random sessions with every check on, and that the
 //! comparison with the library sees a difference.
 
+mod isolation;
 mod library;
 mod memories;
 mod reading;
