@@ -8,6 +8,7 @@ use crate::layout::Span;
 use crate::layout::TYPE;
 use crate::layout::USED;
 use crate::layout::block_span;
+use crate::quick::whole;
 use crate::reading::next;
 use crate::ring::Ring;
 use crate::ring::wrapped;
@@ -66,6 +67,11 @@ fn walk(share: &[u8], words: u16, e: usize, end: usize, at: usize, n: u16) -> bo
     let mut p = at;
     let mut left = n;
     while left > 0 {
+        if whole(share, words, e, p) {
+            p += RECORD_HEAD + 2 * words as usize;
+            left -= 1;
+            continue;
+        }
         if !fair(share, words, e, p) {
             return false;
         }

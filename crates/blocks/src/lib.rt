@@ -2,6 +2,7 @@
 pub mod check;
 mod layout;
 pub mod memory;
+mod quick;
 pub mod reading;
 pub mod ring;
 pub mod writing;

@@ -3,3 +3,4 @@ pub mod Walks
 pub mod Survey
 pub mod Parts
 pub mod Sound
+pub mod quick

@@ -2,6 +2,7 @@
 use crate::READER;
 use crate::WAITING;
 use crate::WRITER;
+use crate::quick::bytes::bare;
 use crate::rows::file_word;
 use crate::rows::place_word;
 use crate::rows::zero_words;
@@ -24,10 +25,8 @@ const MOST_READ_BYTES: u16 = 260;
 // A completed request's status is below the numbers of refusals.
 const LEAST_REFUSAL: u16 = 29;
 
-// The words of an entry's data, and how many of them are zero: of a read behind its keep, of a write between its unit and its size,
+// How many words of an entry's data are zero: of a read behind its keep, of a write between its unit and its size,
 // of a completed request before its status, and behind the size of both, and of a timer between its place and its seconds.
-const DATA_WORDS: usize = 9;
-
 const READ_REST: usize = 5;
 
 const WRITE_MIDDLE: usize = 4;
@@ -55,8 +54,7 @@ pub fn free_entry(s: &[u8], e: usize) -> bool
     requires { ⌜ (length (now s) ≡ segmentBytes) × (e < entries) ⌝ }
     ensures { λ r. ⌜ r ≡ freeEntry (now (s .entry)) e ⌝ }
 {
-    let at = layout::DATA + layout::ENTRY_WORDS * e;
-    zero_words(s, at, DATA_WORDS)
+    bare(s, layout::DATA + layout::ENTRY_WORDS * e)
 }
 
 // Whether entry e belongs to an accessor of file f on that side, which has nothing outstanding yet.

@@ -1,4 +1,5 @@
 // The files: their rows, those of their places, their room, and the records in their shares.
+use crate::quick::room::ample;
 use crate::rows::file_word;
 use crate::rows::good_geometry;
 use crate::rows::places_ok;
@@ -54,9 +55,12 @@ fn room_ok(s: &[u8], f: usize) -> bool
     let factor = file_word(s, f, layout::FILE_FACTOR) as u32;
     let blocks = file_word(s, f, layout::FILE_BLOCKS) as u32;
     let most = factor * blocks;
-    let writers = writers_at(s, PLACES * f, PLACES) as u32;
     let spent = file_word(s, f, layout::FILE_SPENT) as u32;
     let held = file_word(s, f, layout::FILE_HELD) as u32;
+    if ample(spent + held, most) {
+        return true;
+    }
+    let writers = writers_at(s, PLACES * f, PLACES) as u32;
     if spent + held + writers > most {
         return false;
     }

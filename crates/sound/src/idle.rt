@@ -1,5 +1,6 @@
 // The buffers that no request uses. Nothing is asked of those of a file that is not built.
 use crate::entries::rest_zero;
+use crate::quick;
 use crate::rows::file_word;
 use kinds::limits::FILES;
 use kinds::limits::PLACES;
@@ -27,7 +28,7 @@ fn place_idle(buffers: &[u8], busy: &[u8; 64], i: usize) -> bool
 }
 
 // Those of the n places from place i on.
-fn places_idle(buffers: &[u8], busy: &[u8; 64], i: usize, n: usize) -> bool
+pub fn places_idle(buffers: &[u8], busy: &[u8; 64], i: usize, n: usize) -> bool
     requires { ⌜ (length (now buffers) ≡ places * bufferBytes * files) × (i + n ≤ files * places) ⌝ }
     ensures { λ r. ⌜ r ≡ idleZero (now (buffers .entry)) (now (busy .entry)) i n ⌝ }
 {
@@ -50,7 +51,7 @@ fn file_idle(s: &[u8], buffers: &[u8], busy: &[u8; 64], f: usize) -> bool
     if file_word(s, f, layout::FILE_WORDS) < 1 {
         return true;
     }
-    places_idle(buffers, busy, PLACES * f, PLACES)
+    quick::idle::places_idle(buffers, busy, PLACES * f, PLACES)
 }
 
 pub fn files_idle(s: &[u8], buffers: &[u8], busy: &[u8; 64]) -> bool

@@ -3,6 +3,7 @@
 mod entries;
 mod files;
 mod idle;
+mod quick;
 mod rows;
 mod walks;
 

@@ -1,6 +1,7 @@
 // The rows of the segment: those of a file, built or not, and of its places. A place's rows stand behind all the files'.
 use crate::READER;
 use crate::WRITER;
+use crate::quick;
 use kinds::limits::FILES;
 use kinds::limits::LEAST_CAPACITY;
 use kinds::limits::MOST_FACTOR;
@@ -16,21 +17,12 @@ ghost use Rattle.rules.specs.Limits.{files, places};
 ghost use Rattle.segment.specs.Layout.{rowWords, segmentWords, segmentBytes};
 ghost use Rattle.sound.specs.Rows.{fileWord, placeWord, zeroWords, goodGeo, goodPlace, placeOk, placesOk, writersAt, unbuiltOk};
 
-// Whether n words from word k on are zero.
+// Whether n words from word k on are zero, which is whether their bytes are (`zero-bytes`, proofs/Bytes.antt).
 pub fn zero_words(s: &[u8], k: usize, n: usize) -> bool
     requires { ⌜ (length (now s) ≡ segmentBytes) × (k + n ≤ segmentWords) ⌝ }
     ensures { λ r. ⌜ r ≡ zeroWords (now (s .entry)) k n ⌝ }
 {
-    let mut p = k;
-    let mut left = n;
-    while left > 0 {
-        if segment::get(s, p) != 0 {
-            return false;
-        }
-        p += 1;
-        left -= 1;
-    }
-    true
+    words::quiet(s, 2 * k, 2 * n)
 }
 
 // Word j of file f's row, and of place i's.
@@ -72,7 +64,7 @@ pub fn good_geometry(words: u16, factor: u16, blocks: u16) -> bool
 }
 
 // A reader's ID is 0, a writer's is 1 at least.
-fn good_side(side: u16, id: u16) -> bool
+pub fn good_side(side: u16, id: u16) -> bool
     ensures { λ r. ⌜ r ≡ (eqb side 1 && eqb id 0 || eqb side 2 && leb 1 id) ⌝ }
 {
     if side == READER {
@@ -105,7 +97,7 @@ fn good_place(s: &[u8], i: usize) -> bool
     place_word(s, i, layout::PLACE_FIRST) <= 1
 }
 
-fn place_ok(s: &[u8], i: usize) -> bool
+pub fn place_ok(s: &[u8], i: usize) -> bool
     requires { ⌜ (length (now s) ≡ segmentBytes) × (i < files * places) ⌝ }
     ensures { λ r. ⌜ r ≡ placeOk (now (s .entry)) i ⌝ }
 {
@@ -124,7 +116,7 @@ pub fn places_ok(s: &[u8], i: usize, n: usize) -> bool
     let mut p = i;
     let mut left = n;
     while left > 0 {
-        if !place_ok(s, p) {
+        if !quick::rows::place_ok(s, p) {
             return false;
         }
         p += 1;

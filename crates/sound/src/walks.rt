@@ -10,6 +10,8 @@ use crate::entries::free_entry;
 use crate::entries::port_entry;
 use crate::entries::queue_entry;
 use crate::entries::timer_entry;
+use crate::quick;
+use crate::quick::order::in_order;
 use kinds::limits::FILES;
 use kinds::limits::PLACES;
 use segment::layout;
@@ -27,19 +29,32 @@ const TURNS: usize = 129;
 
 const ENTRY_COUNT: usize = 128;
 
-// The marks on places stay as they are.
+// A byte as a number.
+fn number(x: u8) -> usize
+    ensures { λ r. ⌜ (r ≡ x) × (r < 256) ⌝ }
+{
+    x as usize
+}
+
+// The marks on places stay as they are. An entry's number is one byte, and entries in order are passed at once.
 fn free_walk(s: &[u8], head: usize, seen: &mut [u8; 128]) -> bool
     requires { ⌜ (length (now s) ≡ segmentBytes) × (head < 1362) ⌝ }
     ensures { λ r. ⌜ ((busy : List ℕ) → walked r (now (seen .exit)) busy ≡ freeWalk (now (s .entry)) head (now (seen .entry)) busy (entries + 1)) ⌝ }
 {
     let mut p = head;
     let mut left = TURNS;
+    let mut e = ENTRY_COUNT;
     while left > 0 {
-        let v = segment::get(s, p);
-        if layout::ENTRIES <= v {
-            return v == layout::NIL;
+        if s[2 * p] != 0 {
+            return segment::get(s, p) == layout::NIL;
         }
-        let e = v as usize;
+        let v = number(s[2 * p + 1]);
+        if v >= ENTRY_COUNT {
+            return false;
+        }
+        left -= 1;
+        e = in_order(s, e, v, left, seen);
+        left -= e - v;
         if seen[e] != 0 {
             return false;
         }
@@ -48,7 +63,6 @@ fn free_walk(s: &[u8], head: usize, seen: &mut [u8; 128]) -> bool
         }
         seen[e] = MET;
         p = layout::LINKS + layout::ENTRY_WORDS * e;
-        left -= 1;
     }
     false
 }
@@ -156,7 +170,7 @@ fn queue_head(side: u16, f: usize) -> usize
 }
 
 // The queues of all files on that side.
-fn queue_walks(
+pub fn queue_walks(
     s: &[u8],
     buffers: &[u8],
     side: u16,
@@ -178,7 +192,7 @@ fn queue_walks(
 }
 
 // The ports of all places.
-fn port_walks(s: &[u8], buffers: &[u8], seen: &mut [u8; 128], busy: &mut [u8; 64]) -> bool
+pub fn port_walks(s: &[u8], buffers: &[u8], seen: &mut [u8; 128], busy: &mut [u8; 64]) -> bool
     requires { ⌜ (length (now s) ≡ segmentBytes) × (length (now buffers) ≡ places * bufferBytes * files) ⌝ }
     ensures { λ r. ⌜ walked r (now (seen .exit)) (now (busy .exit)) ≡ portWalks (now (s .entry)) (now (buffers .entry)) 0 (now (seen .entry)) (now (busy .entry)) (files * places) ⌝ }
 {
@@ -201,28 +215,27 @@ pub fn all_walks(s: &[u8], buffers: &[u8], seen: &mut [u8; 128], busy: &mut [u8;
     if !free_walk(s, layout::FREE_LIST, seen) {
         return false;
     }
-    if !queue_walks(s, buffers, READER, seen, busy) {
+    if !quick::heads::queue_walks(s, buffers, READER, seen, busy) {
         return false;
     }
-    if !queue_walks(s, buffers, WRITER, seen, busy) {
+    if !quick::heads::queue_walks(s, buffers, WRITER, seen, busy) {
         return false;
     }
-    if !port_walks(s, buffers, seen, busy) {
+    if !quick::heads::port_walks(s, buffers, seen, busy) {
         return false;
     }
     timer_walk(s, layout::TIMER_LIST, seen, busy)
 }
 
-// Whether every entry was met.
+// Whether every entry was met: one `or` of what differs, with no way out of the loop, as in `words::quiet`.
 pub fn all_met(seen: &[u8; 128]) -> bool
     ensures { λ r. ⌜ r ≡ allMet (now (seen .entry)) entries ⌝ }
 {
     let mut n = ENTRY_COUNT;
+    let mut all: u8 = 0;
     while n > 0 {
         n -= 1;
-        if seen[n] != MET {
-            return false;
-        }
+        all = all | (seen[n] ^ MET);
     }
-    true
+    all == 0
 }

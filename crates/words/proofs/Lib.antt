@@ -1,3 +1,4 @@
+pub mod Ors
 pub mod Runs
 pub mod Stands
 pub mod Zeros

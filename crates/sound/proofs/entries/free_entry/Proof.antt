@@ -4,24 +4,20 @@ use Rattle.sound.proofs.entries.free_entry.Statement.{statement}
 use Rattle.sound.proofs.entries.free_entry.Tie as tie
 use Rattle.sound.proofs.entries.free_entry.Reads as reads
 use Rattle.sound.proofs.entries.free_entry.Lts as lts
-use Rattle.sound.proofs.rows.zero_words.Reads as zero-words-reads
+use Rattle.sound.proofs.quick.bytes.bare.Reads as bare-reads
 
--- src/entries.rt:56:29
-mul-at : tie.Need-mul-at
-mul-at c = search needs
+mul-bare : tie.Need-mul-bare
+mul-bare c = search needs
 
--- src/entries.rt:56:14
-add-at : tie.Need-add-at
-add-at c = search needs
+add-bare : tie.Need-add-bare
+add-bare c = search needs
 
--- src/entries.rt:57:5
-zero-words-requires : tie.Need-zero-words-requires
-zero-words-requires c κs = search needs
+bare-requires : tie.Need-bare-requires
+bare-requires c κs = search needs
 
--- src/entries.rt:52:1
 returns : tie.Need-returns
 unfolding freeEntry
-returns c = c .zero-words .ensures
+returns c = c .bare .ensures
 
 pub free-entry-spec : {M : Type 1} → statement M
-free-entry-spec = tie.close (tie.spec mul-at add-at zero-words-requires returns)
+free-entry-spec = tie.close (tie.spec mul-bare add-bare bare-requires returns)

@@ -5,7 +5,7 @@ use Rattle.sound.proofs.idle.file_idle.Statement.{statement}
 use Rattle.sound.proofs.idle.file_idle.Tie as tie
 use Rattle.sound.proofs.idle.file_idle.Reads as reads
 use Rattle.sound.proofs.idle.file_idle.Lts as lts
-use Rattle.sound.proofs.idle.places_idle.Reads as places-idle-reads
+use Rattle.sound.proofs.quick.idle.places_idle.Reads as places-idle-reads
 use Rattle.sound.proofs.rows.file_word.Reads as file-word-reads
 
 -- src/idle.rt:50:8

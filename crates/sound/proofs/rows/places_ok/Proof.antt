@@ -8,7 +8,7 @@ use Rattle.sound.proofs.rows.places_ok.Statement.{statement}
 use Rattle.sound.proofs.rows.places_ok.Tie as tie
 use Rattle.sound.proofs.rows.places_ok.Reads as reads
 use Rattle.sound.proofs.rows.places_ok.Lts as lts
-use Rattle.sound.proofs.rows.place_ok.Reads as place-ok-reads
+use Rattle.sound.proofs.quick.rows.place_ok.Reads as place-ok-reads
 
 abbrev Inv-loop : tie.InvT-loop
 Inv-loop s i n p₀ left₀ p left = (placesOk s i n ≡ placesOk s p left) × (p + left ≡ i + n)

@@ -7,8 +7,8 @@ use Rattle.sound.proofs.walks.all_walks.Tie as tie
 use Rattle.sound.proofs.walks.all_walks.Reads as reads
 use Rattle.sound.proofs.walks.all_walks.Lts as lts
 use Rattle.sound.proofs.walks.free_walk.Reads as free-walk-reads
-use Rattle.sound.proofs.walks.port_walks.Reads as port-walks-reads
-use Rattle.sound.proofs.walks.queue_walks.Reads as queue-walks-reads
+use Rattle.sound.proofs.quick.heads.port_walks.Reads as port-walks-reads
+use Rattle.sound.proofs.quick.heads.queue_walks.Reads as queue-walks-reads
 use Rattle.sound.proofs.walks.timer_walk.Reads as timer-walk-reads
 
 -- src/walks.rt:183:9

@@ -1,0 +1,125 @@
+#include "desk.h"
+
+#include <stdio.h>
+#include <stdlib.h>
+#include <string.h>
+
+uint8_t segment[TENDRILHOOK_SEGMENT_BYTES], blocks[TENDRILHOOK_BLOCKS_BYTES], buffers[TENDRILHOOK_BUFFERS_BYTES];
+uint8_t answer[TENDRILHOOK_ANSWER_BYTES];
+
+const char *const state_names[STATES] = { "one file", "crowded", "holding", "full" };
+
+enum { BUILD = 1, OPEN, READ, WRITE, CONTROL, DONE = 0, WAITING = 1, TIMEOUT = 4, ABORT = 43, READS = 0, APPENDS = 3, SHARED = 3 };
+
+size_t ask(const uint8_t *frame, size_t length)
+{
+    return tendrilhook_event(segment, sizeof segment, blocks, sizeof blocks, buffers, sizeof buffers, answer, sizeof answer, frame, length);
+}
+
+/* An event that must be answered with this status. */
+static void must(uint8_t status, const uint8_t *frame, size_t length)
+{
+    if (ask(frame, length) < 2 || answer[1] != status) {
+        fprintf(stderr, "bench: operation %d of file %d is answered %d, not %d\n", frame[0], frame[1], answer[1], status);
+        exit(1);
+    }
+}
+
+static void build(uint8_t file, uint8_t words, uint8_t factor, uint8_t records)
+{
+    const uint8_t frame[] = { BUILD, file, 0, words, factor, 0, records, 1 };
+    must(DONE, frame, sizeof frame);
+}
+
+static void open_place(uint8_t file, uint8_t access)
+{
+    const uint8_t frame[] = { OPEN, file, access, SHARED, 0 };
+    must(DONE, frame, sizeof frame);
+}
+
+static void control(uint8_t file, uint8_t place, uint8_t code, uint8_t parameter)
+{
+    const uint8_t frame[] = { CONTROL, file, place, code, 0, parameter };
+    must(DONE, frame, sizeof frame);
+}
+
+static void write_words(uint8_t file, uint8_t place, uint8_t status, uint8_t words)
+{
+    uint8_t frame[5 + 256] = { WRITE, file, place, 0, words };
+    memset(frame + 5, 0x5A, sizeof frame - 5);
+    must(status, frame, 5 + 2u * words);
+}
+
+static void read_words(uint8_t file, uint8_t place, uint8_t status, uint8_t words)
+{
+    const uint8_t frame[] = { READ, file, place, 0, words };
+    must(status, frame, sizeof frame);
+}
+
+/* The other seven files, of records of 16 bytes: each with so many readers, and writers at the rest of its places. */
+static void open_all(uint8_t readers)
+{
+    for (uint8_t file = 1; file < 8; file++) {
+        build(file, 8, 16, 172);
+        for (int n = 0; n < 8; n++) open_place(file, n < readers ? READS : APPENDS);
+    }
+}
+
+/* Their reads wait with timeouts, and are aborted in another order. */
+static void shuffle(void)
+{
+    static const uint8_t order[] = { 2, 0, 3, 1 };
+    for (uint8_t place = 0; place < 4; place++)
+        for (uint8_t file = 1; file < 8; file++) {
+            control(file, place, TIMEOUT, (uint8_t)(10 + place));
+            read_words(file, place, WAITING, 8);
+        }
+    for (int n = 0; n < 4; n++)
+        for (uint8_t file = 7; file > 0; file--) control(file, order[n], ABORT, 0);
+}
+
+static void hold(int records)
+{
+    for (uint8_t file = 1; file < 8; file++)
+        for (int n = 0; n < records; n++) write_words(file, 7, DONE, 8);
+}
+
+/* Writes until no more fits; then each writer waits with a timeout. */
+static void fill(void)
+{
+    for (uint8_t file = 1; file < 8; file++)
+        for (uint8_t place = 1; place < 8; place++) {
+            control(file, place, TIMEOUT, (uint8_t)(100 + file));
+            do {
+                uint8_t frame[5 + 16] = { WRITE, file, place, 0, 8 };
+                if (ask(frame, sizeof frame) < 2) exit(1);
+            } while (answer[1] != WAITING);
+        }
+}
+
+void bring(enum state state)
+{
+    tendrilhook_fresh(segment, sizeof segment, blocks, sizeof blocks, buffers, sizeof buffers);
+    if (state != ONE_FILE) open_all(state == FULL ? 1 : 4);
+    if (state == CROWDED || state == HOLDING) shuffle();
+    if (state == HOLDING) hold(11);
+    if (state == FULL) fill();
+    build(0, 128, 1, 13);
+    open_place(0, APPENDS);
+    open_place(0, READS);
+    /* its first read takes the open record's place at the head */
+    pair(8);
+}
+
+void pair(unsigned size)
+{
+    static uint8_t written[5 + 256] = { WRITE, 0, 0 };
+    const unsigned count = 0x10000u - size;
+    const uint8_t read[] = { READ, 0, 1, (uint8_t)(count >> 8), (uint8_t)count };
+    written[3] = read[3];
+    written[4] = read[4];
+    if (ask(written, 5 + size) != 4 || answer[1] != DONE || ask(read, sizeof read) != 4 + size || answer[1] != DONE) {
+        fprintf(stderr, "bench: a pair of %u bytes is not done\n", size);
+        exit(1);
+    }
+}

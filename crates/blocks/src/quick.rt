@@ -1,0 +1,32 @@
+// The quick way over records of the full size, of which a file in steady use has most. Where such a record ends follows from the geometry, so the next one is
+// read before this one's head has come, where `next` waits for it. `whole-fair` (proofs/quick/Laws.antt): the plain test takes the record, and goes on there.
+use crate::layout::DATA;
+use crate::layout::FOLLOW;
+use crate::layout::ID;
+use crate::layout::RECORD_HEAD;
+use crate::layout::TYPE;
+ghost use mathlib.Core.Path.{_≡_};
+ghost use mathlib.Core.Bool.{true};
+ghost use Prim.Native.Nat.{_+_, _*_, _≤_};
+ghost use lib.ListN.{length};
+ghost use Rattle.rules.specs.Limits.{mostWords, shareBytes};
+ghost use Rattle.shares.specs.Back.{next};
+ghost use Rattle.shares.specs.Laid.{fair};
+
+// A word before another, as one number.
+const WORD: u32 = 65536;
+
+// Whether a data record of the full size stands at p, whole before e.
+pub fn whole(share: &[u8], words: u16, e: usize, p: usize) -> bool
+    requires { ⌜ (length (now share) ≡ shareBytes) × (e ≤ shareBytes) × (p ≤ shareBytes) × (words ≤ mostWords) ⌝ }
+    ensures { λ r. ⌜ (r ≡ true → (fair words (now (share .entry)) e p ≡ true) × (next (now (share .entry)) p ≡ p + (6 + 2 * words)) × (p + (6 + 2 * words) ≤ e)) ⌝ }
+{
+    if p + (RECORD_HEAD + 2 * words as usize) > e {
+        return false;
+    }
+    let head = words::get(share, p) as u32 * WORD + words::get(share, p + TYPE) as u32;
+    if head != (FOLLOW + 2 * words) as u32 * WORD + DATA as u32 {
+        return false;
+    }
+    1 <= words::get(share, p + ID)
+}

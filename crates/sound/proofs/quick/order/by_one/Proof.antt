@@ -1,0 +1,66 @@
+use mathlib.Core.Path.{refl, _∙_}
+use native.Mathlib.Omega.{arith}
+use Rattle.sound.proofs.quick.Onward.{stays, onto, fewer}
+use borrow.Author.Needs.{needs}
+use Rattle.sound.proofs.quick.order.by_one.Statement.{statement}
+use Rattle.sound.proofs.quick.order.by_one.Tie as tie
+use Rattle.sound.proofs.quick.order.by_one.Reads as reads
+use Rattle.sound.proofs.quick.order.by_one.Lts as lts
+use Rattle.sound.proofs.quick.order.linked.Reads as linked-reads
+
+returns : tie.Need-returns
+returns c = (omega arith, omega arith, omega arith, λ b. stays _ _ b _ _)
+
+returns-2 : tie.Need-returns-2
+returns-2 c = (omega arith, omega arith, omega arith, λ b. stays _ _ b _ _)
+
+element-copy-out-if3 : tie.Need-element-copy-out-if3
+element-copy-out-if3 c = search needs
+
+returns-3 : tie.Need-returns-3
+returns-3 c = (omega arith, omega arith, omega arith, λ b. stays _ _ b _ _)
+
+mul-linked : tie.Need-mul-linked
+mul-linked c = search needs
+
+add-linked : tie.Need-add-linked
+add-linked c = search needs
+
+mul-linked-2 : tie.Need-mul-linked-2
+mul-linked-2 c = search needs
+
+add-linked-2 : tie.Need-add-linked-2
+add-linked-2 c = search needs
+
+linked-requires : tie.Need-linked-requires
+linked-requires c κs = search needs
+
+returns-4 : tie.Need-returns-4
+returns-4 c = (omega arith, omega arith, omega arith, λ b. stays _ _ b _ _)
+
+element-write-seen : tie.Need-element-write-seen
+element-write-seen c = search needs
+
+add-result : tie.Need-add-result
+add-result c = search needs
+
+returns-5 : tie.Need-returns-5
+returns-5 c = (omega arith, omega arith, omega arith, λ b. onto _ _ b _ _ _ _ refl refl (c .before .linked .ensures (c .if4 .left)) (c .before .before .if3 .left) (omega arith) (omega arith) ∙ fewer _ _ b _ _ _ (omega arith))
+
+pub by-one-spec : {M : Type 1} → statement M
+by-one-spec =
+    tie.close
+    (tie.spec
+    returns
+    returns-2
+    element-copy-out-if3
+    returns-3
+    mul-linked
+    add-linked
+    mul-linked-2
+    add-linked-2
+    linked-requires
+    returns-4
+    element-write-seen
+    add-result
+    returns-5)

@@ -1,0 +1,26 @@
+-- The free list from an entry on, and an entry's bytes where its link is the next number.
+use Prim.Native.Nat.{ℕ, _+_, _*_}
+use mathlib.Core.Path.{_≡_}
+use mathlib.Core.Bool.{true, false, _&&_}
+use mathlib.Core.List.{List}
+use lib.Dec.{eqb}
+use lib.ListN.{getD, set}
+use Rattle.segment.specs.Layout.{linkAt, dataWords}
+use Rattle.words.specs.Word.{quiet}
+use Rattle.sound.specs.Walks.{Walked, walked, freeEntry, freeWalk}
+
+-- the word n, below 256, stands at p, and behind it m bytes that are zero
+unfoldable pub Led : List ℕ → ℕ → ℕ → ℕ → Type 0
+Led s p n m = (getD s p 0 ≡ 0) × (getD s (p + 1) 0 ≡ n) × (quiet s (p + 2) m ≡ true)
+
+-- an entry's bytes, its link's among them
+abbrev pub entryBytes : ℕ
+entryBytes = 2 + 2 * dataWords
+
+-- the entry whose bytes begin at `at` is free and linked to n
+abbrev pub Linked : List ℕ → ℕ → ℕ → Type 0
+Linked s at n = Led s at n (2 * dataWords)
+
+-- the walk where a slot holds e
+unfoldable pub freeFrom : List ℕ → ℕ → List ℕ → List ℕ → ℕ → Walked
+freeFrom s e seen busy n = elim (eqb (getD seen e 0) 0 && freeEntry s e) [ false ↦ walked false seen busy | true ↦ freeWalk s (linkAt e) (set seen e 1) busy n ]

@@ -1,0 +1,80 @@
+// Lists that are all empty: where all their heads are nil, all bytes of them are 255, one `or` for all and no walk. `queues-none` and `ports-none`
+// (proofs/quick/Nils.antt): the plain walks then meet nothing.
+use crate::READER;
+use crate::walks;
+use kinds::limits::FILES;
+use kinds::limits::PLACES;
+use segment::layout;
+ghost use mathlib.Core.Path.{_≡_};
+ghost use mathlib.Core.Bool.{true};
+ghost use mathlib.Core.List.{List};
+ghost use Prim.Native.Nat.{ℕ, _+_, _*_, _≤_};
+ghost use lib.ListN.{length};
+ghost use Rattle.rules.specs.Limits.{files, places, bufferBytes};
+ghost use Rattle.segment.specs.Layout.{segmentBytes};
+ghost use Rattle.sound.specs.quick.Ones.{ones};
+ghost use Rattle.sound.specs.Walks.{walked, queueWalks, portWalks};
+
+// Each byte of nil.
+const NIL_BYTE: u8 = 255;
+
+// Whether n bytes from a place on are those of nil.
+fn ones(s: &[u8], at: usize, n: usize) -> bool
+    requires { ⌜ at + n ≤ length (now s) ⌝ }
+    ensures { λ r. ⌜ r ≡ ones (now (s .entry)) at n ⌝ }
+{
+    let mut p = at;
+    let mut left = n;
+    let mut all: u8 = 0;
+    while left > 0 {
+        all = all | (s[p] ^ NIL_BYTE);
+        p += 1;
+        left -= 1;
+    }
+    all == 0
+}
+
+// Whether nothing waits on that side in any file.
+fn no_queues(s: &[u8], side: u16) -> bool
+    requires { ⌜ length (now s) ≡ segmentBytes ⌝ }
+    ensures { λ r. ⌜ (r ≡ true → (bufs seen busy : List ℕ) → queueWalks (now (s .entry)) bufs side 0 seen busy files ≡ walked true seen busy) ⌝ }
+{
+    if side == READER {
+        return ones(s, 2 * layout::READ_QUEUES, 2 * FILES);
+    }
+    ones(s, 2 * layout::WRITE_QUEUES, 2 * FILES)
+}
+
+// Whether no request is completed.
+fn no_replies(s: &[u8]) -> bool
+    requires { ⌜ length (now s) ≡ segmentBytes ⌝ }
+    ensures { λ r. ⌜ (r ≡ true → (bufs seen busy : List ℕ) → portWalks (now (s .entry)) bufs 0 seen busy (files * places) ≡ walked true seen busy) ⌝ }
+{
+    ones(s, 2 * layout::REPLY_PORTS, 2 * FILES * PLACES)
+}
+
+pub fn queue_walks(
+    s: &[u8],
+    buffers: &[u8],
+    side: u16,
+    seen: &mut [u8; 128],
+    busy: &mut [u8; 64],
+) -> bool
+    requires { ⌜ (length (now s) ≡ segmentBytes) × (length (now buffers) ≡ places * bufferBytes * files) ⌝ }
+    ensures { λ r. ⌜ walked r (now (seen .exit)) (now (busy .exit)) ≡ queueWalks (now (s .entry)) (now (buffers .entry)) side 0 (now (seen .entry)) (now (busy .entry)) files ⌝ }
+{
+    if no_queues(s, side) {
+        return true;
+    }
+    walks::queue_walks(s, buffers, side, seen, busy)
+}
+
+pub fn port_walks(s: &[u8], buffers: &[u8], seen: &mut [u8; 128], busy: &mut [u8; 64]) -> bool
+    requires { ⌜ (length (now s) ≡ segmentBytes) × (length (now buffers) ≡ places * bufferBytes * files) ⌝ }
+    ensures { λ r. ⌜ walked r (now (seen .exit)) (now (busy .exit)) ≡ portWalks (now (s .entry)) (now (buffers .entry)) 0 (now (seen .entry)) (now (busy .entry)) (files * places) ⌝ }
+{
+    if no_replies(s) {
+        return true;
+    }
+    walks::port_walks(s, buffers, seen, busy)
+}

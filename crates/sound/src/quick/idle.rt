@@ -1,0 +1,40 @@
+// Buffers that are all zero: 2,080 bytes of a file in one loop with no way out, whoever uses them, and no look at who does. `idle-run`
+// (proofs/quick/Resting.antt): the plain test holds of them.
+use crate::idle;
+use kinds::limits::BUFFER_BYTES;
+ghost use mathlib.Core.Path.{_≡_};
+ghost use mathlib.Core.Bool.{true};
+ghost use Prim.Native.Nat.{_+_, _*_, _≤_};
+ghost use lib.ListN.{length};
+ghost use Rattle.rules.specs.Limits.{files, places, bufferBytes};
+ghost use Rattle.words.specs.Word.{quiet};
+ghost use Rattle.sound.specs.Sound.{idleZero};
+
+// A fifth of a buffer.
+const FIFTH: usize = BUFFER_BYTES / 5;
+
+// Whether five times n bytes from a place on are zero, in five runs side by side, for which the processor need not wait in turn.
+fn quiet_runs(s: &[u8], at: usize, n: usize) -> bool
+    requires { ⌜ at + 5 * n ≤ length (now s) ⌝ }
+    ensures { λ r. ⌜ (r ≡ true → quiet (now (s .entry)) at (5 * n) ≡ true) ⌝ }
+{
+    let mut p = at;
+    let mut left = n;
+    let mut all: u8 = 0;
+    while left > 0 {
+        all = all | s[p] | s[p + n] | s[p + 2 * n] | s[p + 3 * n] | s[p + 4 * n];
+        p += 1;
+        left -= 1;
+    }
+    all == 0
+}
+
+pub fn places_idle(buffers: &[u8], busy: &[u8; 64], i: usize, n: usize) -> bool
+    requires { ⌜ (length (now buffers) ≡ places * bufferBytes * files) × (i + n ≤ files * places) ⌝ }
+    ensures { λ r. ⌜ r ≡ idleZero (now (buffers .entry)) (now (busy .entry)) i n ⌝ }
+{
+    if quiet_runs(buffers, BUFFER_BYTES * i, FIFTH * n) {
+        return true;
+    }
+    idle::places_idle(buffers, busy, i, n)
+}

@@ -1,0 +1,114 @@
+// The free list where its entries stand in order, as on a fresh desk. Which entry is next is counted, and not read from a link, so that no read waits for
+// the one before; the test is an `or` of differences, since of `if link == next` the compiler makes a read that waits. `onto` and `onto-four`
+// (proofs/quick/Onward.antt): the plain walk goes the same way.
+use crate::MET;
+use crate::quick::bytes::broad;
+use crate::quick::bytes::eight;
+use crate::quick::bytes::four;
+use segment::layout;
+ghost use mathlib.Core.Path.{_≡_};
+ghost use mathlib.Core.List.{List};
+ghost use Prim.Native.Nat.{ℕ, _+_, _-_, _*_, _≤_, _<_};
+ghost use lib.ListN.{length, getD};
+ghost use Rattle.rules.specs.Limits.{entries};
+ghost use Rattle.segment.specs.Layout.{segmentBytes};
+ghost use Rattle.sound.specs.quick.Onward.{entryBytes, Linked, freeFrom};
+
+const LAST: usize = layout::ENTRIES as usize - 1;
+
+const ENTRY_BYTES: usize = 2 * layout::ENTRY_WORDS;
+
+// The last entry that a run from e on may reach.
+fn farthest(e: usize, most: usize) -> usize
+    requires { ⌜ e < entries ⌝ }
+    ensures { λ r. ⌜ (e ≤ r) × (r < entries) × (r ≤ e + most) ⌝ }
+{
+    if most < LAST - e { e + most } else { LAST }
+}
+
+// The marks of four entries: 0 only where none was met.
+fn four_marks(seen: &[u8; 128], e: usize) -> u64
+    requires { ⌜ e + 3 < entries ⌝ }
+    ensures { λ r. ⌜ (r ≡ 0 → (getD (now (seen .entry)) e 0 ≡ 0) × (getD (now (seen .entry)) (e + 1) 0 ≡ 0) × (getD (now (seen .entry)) (e + 2) 0 ≡ 0) × (getD (now (seen .entry)) (e + 3) 0 ≡ 0)) ⌝ }
+{
+    let low = broad(seen[e]) + broad(seen[e + 1]) * 256;
+    let high = broad(seen[e + 2]) + broad(seen[e + 3]) * 256;
+    low + high * 65536
+}
+
+// Of the entry at byte `at`: 0 only where it is free and linked to entry n.
+fn linked(s: &[u8], at: usize, n: usize) -> u64
+    requires { ⌜ (at + entryBytes ≤ length (now s)) × (n < 256) ⌝ }
+    ensures { λ r. ⌜ (r ≡ 0 → Linked (now (s .entry)) at n) ⌝ }
+{
+    (eight(s, at) ^ (n as u64 * 256)) | eight(s, at + 8) | four(s, at + 16)
+}
+
+// Of four entries, e the first, at byte `at`: 0 only where each is free and linked to the next number.
+fn four_linked(s: &[u8], at: usize, e: usize) -> u64
+    requires { ⌜ (at + 4 * entryBytes ≤ length (now s)) × (e + 4 < 256) ⌝ }
+    ensures { λ r. ⌜ (r ≡ 0 → Linked (now (s .entry)) at (e + 1) × Linked (now (s .entry)) (at + entryBytes) (e + 2) × Linked (now (s .entry)) (at + 2 * entryBytes) (e + 3) × Linked (now (s .entry)) (at + 3 * entryBytes) (e + 4)) ⌝ }
+{
+    linked(s, at, e + 1)
+        | linked(s, at + ENTRY_BYTES, e + 2)
+        | linked(s, at + 2 * ENTRY_BYTES, e + 3)
+        | linked(s, at + 3 * ENTRY_BYTES, e + 4)
+}
+
+// From a slot that holds e on to the last of the entries in order, `most` of them at most, four at a time.
+fn by_fours(s: &[u8], e: usize, most: usize, seen: &mut [u8; 128]) -> usize
+    requires { ⌜ (length (now s) ≡ segmentBytes) × (e < entries) ⌝ }
+    ensures { λ r. ⌜ (e ≤ r) × (r < entries) × (r ≤ e + most) × ((busy : List ℕ) → freeFrom (now (s .entry)) e (now (seen .entry)) busy most ≡ freeFrom (now (s .entry)) r (now (seen .exit)) busy (most - (r - e))) ⌝ }
+{
+    let end = farthest(e, most);
+    let mut last = e;
+    let mut at = 2 * (layout::LINKS + layout::ENTRY_WORDS * e);
+    while last + 4 <= end {
+        if four_marks(seen, last) != 0 {
+            return last;
+        }
+        if four_linked(s, at, last) != 0 {
+            return last;
+        }
+        seen[last] = MET;
+        seen[last + 1] = MET;
+        seen[last + 2] = MET;
+        seen[last + 3] = MET;
+        last += 4;
+        at += 4 * ENTRY_BYTES;
+    }
+    last
+}
+
+// The same, one entry at most.
+fn by_one(s: &[u8], e: usize, most: usize, seen: &mut [u8; 128]) -> usize
+    requires { ⌜ (length (now s) ≡ segmentBytes) × (e < entries) ⌝ }
+    ensures { λ r. ⌜ (e ≤ r) × (r < entries) × (r ≤ e + most) × ((busy : List ℕ) → freeFrom (now (s .entry)) e (now (seen .entry)) busy most ≡ freeFrom (now (s .entry)) r (now (seen .exit)) busy (most - (r - e))) ⌝ }
+{
+    if most < 1 {
+        return e;
+    }
+    if e >= LAST {
+        return e;
+    }
+    if seen[e] != 0 {
+        return e;
+    }
+    if linked(s, 2 * (layout::LINKS + layout::ENTRY_WORDS * e), e + 1) != 0 {
+        return e;
+    }
+    seen[e] = MET;
+    e + 1
+}
+
+// The same: by fours where e itself follows the entry before, else by one, since a run is then short, as that of a request and its timer.
+pub fn in_order(s: &[u8], before: usize, e: usize, most: usize, seen: &mut [u8; 128]) -> usize
+    requires { ⌜ (length (now s) ≡ segmentBytes) × (e < entries) × (before < 256) ⌝ }
+    ensures { λ r. ⌜ (e ≤ r) × (r < entries) × (r ≤ e + most) × ((busy : List ℕ) → freeFrom (now (s .entry)) e (now (seen .entry)) busy most ≡ freeFrom (now (s .entry)) r (now (seen .exit)) busy (most - (r - e))) ⌝ }
+{
+    if e == before + 1 {
+        let last = by_fours(s, e, most, seen);
+        return by_one(s, last, most - (last - e), seen);
+    }
+    by_one(s, e, most, seen)
+}

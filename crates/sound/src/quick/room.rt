@@ -1,0 +1,22 @@
+// Room for more records than a file has places: its writers need not be counted, which saves a look at eight rows. `room-ample` (proofs/quick/Ample.antt):
+// the plain test then holds, whoever is open.
+use kinds::limits::PLACES;
+ghost use mathlib.Core.Path.{_≡_};
+ghost use mathlib.Core.Bool.{true, _&&_};
+ghost use mathlib.Core.List.{List};
+ghost use Prim.Native.Nat.{ℕ, _+_};
+ghost use lib.Dec.{leb};
+ghost use Rattle.rules.specs.Limits.{places};
+ghost use Rattle.sound.specs.Rows.{writersAt};
+
+// A close record for each place, and a record.
+const AMPLE: u32 = PLACES as u32 + 1;
+
+pub fn ample(used: u32, most: u32) -> bool
+    ensures { λ r. ⌜ (r ≡ true → (s : List ℕ) (i : ℕ) → (leb (used + writersAt s i places) most && leb (writersAt s i places + 1) most) ≡ true) ⌝ }
+{
+    if most < AMPLE {
+        return false;
+    }
+    used <= most - AMPLE
+}
