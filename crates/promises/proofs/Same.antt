@@ -38,6 +38,11 @@ behind-same (some v) c m x y S T =
     (λ f h u. (S .rest f h u .0 ∙ sym (T .rest f h u .0), S .rest f h u .1 ∙ sym (T .rest f h u .1)))
 
 module _ (m : Memories) (bs : Bytes (m .segment)) (bb : Bytes (m .blocks)) (bf : Bytes (m .buffers)) where
+  -- look's part and its status: whatever is said of it for all that the memories are seen as
+  pub seen-same : {A : Type 0} (g : Option Standing → A) (r q : A) → ((v : Option Standing) → Seen (m .segment) (m .blocks) (m .buffers) v → r ≡ g v)
+      → ((v : Option Standing) → Seen (m .segment) (m .blocks) (m .buffers) v → q ≡ g v) → r ≡ q
+  seen-same g r q R Q = let (v, S) = sees bs bb bf in R v S ∙ sym (Q v S)
+
   answers-same : (lends : Option Standing → Option Standing) (c : Call) (gives : Reply → Given) (g h : Given) (x y : Memories)
       → Answers lends c gives m g x → Answers lends c gives m h y → (g ≡ h) × (x ≡ y)
   answers-same lends c gives g h x y A B =

@@ -1,4 +1,4 @@
--- Behind what is handed out every memory stays as it was lent.
+-- Stayed what is handed out every memory stays as it was lent.
 use Prim.Native.Nat.{ℕ, _+_, _≤_}
 use mathlib.Core.Path.{_≡_, refl, sym, ap, subst, _∙_}
 use mathlib.Core.Bool.{Bool, true, false}
@@ -28,14 +28,14 @@ drop-put memory bs h =
     rw (sets-eq bs memory 0 (omega (arith, h))) (drop-at bs (drop (0 + length bs) memory) (length bs) refl ∙ ap (λ (k : ℕ). drop k memory) e)
 
 -- what is handed out of a reply that fits
-abbrev Behind : Given → List ℕ → Type 0
-Behind g memory = drop (givenSize g) (givenMemory g) ≡ drop (givenSize g) memory
+abbrev Stayed : Given → List ℕ → Type 0
+Stayed g memory = drop (givenSize g) (givenMemory g) ≡ drop (givenSize g) memory
 
-answer-behind : (memory : List ℕ) (r : Reply) → length (replyBytes r) ≤ length memory → Behind (answered memory r) memory
+answer-behind : (memory : List ℕ) (r : Reply) → length (replyBytes r) ≤ length memory → Stayed (answered memory r) memory
 unfolding answered givenSize givenMemory
 answer-behind memory r h = drop-put memory (replyBytes r) h
 
-shown-behind : (memory : List ℕ) (r : Reply) → length (replyBytes r) ≤ length memory → Behind (shown memory r) memory
+shown-behind : (memory : List ℕ) (r : Reply) → length (replyBytes r) ≤ length memory → Stayed (shown memory r) memory
 unfolding shown givenSize givenMemory
 shown-behind memory r h = drop-put memory (replyBytes r) h
 
@@ -52,17 +52,17 @@ module _ (m n : Memories) (d : Desk) (s : Alloc) (H : Holds m d s) where
       go true e = unfold replyOf in omega (arith, h, eqb-true (length memory) size e)
       go false e = unfold replyOf replyBytes in omega arith
 
-  step-stays : (x : HostCall) (g : Given) → Promise m x g n → Behind g (lentBy x)
+  step-stays : (x : HostCall) (g : Given) → Promise m x g n → Stayed g (lentBy x)
   unfolding Promise lentBy
-  step-stays fresh g P = subst (λ (h : Given). Behind h []) (sym (fresh-first m n g (size-true m n d s H) P .0)) (unfold givenSize givenMemory in refl)
+  step-stays fresh g P = subst (λ (h : Given). Stayed h []) (sym (fresh-first m n g (size-true m n d s H) P .0)) (unfold givenSize givenMemory in refl)
   step-stays (event memory frame) g P =
-      subst (λ (h : Given). Behind h memory) (sym (P seen (stands d s (H .stands)) .0))
+      subst (λ (h : Given). Stayed h memory) (sym (P seen (stands d s (H .stands)) .0))
       (answer-behind memory _ (lent-fits answerRoom memory (rules.event frame) (event-fits d (H .stands .fine) frame)))
   step-stays (look f p memory) g P =
-      subst (λ (h : Given). Behind h memory) (sym (P seen (stands d s (H .stands)) .0)) (shown-behind memory _ (lent-fits bufferBytes memory (rules.look f p) (look-fits d (H .stands .fine) f p)))
+      subst (λ (h : Given). Stayed h memory) (sym (P seen (stands d s (H .stands)) .0)) (shown-behind memory _ (lent-fits bufferBytes memory (rules.look f p) (look-fits d (H .stands .fine) f p)))
   step-stays (save f output) g P =
-      subst (λ (h : Given). Behind h output) (sym (P seen (stands d s (H .stands)) .0)) (unfold replyOf in shown-behind output _ (save-fits d f (length output)))
-  step-stays (load f text) g P = subst (λ (h : Given). Behind h []) (sym (P seen (stands d s (H .stands)) .0)) (unfold said givenSize givenMemory in refl)
+      subst (λ (h : Given). Stayed h output) (sym (P seen (stands d s (H .stands)) .0)) (unfold replyOf in shown-behind output _ (save-fits d f (length output)))
+  step-stays (load f text) g P = subst (λ (h : Given). Stayed h []) (sym (P seen (stands d s (H .stands)) .0)) (unfold said givenSize givenMemory in refl)
 
 stays-on : (xs : List HostCall) (gs : List Given) (cs : List Call) (m n : Memories) → Since cs m → Run m xs gs n → Stay xs gs
 unfolding Stay
@@ -75,4 +75,4 @@ pub run-stays : (m n : Memories) (xs : List HostCall) (gs : List Given) → size
 unfolding Stay lentBy
 run-stays m n xs (g ∷ gs) h (then {n = k} P R) =
     let (e, H) = fresh-first m k g h P in
-    (subst (λ (y : Given). Behind y []) (sym e) (unfold givenSize givenMemory in refl), stays-on xs gs [] k n (since-none k H) R)
+    (subst (λ (y : Given). Stayed y []) (sym e) (unfold givenSize givenMemory in refl), stays-on xs gs [] k n (since-none k H) R)
