@@ -4,19 +4,16 @@ use mathlib.Core.Path.{_≡_, refl, ap, subst}
 use mathlib.Core.Bool.{true, false}
 use mathlib.Core.List.{List, []}
 use mathlib.Core.Option.{Option, none, some}
-use lib.Dec.{eqb}
 use lib.ListN.{length}
-use lib.Seq.{sets}
 use borrow.Author.Tests.{eq-eqb, ne-eqb}
 use Rattle.rules.specs.Limits.{answerRoom}
-use Rattle.rules.specs.Reply.{Reply, shows}
 use Rattle.rules.specs.Desk.{Desk, respond, replyBytes}
 use Rattle.rules.specs.Desk as rules
 use Rattle.rules.specs.Allocation.{Alloc}
 use Rattle.memory.specs.Fine.{StandsFor}
 use Rattle.midst.specs.Outcome.{Told, Stays}
 use Rattle.sound.specs.Sound.{soundly}
-use Rattle.promises.specs.Promise.{Memories, event, Given, answer, givenSize, givenMemory, Standing, Seen, unsound, stands, lent, replyOf, answered, Behind, Promise}
+use Rattle.promises.specs.Promise.{Memories, event, Given, answer, givenSize, givenMemory, Standing, unsound, stands, lent, replyOf, answered, Behind, Promise}
 use Rattle.promises.proofs.Seen.{seen-none, seen-some}
 
 -- a memory of the right length hides nothing, one of another everything
@@ -68,10 +65,6 @@ module _ (m : Memories) (memory frame : List ℕ) where
             (c .1, record { bytes = ap givenMemory (c .0); size = ap givenSize (c .0) })
 
         -- and of memories that are not sound
-        pub event-empty : soundly (m .segment) (m .blocks) (m .buffers) ≡ false → n ≡ 0
-        unfolding Promise answered replyOf replyBytes givenSize
-        event-empty h = subst (λ (v : Option Standing). n ≡ givenSize (answered memory (replyOf v (rules.event frame)))) (lent-right answerRoom memory none e) (ap givenSize (P none (unsound h) .0))
-
         pub event-keeps : soundly (m .segment) (m .blocks) (m .buffers) ≡ false → m′ ≡ m
         unfolding Promise Behind
         event-keeps h = subst (λ (v : Option Standing). Behind v (rules.event frame) m m′) (lent-right answerRoom memory none e) (P none (unsound h) .1)

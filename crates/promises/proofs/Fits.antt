@@ -1,7 +1,7 @@
 -- What look and save hand out has room in the memory that is lent for it, as an event's answer has (Room).
 use Prim.Native.Nat.{ℕ, _+_, _≤_, _<_}
-use mathlib.Core.Path.{_≡_, refl, sym, ap, subst, _∙_}
-use mathlib.Core.Bool.{true, false, false≢true}
+use mathlib.Core.Path.{_≡_, refl, sym, _∙_}
+use mathlib.Core.Bool.{false≢true}
 use mathlib.Core.List.{List, [], _∷_}
 use mathlib.Core.Option.{Option, none, some, Option·some-injective}
 use native.Mathlib.Omega.{arith}
@@ -9,7 +9,7 @@ use lib.Dec.{ltb, leb, eqb}
 use lib.ListN.{length}
 use borrow.Author.Tests.{ltb-true, leb-true}
 use Rattle.rules.specs.Limits.{files, bufferBytes}
-use Rattle.rules.specs.State.{Rec, Req, idle, reading, writing, readDone, writeDone, Acc, Built, File, unbuilt, built}
+use Rattle.rules.specs.State.{Rec, Req, idle, reading, writing, readDone, writeDone, Built, File, unbuilt, built}
 use Rattle.rules.specs.Store.{recordWords}
 use Rattle.rules.specs.Requests.{accAt}
 use Rattle.rules.specs.Reply.{Out, leaves, unmade}
@@ -17,9 +17,9 @@ use Rattle.rules.specs.Look.{oldest, lookFile, lookReq}
 use Rattle.rules.specs.Look as looking
 use Rattle.rules.specs.Sheet.{sheet}
 use Rattle.rules.specs.Sheet as sheets
-use Rattle.rules.specs.Calls.{Ask, askBuilt, askUnbuilt, ask, refusal}
+use Rattle.rules.specs.Calls.{askBuilt, askUnbuilt, ask, refusal}
 use Rattle.rules.specs.Calls as calls
-use Rattle.rules.specs.Desk.{Desk, on, asked, Responded, answered, respond, replyBytes, fileOf}
+use Rattle.rules.specs.Desk.{Desk, asked, Responded, answered, respond, replyBytes, fileOf}
 use Rattle.rules.specs.Desk as rules
 use Rattle.rules.proofs.Split.{by-cases, both, opt, pick-true, pick-false}
 use Rattle.shares.specs.Groups.{All, Small}

@@ -1,16 +1,15 @@
 -- "A refusal changes nothing": condition 1, of every promise.
 use Prim.Native.Nat.{ℕ}
-use mathlib.Core.Path.{_≡_, refl, sym, ap, _∙_}
+use mathlib.Core.Path.{_≡_, refl}
 use mathlib.Core.List.{List}
 use mathlib.Core.Option.{Option, none, some}
-use Rattle.rules.specs.Calls.{Ask}
 use Rattle.rules.specs.Desk.{Desk, Call, Asked, on, time, bad, asked, answered, respond}
 use Rattle.rules.specs.Allocation.{Alloc, allocAsked}
 use Rattle.memory.specs.Fine.{StandsFor}
 use Rattle.midst.specs.Outcome.{replyStatus, statusOf, refusalOf}
 use Rattle.midst.proofs.Refused.{stands-refused}
 use Rattle.midst.proofs.Stayed.{still-stays}
-use Rattle.promises.specs.Promise.{Memories, Standing, Seen, unsound, stands, replyOf, Behind}
+use Rattle.promises.specs.Promise.{Memories, Standing, Seen, stands, replyOf, Behind}
 use Rattle.promises.proofs.Same.{behind-same}
 
 -- on the rules: desk and allocation are what they were

@@ -1,13 +1,13 @@
 -- The answer to an event has room in the 264 bytes that it is lent.
 use Prim.Native.Nat.{ℕ, _+_, _*_, _≤_, _<_}
-use mathlib.Core.Path.{_≡_, refl, sym, ap, _∙_, subst}
-use mathlib.Core.Bool.{Bool, true, false, cond, _&&_, _||_}
-use mathlib.Core.List.{List, [], _∷_, _++_, append-nil}
+use mathlib.Core.Path.{_≡_, refl, ap, subst}
+use mathlib.Core.Bool.{Bool, cond, _&&_, _||_}
+use mathlib.Core.List.{List, [], _++_, append-nil}
 use mathlib.Core.Option.{Option, none, some}
 use native.Mathlib.Omega.{arith}
 use borrow.Author.Tests.{ltb-true}
 use lib.Dec.{ltb, leb, eqb}
-use lib.ListN.{length, getD, take, drop, length-append, length-take}
+use lib.ListN.{length, take, drop, length-append, length-take}
 use Rattle.words.specs.Word.{word}
 use Rattle.kinds.specs.declared.Answer.{Answer}
 use Rattle.kinds.specs.declared.Answer.the-variants.{Opened, Read, Written, Controlled, Collected, Closed, Passed, Counted, Status}
@@ -20,7 +20,7 @@ use Rattle.kinds.specs.declared.Event.the-variants as event
 use Rattle.rules.specs.Limits.{files, places, mostMode, mostReadBytes, answerRoom}
 use Rattle.rules.specs.State.{Rec, Req, idle, reading, writing, readDone, writeDone, Acc, Built, File, unbuilt, built}
 use Rattle.rules.specs.Store.{fetch}
-use Rattle.rules.specs.Count.{countBytes, readable, logOf, inWords}
+use Rattle.rules.specs.Count.{countBytes, readable}
 use Rattle.rules.specs.Geometry.{inRange, fitsShare, dataBlocks}
 use Rattle.rules.specs.Requests.{accAt, isIdle, writers, readers, fits, opened, countAcc}
 use Rattle.rules.specs.Settle.{handed}
@@ -36,8 +36,8 @@ use Rattle.rules.specs.Calls.{Ask, refusal, onAcc, askBuilt, askUnbuilt, ask}
 use Rattle.rules.specs.Calls as calls
 use Rattle.rules.specs.Desk.{Desk, Responded, on, frameAsks, fileOf, replyBytes, asked, answered, respond}
 use Rattle.rules.specs.Desk as desk
-use Rattle.rules.proofs.Split.{by-cases, both, opt, and-true}
-use Rattle.laws.specs.Outstanding.{reqOf, reqAt}
+use Rattle.rules.proofs.Split.{both, opt}
+use Rattle.laws.specs.Outstanding.{reqOf}
 use Rattle.laws.specs.Bounds.{Bounded, Bounds}
 use Rattle.laws.specs.Runs.{OnFile}
 use Rattle.laws.proofs.Calls.{readable-bytes}

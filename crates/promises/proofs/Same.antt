@@ -1,6 +1,6 @@
 -- The promises leave nothing open: two results that meet one are the same, in all that is given and in all memory.
-use Prim.Native.Nat.{ℕ, _<_}
-use mathlib.Core.Path.{_≡_, refl, sym, ap, _∙_}
+use Prim.Native.Nat.{ℕ}
+use mathlib.Core.Path.{_≡_, refl, sym, _∙_}
 use mathlib.Core.List.{List}
 use mathlib.Core.Option.{Option, none, some}
 use Rattle.rules.specs.Reply.{Reply}
@@ -13,7 +13,6 @@ use Rattle.memory.specs.Covers.{Alike}
 use Rattle.memory.specs.Fine.{Fine, StandsFor}
 use Rattle.memory.proofs.Once.{agreed-covers}
 use Rattle.memory.proofs.Determined.{stands-same}
-use Rattle.midst.specs.Outcome.{Stays}
 use Rattle.promises.specs.Promise.{Memories, HostCall, fresh, event, look, save, load, Given, Standing, Seen, answered, shown, said, Behind, Answers, Promise}
 use Rattle.promises.proofs.Seen.{sees}
 

@@ -1,5 +1,5 @@
 -- Look and save leave the desk and the allocation as they are, and so the memories.
-use Prim.Native.Nat.{ℕ, _<_}
+use Prim.Native.Nat.{ℕ}
 use mathlib.Core.Path.{_≡_, refl, sym, ap, _∙_}
 use mathlib.Core.Bool.{Bool, true, false}
 use mathlib.Core.List.{List, []}
@@ -17,18 +17,16 @@ use Rattle.rules.specs.Sheet.{sheet}
 use Rattle.rules.specs.Sheet as sheets
 use Rattle.rules.specs.Calls.{Ask, askBuilt, askUnbuilt, ask}
 use Rattle.rules.specs.Calls as calls
-use Rattle.rules.specs.Desk.{Desk, Call, asked, on, answered, respond, fileOf, happens}
+use Rattle.rules.specs.Desk.{Desk, Call, asked, on, answered, respond, fileOf}
 use Rattle.rules.specs.Desk as rules
 use Rattle.rules.specs.Allocation.{Alloc, allotAll, allocAsked}
 use Rattle.rules.proofs.Split.{both, opt}
 use Rattle.laws.specs.Runs.{OnFile}
 use Rattle.laws.specs.Entries.{Calm, Agreed}
 use Rattle.laws.proofs.Allocated.{happens-here}
-use Rattle.memory.specs.Fine.{StandsFor}
-use Rattle.midst.specs.Outcome.{Stays}
 use Rattle.midst.proofs.Begins.{file-here}
 use Rattle.midst.proofs.Stayed.{still-stays}
-use Rattle.promises.specs.Promise.{Memories, Standing, Seen, unsound, stands, Behind, lent}
+use Rattle.promises.specs.Promise.{Memories, Standing, Seen, stands, Behind, lent}
 
 Still : Built → Out → Type 0
 Still b o = (o .file ≡ built (hushed b)) × (o .haps ≡ b .past)

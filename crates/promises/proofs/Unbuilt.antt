@@ -2,18 +2,17 @@
 use Prim.Native.Nat.{ℕ, _<_}
 use mathlib.Core.Path.{_≡_, refl, sym, ap, _∙_}
 use mathlib.Core.Bool.{Bool, true, false, true≢false}
-use mathlib.Core.List.{List}
-use lib.Dec.{ltb, eqb}
+use lib.Dec.{eqb}
 use lib.ListN.{length}
 use borrow.Author.Tests.{lt-ltb, eqb-true}
 use Rattle.rules.specs.Limits.{files}
 use Rattle.rules.specs.State.{Built, File, unbuilt, built}
-use Rattle.rules.specs.Reply.{Out, done, leaves}
+use Rattle.rules.specs.Reply.{done, leaves}
 use Rattle.rules.specs.Close.{timePasses}
 use Rattle.rules.specs.Calls.{Ask, ask}
 use Rattle.rules.specs.Desk.{Desk, Call, Asked, on, time, bad, asked, answered, respond, fileOf, fileTime}
 use Rattle.rules.proofs.Split.{by-cases, pick-true}
-use Rattle.laws.specs.Runs.{Own, call, Proper}
+use Rattle.laws.specs.Runs.{call, Proper}
 use Rattle.laws.proofs.Proper.{ProperAsked, asked-proper}
 use Rattle.laws.proofs.Isolation.{ownFile, answered-named, answered-other, answered-time}
 use Rattle.midst.proofs.Stayed.{stays-built}

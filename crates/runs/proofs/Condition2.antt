@@ -1,17 +1,16 @@
 -- Condition 2, over all runs.
-use Prim.Native.Nat.{ℕ}
-use mathlib.Core.Path.{_≡_, refl, sym, ap, ap₂, subst, _∙_}
-use mathlib.Core.Bool.{Bool, true, false}
+use mathlib.Core.Path.{_≡_, refl, ap, ap₂, _∙_}
+use mathlib.Core.Bool.{true}
 use mathlib.Core.List.{List, [], _∷_, _++_}
 use lib.ListN.{getD, drop}
-use Rattle.rules.specs.Reply.{Reply, shows}
+use Rattle.rules.specs.Reply.{shows}
 use Rattle.rules.specs.Desk.{Desk, Call, asked, respond, freshDesk, replies, after}
 use Rattle.rules.specs.Allocation.{Alloc, freshAlloc, allocAsked, allocAfter}
 use Rattle.midst.specs.Outcome.{replyStatus}
 use Rattle.promises.specs.Promise.{Memories, HostCall, fresh, Given, said, sized, Promise}
 use Rattle.runs.specs.Run.{Run, ended, then, Meant, anew, unfit, asks, meant, gives, Holds}
 use Rattle.runs.specs.Condition2.{stretch, heard, since, Condition2}
-use Rattle.runs.proofs.Holds.{holds-fresh, holds-bodies}
+use Rattle.runs.proofs.Holds.{holds-bodies}
 use Rattle.runs.proofs.Steps.{Comes, step-comes, fresh-first}
 
 -- the desk and the allocation behind calls and one more

@@ -8,7 +8,7 @@ use mathlib.Core.Option.{Option, some}
 use lib.ListN.{length}
 use Rattle.rules.specs.Limits.{files, answerRoom}
 use Rattle.rules.specs.Allocation.{Alloc}
-use Rattle.rules.specs.Desk.{Desk, Call, on, bad, asked, respond, fileOf, freshDesk, replies, after}
+use Rattle.rules.specs.Desk.{Desk, Call, bad, asked, respond, fileOf, freshDesk, replies, after}
 use Rattle.rules.specs.Desk as rules
 use Rattle.laws.specs.Runs.{only, theirs, OnFile}
 use Rattle.laws.proofs.Isolation.{isolation, fresh-file}

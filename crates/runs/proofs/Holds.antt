@@ -1,7 +1,6 @@
 -- The memories of a desk and an allocation are determined to the last byte, and the fresh desk has its own.
-use Prim.Native.Nat.{ℕ}
-use mathlib.Core.Path.{_≡_, refl, sym, _∙_}
-use mathlib.Core.List.{List, []}
+use mathlib.Core.Path.{_≡_, sym, _∙_}
+use mathlib.Core.List.{[]}
 use Rattle.rules.specs.Desk.{Desk, freshDesk, after}
 use Rattle.rules.specs.Allocation.{Alloc, freshAlloc, allocAfter}
 use Rattle.rules.specs.Memories as bytes

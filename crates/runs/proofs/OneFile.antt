@@ -1,11 +1,11 @@
 -- What the memories of a desk hold of one file is what the rules' file is, and nothing else.
 use Prim.Native.Nat.{ℕ, zero, suc, _+_, _*_, _/_, _%_, _≤_, _<_}
-use mathlib.Core.Path.{_≡_, refl, sym, ap, _∙_}
+use mathlib.Core.Path.{_≡_, refl, ap, _∙_}
 use mathlib.Core.Bool.{Bool, true, false, cond}
 use mathlib.Core.List.{List, [], _∷_, map}
 use native.Mathlib.Omega.{arith}
 use lib.Dec.{ltb, eqb}
-use lib.ListN.{length, getD}
+use lib.ListN.{length}
 use borrow.Author.Tests.{lt-ltb, le-ltb, eqb-true}
 use Rattle.words.specs.Word.{zeros}
 use Rattle.rules.specs.Limits.{files, places, entries, shareBytes, bufferBytes}
@@ -13,17 +13,17 @@ use Rattle.rules.specs.State.{Timer, File, unbuilt, built}
 use Rattle.rules.specs.Memories.{shareOf, buffersOf}
 use Rattle.rules.specs.Desk.{Desk, fileOf}
 use Rattle.rules.specs.Allocation.{Alloc, placeOf, upFrom}
-use Rattle.rules.proofs.Split.{by-cases, pick-true, pick-false}
+use Rattle.rules.proofs.Split.{pick-true, pick-false}
 use Rattle.laws.specs.Queues.{Agree}
 use Rattle.laws.specs.Entries.{local, sieve, timersOf}
 use Rattle.laws.proofs.Files.{on-file}
-use Rattle.segment.specs.Layout.{listCount, nil, readQueue, writeQueue, replyPort, linkAt, rowWords, rowAt, fileRow, placeRow}
+use Rattle.segment.specs.Layout.{listCount, readQueue, writeQueue, replyPort, linkAt, rowWords, rowAt, fileRow, placeRow}
 use Rattle.segment.specs.Layout as layout
 use Rattle.segment.specs.Table.{nth, row, dataOf}
 use Rattle.ports.specs.Lists.{Chain}
 use Rattle.ports.proofs.Lists.{short}
 use Rattle.memory.specs.Image.{accOf, reqOf, fileWords, placeWords, rqOf, wqOf, queueWords, portWords, timerWords, listOf, boxOf}
-use Rattle.memory.specs.Stands.{shareAt, buffersAt, FileBytes}
+use Rattle.memory.specs.Stands.{FileBytes}
 use Rattle.memory.specs.Fine.{Fine}
 use Rattle.memory.proofs.Boxes.{getD-listsOf, segment-boxes}
 use Rattle.memory.proofs.Image.{placeAcc-of, rowOf-file, rowOf-acc, boxOf-read, boxOf-write, boxOf-port, boxOf-timers}

@@ -1,5 +1,5 @@
 -- In a run 29 is given exactly where the answer or the record memory has the wrong length.
-use Prim.Native.Nat.{ℕ, _≤_, _<_}
+use Prim.Native.Nat.{ℕ}
 use mathlib.Core.Path.{_≡_, refl, ap, ap₂, _∙_}
 use mathlib.Core.Bool.{Bool, true, false, not}
 use mathlib.Core.List.{List, [], _∷_, map}
@@ -11,10 +11,10 @@ use borrow.Author.Tests.{ne-eqb}
 use Rattle.rules.specs.Limits.{bufferBytes, answerRoom}
 use Rattle.rules.specs.State.{Req, idle, reading, writing, readDone, writeDone, Built, File, unbuilt, built}
 use Rattle.rules.specs.Requests.{accAt}
-use Rattle.rules.specs.Reply.{Reply, shows, Out, leaves, unmade}
+use Rattle.rules.specs.Reply.{Reply, Out, leaves, unmade}
 use Rattle.rules.specs.Look.{oldest, lookFile, lookReq}
 use Rattle.rules.specs.Look as looking
-use Rattle.rules.specs.Sheet.{Sheet, sheet, readSheet}
+use Rattle.rules.specs.Sheet.{sheet, readSheet}
 use Rattle.rules.specs.Sheet as sheets
 use Rattle.rules.specs.Calls.{Ask, askBuilt, askUnbuilt, ask, refusal}
 use Rattle.rules.specs.Calls as calls
@@ -23,7 +23,7 @@ use Rattle.rules.specs.Desk as rules
 use Rattle.rules.specs.Allocation.{Alloc, freshAlloc, allocAfter}
 use Rattle.rules.proofs.Split.{both, opt}
 use Rattle.midst.specs.Outcome.{replyStatus}
-use Rattle.promises.specs.Promise.{Memories, HostCall, fresh, event, look, save, load, Given, status, answer, written, Standing, stands, lent, replyOf, shown, said, sized, Promise}
+use Rattle.promises.specs.Promise.{Memories, HostCall, fresh, event, look, save, load, Given, Standing, stands, lent, replyOf, shown, said, sized, Promise}
 use Rattle.promises.specs.Promise as host
 use Rattle.promises.proofs.Room.{event-told}
 use Rattle.runs.specs.Run.{Run, ended, then, Holds}

@@ -1,7 +1,7 @@
 -- "A saved sheet loads back to the same geometry and records, and saving that gives the same sheet", over runs: whatever run came before, what save wrote
 -- loads into any file that is not built then, in this or any other run.
 use Prim.Native.Nat.{ℕ, _<_}
-use mathlib.Core.Path.{_≡_, refl, sym, ap, _∙_}
+use mathlib.Core.Path.{_≡_, refl, sym, ap}
 use mathlib.Core.Bool.{Bool, true, false}
 use mathlib.Core.List.{List, [], _∷_}
 use native.Mathlib.Omega.{arith}
@@ -10,7 +10,7 @@ use lib.ListN.{length, take}
 use borrow.Author.Tests.{ltb-true}
 use Rattle.rules.specs.Limits.{files}
 use Rattle.rules.specs.State.{Built, File, unbuilt, built}
-use Rattle.rules.specs.Reply.{Reply, unmade}
+use Rattle.rules.specs.Reply.{unmade}
 use Rattle.rules.specs.Calls.{askUnbuilt, ask, refusal}
 use Rattle.rules.specs.Calls as calls
 use Rattle.rules.specs.Desk.{Desk, asked, answered, respond, fileOf, freshDesk, after}
@@ -19,8 +19,8 @@ use Rattle.midst.specs.Outcome.{replyStatus}
 use Rattle.promises.specs.Promise.{Memories, HostCall, fresh, save, load, Given, status, written, givenStatus, stands, replyOf, shown, sized, Promise}
 use Rattle.roundtrip.specs.Carried.{Carried}
 use Rattle.roundtrip.proofs.Carried.{carried}
-use Rattle.runs.specs.Run.{Run, Holds}
-use Rattle.runs.specs.Condition2.{since, Condition2}
+use Rattle.runs.specs.Run.{Run}
+use Rattle.runs.specs.Condition2.{since}
 use Rattle.runs.proofs.Condition2.{condition-2}
 
 -- what is saved is built

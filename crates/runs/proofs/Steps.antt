@@ -1,6 +1,6 @@
 -- One call on memories that a desk holds: what the host is given is what the rules say, and the memories are those of the rules' desk and allocation.
 use Prim.Native.Nat.{ℕ, _*_}
-use mathlib.Core.Path.{_≡_, refl, sym, ap, subst, _∙_}
+use mathlib.Core.Path.{_≡_, sym, ap, subst, _∙_}
 use mathlib.Core.Bool.{Bool, true, false, cond}
 use mathlib.Core.List.{List, []}
 use mathlib.Core.Option.{Option, none, some}
@@ -8,14 +8,14 @@ use lib.Dec.{eqb}
 use lib.ListN.{length}
 use borrow.Author.Tests.{eq-eqb}
 use Rattle.rules.specs.Limits.{files, places, shareBytes, bufferBytes, answerRoom}
-use Rattle.rules.specs.Reply.{Reply, shows}
+use Rattle.rules.specs.Reply.{shows}
 use Rattle.rules.specs.Desk.{Desk, Call, asked, respond, freshDesk}
 use Rattle.rules.specs.Desk as rules
 use Rattle.rules.specs.Allocation.{Alloc, allocAsked, freshAlloc}
 use Rattle.rules.proofs.Split.{true-and}
 use Rattle.segment.specs.Layout.{segmentBytes}
 use Rattle.midst.specs.Outcome.{replyStatus, Stays}
-use Rattle.promises.specs.Promise.{Memories, HostCall, fresh, event, look, save, load, Given, status, Standing, stands, lent, replyOf, answered, shown, said, Behind, sized, freshMemories, Promise}
+use Rattle.promises.specs.Promise.{Memories, HostCall, fresh, event, look, save, load, Given, status, Standing, stands, lent, replyOf, said, Behind, sized, freshMemories, Promise}
 use Rattle.runs.specs.Run.{Meant, anew, unfit, asks, lending, meant, gives, Holds}
 use Rattle.runs.proofs.Holds.{holds-fresh}
 use Rattle.promises.proofs.Unbuilt.{unbuilt-before}

@@ -2,14 +2,13 @@
 -- was fresh."
 use mathlib.Core.Path.{_≡_}
 use mathlib.Core.List.{List, [], _∷_, _++_}
-use Prim.Native.Nat.{ℕ}
 use lib.ListN.{getD, drop}
 use Rattle.rules.specs.Reply.{Reply, shows}
 use Rattle.rules.specs.Desk.{Call, freshDesk, replies, after}
 use Rattle.rules.specs.Allocation.{freshAlloc, allocAfter}
 use Rattle.rules.specs.Memories as bytes
 use Rattle.promises.specs.Promise.{Memories, HostCall, fresh, Given}
-use Rattle.runs.specs.Run.{Meant, anew, unfit, asks, meant, gives, Holds}
+use Rattle.runs.specs.Run.{anew, unfit, asks, meant, gives, Holds}
 
 -- the calls of the rules until the desk is made fresh again
 unfoldable pub stretch : List HostCall → List Call

@@ -8,7 +8,7 @@ use mathlib.Core.List.{List, [], _∷_}
 use lib.Dec.{eqb}
 use lib.ListN.{length, take, drop}
 use Rattle.rules.specs.Limits.{files, answerRoom}
-use Rattle.rules.specs.Desk.{Call, Asked, on, time, bad, asked}
+use Rattle.rules.specs.Desk.{Asked, on, time, bad, asked}
 use Rattle.rules.specs.Desk as rules
 use Rattle.laws.specs.Runs.{names}
 use Rattle.promises.specs.Promise.{Memories, HostCall, Given, givenStatus, givenSize, givenMemory}

@@ -1,7 +1,7 @@
 -- A run of the five calls: each is lent the memories as the call before left them, and beside them what the host likes.
 use Prim.Native.Nat.{ℕ}
 use mathlib.Core.Bool.{true, false}
-use mathlib.Core.List.{List, [], _∷_, _++_}
+use mathlib.Core.List.{List, [], _∷_}
 use lib.Dec.{eqb}
 use lib.ListN.{length}
 use Rattle.rules.specs.Limits.{bufferBytes, answerRoom}

@@ -9,7 +9,6 @@ use Rattle.rules.specs.Desk as rules
 use Rattle.rules.proofs.Split.{by-cases, pick-true, pick-false}
 use Rattle.laws.specs.Runs.{Own, mine, only, names}
 use Rattle.promises.specs.Promise.{HostCall}
-use Rattle.runs.specs.Run.{asks}
 use Rattle.runs.specs.Condition2.{stretch}
 use Rattle.runs.specs.Condition3.{Sort, made, sortOf, namesFile, isTime, passes, ours, unmade}
 use Rattle.runs.specs.Condition3 as sort

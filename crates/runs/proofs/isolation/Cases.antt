@@ -6,7 +6,7 @@ use lib.Dec.{eqb}
 use lib.ListN.{length, getD, drop}
 use Rattle.rules.specs.Limits.{bufferBytes, answerRoom}
 use Rattle.rules.specs.Reply.{Reply, shows}
-use Rattle.rules.specs.Desk.{Call, asked, freshDesk, replies}
+use Rattle.rules.specs.Desk.{Call, freshDesk, replies}
 use Rattle.rules.specs.Desk as rules
 use Rattle.rules.proofs.Split.{pick-true, pick-false}
 use Rattle.promises.specs.Promise.{HostCall, fresh, event, look, save, load, Given}

@@ -11,7 +11,7 @@ use Rattle.words.proofs.Parts.{part-same}
 use Rattle.rules.specs.Limits.{files, bufferBytes, answerRoom}
 use Rattle.rules.specs.Answers.{answerBytes}
 use Rattle.rules.specs.Reply.{Reply, shows}
-use Rattle.rules.specs.Desk.{Desk, Call, Asked, time, bad, asked, respond, replyBytes, replies}
+use Rattle.rules.specs.Desk.{Desk, Call, Asked, bad, asked, respond, replyBytes, replies}
 use Rattle.rules.specs.Desk as rules
 use Rattle.rules.proofs.Split.{by-cases, pick-true, pick-false}
 use Rattle.laws.specs.Runs.{names, theirs}
