@@ -5,7 +5,8 @@
  * clock and starts no thread. A host lends the three memories to each call, as the call before left them. It may keep several desks, and
  * move one by copying its memories.
  *
- * Every call returns, with any bytes in any memory of the length given, and a call that is refused leaves the desk as it was.
+ * Every call returns, with any bytes in any memory of the length given, and a call that is refused leaves the desk as it was. docs/HOST.md
+ * is on threads, processes, restarts and refusal 29.
  *
  * What C has to see to, since nothing can be tested of a pointer:
  *   - each pointer leads to as many bytes as the length behind it says, and is not NULL, also where that length is 0;
@@ -75,6 +76,9 @@
 #ifdef __cplusplus
 extern "C" {
 #endif
+
+/* The version of what this header declares. */
+#define TENDRILHOOK_VERSION "1.0"
 
 /* The lengths, in bytes, of what a host lends. Any other length is refused (29), but for a sheet's: that may be any. */
 enum {

@@ -2,6 +2,7 @@
 mod feeding;
 mod held;
 
+use libc::STDERR_FILENO;
 use libc::STDIN_FILENO;
 use libc::STDOUT_FILENO;
 ghost use mathlib.Core.Path.{_≡_};
@@ -11,12 +12,19 @@ ghost use lib.ListN.{length};
 ghost use Rattle.serving.specs.Going.{mostHeld, outBytes, Going, goes, written, At};
 ghost use Rattle.serving.specs.Served.{Behind, Turned, Served, Kept};
 
-// Answers are printed where the desk is served aloud; whether that went well.
+// Answers are printed where the desk is served aloud; whether that went well. Where it did not, that is told.
 fn print(aloud: bool, answers: &[u8]) -> bool {
-    if aloud {
-        return io::write_all(STDOUT_FILENO, answers);
+    if !aloud {
+        return true;
     }
-    true
+    if io::write_all(STDOUT_FILENO, answers) {
+        return true;
+    }
+    io::write_all(
+        STDERR_FILENO,
+        b"standard output cannot be written: answers are lost\n",
+    );
+    false
 }
 
 // What is held of a line behind a read, and whether to read on.

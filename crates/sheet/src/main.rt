@@ -3,6 +3,7 @@
 use arguments::NO_FILE;
 use arguments::Named;
 use arguments::refused;
+use libc::STDERR_FILENO;
 use libc::STDOUT_FILENO;
 
 fn print_sheet(segment: &[u8], blocks: &[u8], buffers: &[u8], file: usize) {
@@ -13,7 +14,12 @@ fn print_sheet(segment: &[u8], blocks: &[u8], buffers: &[u8], file: usize) {
         return;
     }
     let n = saved.length;
-    io::write_all(STDOUT_FILENO, &sheet[0..n]);
+    if !io::write_all(STDOUT_FILENO, &sheet[0..n]) {
+        io::write_all(
+            STDERR_FILENO,
+            b"standard output cannot be written: the sheet is lost\n",
+        );
+    }
 }
 
 // FILE is loaded where a sheet is named; whether the program can go on.

@@ -1,0 +1,102 @@
+/*
+ * Condition 1, to be seen: a call for each refusal number, on a desk with open files, records and a request that waits. Behind each call the three memories
+ * are compared with a copy made before it, byte by byte, and so is what a refused call may not write of answer and output. It prints a row a call; the exit
+ * status is 1 where a number is another, or a byte has changed.
+ */
+#include "tendrilhook.h"
+
+#include <stdio.h>
+#include <stdlib.h>
+#include <string.h>
+
+/* The desk, and behind it what else a call may not touch; and the copy. */
+static struct memories {
+    uint8_t segment[TENDRILHOOK_SEGMENT_BYTES], blocks[TENDRILHOOK_BLOCKS_BYTES], buffers[TENDRILHOOK_BUFFERS_BYTES];
+    uint8_t answer[TENDRILHOOK_ANSWER_BYTES], output[TENDRILHOOK_SHEET_BYTES];
+} now, before;
+
+static int faults;
+
+#define DESK now.segment, sizeof now.segment, now.blocks, sizeof now.blocks, now.buffers, sizeof now.buffers
+
+static size_t event(const uint8_t *frame, size_t length)
+{
+    return tendrilhook_event(DESK, now.answer, sizeof now.answer, frame, length);
+}
+
+#define EVENT(...) event((const uint8_t[]){ __VA_ARGS__ }, sizeof(const uint8_t[]){ __VA_ARGS__ })
+
+/* What was asked has been refused with this number, and nothing is changed but for so many bytes of the answer. */
+static void refused(int number, const char *what, int status, size_t answered)
+{
+    int right = status == number && memcmp(now.answer + answered, before.answer + answered, sizeof now.answer - answered) == 0;
+    int same = memcmp(now.segment, before.segment, sizeof now.segment) == 0 && memcmp(now.blocks, before.blocks, sizeof now.blocks) == 0
+               && memcmp(now.buffers, before.buffers, sizeof now.buffers) == 0 && memcmp(now.output, before.output, sizeof now.output) == 0;
+    printf("%2d  %-58s %s\n", status, what, right && same ? "53,284 bytes as they were" : "NOT AS IT HAS TO BE");
+    faults += !right || !same;
+    now = before;
+}
+
+static void bad_event(int number, const char *what, const uint8_t *frame, size_t length)
+{
+    before = now;
+    size_t answered = event(frame, length);
+    refused(number, what, answered == 0 ? TENDRILHOOK_UNSOUND : now.answer[1], answered);
+}
+
+#define BAD(number, what, ...) bad_event(number, what, (const uint8_t[]){ __VA_ARGS__ }, sizeof(const uint8_t[]){ __VA_ARGS__ })
+
+/* File 0: a writer whose write waits, and a reader. File 2: eight readers. File 3: a writer, and no room for another's open record. */
+static void prepare(void)
+{
+    for (size_t i = 0; i < sizeof now.output; i++) now.output[i] = (uint8_t)(i * 7 + 3);
+    tendrilhook_fresh(DESK);
+    EVENT(1, 0, 0, 4, 1, 0, 1, 1);
+    EVENT(2, 0, 3, 1, 0);
+    EVENT(2, 0, 0, 1, 0);
+    EVENT(4, 0, 0, 0, 2, 'A', 'B', 'C', 'D');
+    EVENT(4, 0, 0, 0xFF, 0xFD, 'E', 'F', 'G');
+    EVENT(1, 2, 0, 4, 1, 0, 1, 1);
+    for (int i = 0; i < 8; i++) EVENT(2, 2, 0, 3, 0);
+    EVENT(1, 3, 0, 4, 1, 0, 1, 1);
+    EVENT(2, 3, 3, 3, 0);
+}
+
+static void not_a_desk(void)
+{
+    before = now;
+    size_t answered = tendrilhook_event(now.segment, sizeof now.segment - 1, now.blocks, sizeof now.blocks, now.buffers, sizeof now.buffers,
+                                        now.answer, sizeof now.answer, (const uint8_t[]){ 9, 0 }, 2);
+    refused(29, "a segment that is a byte too short", answered == 0 ? TENDRILHOOK_UNSOUND : 0, 0);
+    now.segment[1] ^= 1;
+    BAD(29, "a segment with a bit changed", 9, 0);
+    now.segment[1] ^= 1;
+}
+
+static void not_an_event(void)
+{
+    size_t length = 1;
+    before = now;
+    refused(43, "load: a text that is not a sheet", tendrilhook_load(DESK, 4, (const uint8_t *)"no sheet\n", 9), 0);
+    refused(44, "save: an output of ten bytes", tendrilhook_save(DESK, 0, now.output, 10, &length), 0);
+    faults += length != 0;
+}
+
+int main(void)
+{
+    prepare();
+    not_a_desk();
+    BAD(30, "0300: a read that is cut off", 3, 0);
+    BAD(31, "0305000004: a read from file 5, which is not built", 3, 5, 0, 0, 4);
+    BAD(32, "0300050004: a read by accessor 5, which is not open", 3, 0, 5, 0, 4);
+    BAD(33, "0400000000: a write while one waits", 4, 0, 0, 0, 0);
+    BAD(34, "0400010000: a write by a reader", 4, 0, 1, 0, 0);
+    BAD(35, "0300010083: a read of 131 words", 3, 0, 1, 0, 131);
+    BAD(38, "0101008001000E01: a build of more than 2,048 words", 1, 1, 0, 128, 1, 0, 14, 1);
+    BAD(39, "060001: a collect of nothing", 6, 0, 1);
+    BAD(40, "0200000100: a second reader of a file opened exclusive", 2, 0, 0, 1, 0);
+    BAD(41, "0202000300: a ninth accessor", 2, 2, 0, 3, 0);
+    BAD(42, "0203030300: a writer without room for its open record", 2, 3, 3, 3, 0);
+    not_an_event();
+    return faults == 0 ? EXIT_SUCCESS : EXIT_FAILURE;
+}

@@ -1,0 +1,116 @@
+/* examples/shared.h, in C99 with POSIX. */
+#define _POSIX_C_SOURCE 200809L
+#include "shared.h"
+
+#include <errno.h>
+#include <fcntl.h>
+#include <stdio.h>
+#include <stdlib.h>
+#include <sys/mman.h>
+#include <unistd.h>
+
+enum { OPEN = 2, CLOSE = 7 };
+
+struct shared *shared;
+uint8_t *shared_buffers;
+static int self, generation;
+
+#define DESK shared->segment, sizeof shared->segment, shared->blocks, sizeof shared->blocks, shared_buffers, (size_t)TENDRILHOOK_BUFFERS_BYTES
+
+int shared_attach(const char *name, int number)
+{
+    int memory = shm_open(name, O_RDWR, 0);
+    if (memory < 0) return errno;
+    void *at = mmap(NULL, 2 * SHARED_ROOM, PROT_READ | PROT_WRITE, MAP_SHARED, memory, 0);
+    close(memory);
+    if (at == MAP_FAILED) return errno;
+    shared = at;
+    shared_buffers = (uint8_t *)at + SHARED_ROOM;
+    self = number;
+    generation = shared->generation;
+    return 0;
+}
+
+int shared_make(const char *name)
+{
+    pthread_mutexattr_t kind;
+    int memory = shm_open(name, O_RDWR | O_CREAT | O_EXCL, 0600);
+    if (memory < 0) return errno;
+    int error = ftruncate(memory, 2 * SHARED_ROOM) == 0 ? shared_attach(name, SHARED_NOBODY) : errno;
+    close(memory);
+    if (error == 0) error = pthread_mutexattr_init(&kind);
+    if (error == 0) error = pthread_mutexattr_setpshared(&kind, PTHREAD_PROCESS_SHARED);
+    if (error == 0) error = pthread_mutexattr_setrobust(&kind, PTHREAD_MUTEX_ROBUST);
+    if (error == 0) error = pthread_mutex_init(&shared->lock, &kind);
+    if (error == 0) return tendrilhook_fresh(DESK);
+    shm_unlink(name);
+    return error;
+}
+
+void shared_adopt(void)
+{
+    generation = shared->generation;
+}
+
+/* If the last owner died, `busy` tells where: between calls the desk is whole; within one it is changed as far as the call came, and nobody may trust it. */
+static void take(void)
+{
+    int error = pthread_mutex_lock(&shared->lock);
+    if (error == EOWNERDEAD) {
+        if (shared->busy) shared->broken = 1;
+        error = pthread_mutex_consistent(&shared->lock);
+    }
+    if (error != 0) abort();
+}
+
+static void give(void)
+{
+    pthread_mutex_unlock(&shared->lock);
+}
+
+/* Changed while `busy` is set, as the desk is: so the two agree wherever `broken` is not. */
+static void note_owner(const uint8_t *frame, const uint8_t *answer)
+{
+    if (answer[1] != TENDRILHOOK_DONE) return;
+    if (frame[0] == OPEN) shared->owner[frame[1]][answer[2]] = self;
+    if (frame[0] == CLOSE) shared->owner[frame[1]][frame[2]] = SHARED_NOBODY;
+}
+
+int shared_event(const uint8_t *frame, size_t frame_length, uint8_t *answer, size_t *length)
+{
+    *length = 0;
+    take();
+    if (!shared->broken && generation == shared->generation) {
+        shared->busy = 1;
+        *length = tendrilhook_event(DESK, answer, TENDRILHOOK_ANSWER_BYTES, frame, frame_length);
+        if (*length != 0) note_owner(frame, answer);
+        shared->busy = 0;
+    }
+    give();
+    return *length == 0 ? TENDRILHOOK_UNSOUND : answer[1];
+}
+
+/* Save changes nothing of the desk, so a process that dies within it leaves it whole. */
+int shared_save(size_t file, uint8_t *sheet, size_t *length)
+{
+    *length = 0;
+    take();
+    int status = shared->broken ? TENDRILHOOK_UNSOUND : tendrilhook_save(DESK, file, sheet, TENDRILHOOK_SHEET_BYTES, length);
+    give();
+    return status;
+}
+
+int shared_renew(size_t files, uint8_t (*sheets)[TENDRILHOOK_SHEET_BYTES], const size_t *lengths)
+{
+    take();
+    shared->busy = 1;
+    int status = tendrilhook_fresh(DESK);
+    for (size_t file = 0; file < files && status == TENDRILHOOK_DONE; file++) status = tendrilhook_load(DESK, file, sheets[file], lengths[file]);
+    for (int file = 0; file < SHARED_FILES; file++)
+        for (int place = 0; place < SHARED_PLACES; place++) shared->owner[file][place] = SHARED_NOBODY;
+    generation = ++shared->generation;
+    shared->broken = status != TENDRILHOOK_DONE;
+    shared->busy = 0;
+    give();
+    return status;
+}

@@ -1,0 +1,432 @@
+/*
+ * A host as one writes it: three stages of a chain, each a process, a desk that they share (shared.h), and a scheduler.
+ *
+ *     model  --> file 0 -->  regrid  --> file 1 -->  plot
+ *
+ * The scheduler lets time pass, and sees to what a dead stage left:
+ *
+ *   - killed between calls, its accessors are open. The scheduler closes them, and another process goes on;
+ *   - killed within a call, the desk is changed as far as the call came. Nobody may trust it: the scheduler makes another from the last sheets.
+ *
+ * examples/stages.out is what it prints.
+ */
+#define _POSIX_C_SOURCE 200809L
+#include "shared.h"
+
+#include <poll.h>
+#include <signal.h>
+#include <stdio.h>
+#include <stdlib.h>
+#include <string.h>
+#include <sys/mman.h>
+#include <sys/wait.h>
+#include <time.h>
+#include <unistd.h>
+
+enum { BUILD = 1, OPEN, READ, WRITE, CONTROL, COLLECT, CLOSE, TIME };
+enum { TO_READ = 0, TO_APPEND = 3, EXCLUSIVE = 1, TIMEOUT = 4, KEEP = 47 };
+/* A stage reads the file of the number before its own, and writes that of its own number. */
+enum { MODEL = 1, REGRID, PLOT, LAST = PLOT, SCHEDULER };
+enum { FILES = 2, RECORDS = 200, MOST_DATA = 16 };
+
+static const char *const names[] = { "", "model", "regrid", "plot", "scheduler" };
+static char room[64];
+
+/* This process: who it is, its accessors, and the last answer. */
+static int self = SCHEDULER, from, to;
+static uint8_t answer[TENDRILHOOK_ANSWER_BYTES];
+static size_t answered;
+
+static void die(const char *why)
+{
+    fprintf(stderr, "stages: %s: %s\n", names[self], why);
+    if (self == SCHEDULER) shm_unlink(room);
+    exit(EXIT_FAILURE);
+}
+
+static const char *in_words(int status)
+{
+    switch (status) {
+    case TENDRILHOOK_DONE: return "done";
+    case TENDRILHOOK_WAITING: return "waiting";
+    case TENDRILHOOK_END_OF_FILE: return "end of file";
+    case TENDRILHOOK_UNSOUND: return "refused: the desk cannot be trusted, or is another";
+    case TENDRILHOOK_OUTSTANDING: return "refused: a request is outstanding";
+    default: return "";
+    }
+}
+
+static int say(const char *what, int status)
+{
+    printf("%-10s%-46s-> %2d %s\n", names[self], what, status, in_words(status));
+    return status;
+}
+
+/* ---- Events. ---- */
+
+#define EVENT(...) shared_event((const uint8_t[]){ __VA_ARGS__ }, sizeof(const uint8_t[]){ __VA_ARGS__ }, answer, &answered)
+
+static uint8_t low(int number) { return (uint8_t)(number & 255); }
+
+static int open_file(int file, int access)
+{
+    if (EVENT(OPEN, low(file), low(access), EXCLUSIVE, 0) != TENDRILHOOK_DONE) die("cannot open");
+    return answer[2];
+}
+
+static int read_record(void)
+{
+    return EVENT(READ, low(self - 2), low(from), 0xFF, low(-MOST_DATA));
+}
+
+static int write_record(const void *data, size_t length)
+{
+    uint8_t frame[5 + MOST_DATA] = { WRITE, low(self - 1), low(to), 0xFF, low(-(int)length) };
+    memcpy(frame + 5, data, length);
+    return shared_event(frame, 5 + length, answer, &answered);
+}
+
+/* A request that waits is collected, again and again: meanwhile other stages call, and time passes. */
+static int outcome(int file, int accessor, int status)
+{
+    while (status == TENDRILHOOK_WAITING) {
+        nanosleep(&(struct timespec){ .tv_nsec = 200000 }, NULL);
+        status = EVENT(COLLECT, low(file), low(accessor));
+    }
+    return status;
+}
+
+/* The record that the last answer brought, as text. */
+static const char *record(void)
+{
+    static char text[MOST_DATA + 1];
+    snprintf(text, sizeof text, "%.*s", (int)answered - 4, (const char *)answer + 4);
+    return text;
+}
+
+/* ---- The stages. ---- */
+
+static void open_all(void)
+{
+    shared_adopt();
+    if (self != MODEL) from = open_file(self - 2, TO_READ);
+    if (self != PLOT) to = open_file(self - 1, TO_APPEND);
+    if (self == PLOT) EVENT(CONTROL, low(self - 2), low(from), TIMEOUT, 0, 3);
+}
+
+static void close_all(void)
+{
+    if (self != MODEL) EVENT(CLOSE, low(self - 2), low(from));
+    if (self != PLOT) EVENT(CLOSE, low(self - 1), low(to));
+}
+
+/* Whether there is one more record for this stage. A read that timed out is made again. */
+static int next_record(void)
+{
+    int status;
+    do status = outcome(self - 2, from, read_record());
+    while (status == TENDRILHOOK_TIMED_OUT);
+    return status == TENDRILHOOK_DONE;
+}
+
+static void hand_on(const void *data, size_t length)
+{
+    if (outcome(self - 1, to, write_record(data, length)) != TENDRILHOOK_DONE) die("a record was not taken");
+}
+
+/* The work of each stage, to its end: how many records it moved. */
+static int work(void)
+{
+    char text[MOST_DATA];
+    int moved = 0;
+    for (; self == MODEL && moved < RECORDS; moved++) hand_on(text, (size_t)snprintf(text, sizeof text, "step %d", moved));
+    for (; self == REGRID && next_record(); moved++) {
+        memcpy(text, answer + 4, answered - 4);
+        hand_on(text, answered - 4);
+    }
+    for (; self == PLOT && next_record(); moved++) {
+        snprintf(text, sizeof text, "step %d", moved);
+        if (strcmp(record(), text) != 0) die("a record is out of its order");
+    }
+    close_all();
+    return moved;
+}
+
+/* Model writes its forecast of these hours, and does not wait where the file is full. */
+static void forecast(int hours)
+{
+    char text[32], what[64];
+    snprintf(text, sizeof text, "t850 +%dh", hours);
+    snprintf(what, sizeof what, "writes \"%s\" to file 0", text);
+    say(what, write_record(text, strlen(text)));
+}
+
+/* Regrid reads a record that stays in the file (control 47) until it is handed on: if regrid dies in between, its successor finds it. */
+static void peek(void)
+{
+    char what[64];
+    EVENT(CONTROL, low(self - 2), low(from), KEEP, 0, 1);
+    int status = read_record();
+    snprintf(what, sizeof what, "reads \"%s\" from file 0, where it stays", record());
+    say(what, status);
+}
+
+static void relay(void)
+{
+    peek();
+    say("hands it on to file 1", write_record(answer + 4, answered - 4));
+    say("and takes it out of file 0", read_record());
+}
+
+static void collect(void)
+{
+    if (say("collects", EVENT(COLLECT, low(self - 2), low(from))) == TENDRILHOOK_DONE) printf("%10s\"%s\"\n", "", record());
+}
+
+static void show_all(void)
+{
+    while (next_record()) printf("%-10sgets \"%s\"\n", names[self], record());
+    close_all();
+}
+
+static void killed(int number)
+{
+    (void)number;
+    kill(getpid(), SIGKILL);
+}
+
+/* The record buffers are made read-only for this process, so that its first store into them stops the call in its midst; there it is killed. */
+static void die_within_close(void)
+{
+    struct sigaction action = { .sa_handler = killed };
+    sigaction(SIGSEGV, &action, NULL);
+    mprotect(shared_buffers, SHARED_ROOM, PROT_READ);
+    close_all();
+    die("it should be dead");
+}
+
+/* What the scheduler can order, with a number; what is reported is a number too. */
+enum { TO_OPEN, TO_CLOSE, TO_WORK, TO_FORECAST, TO_PEEK, TO_RELAY, TO_ASK, TO_COLLECT, TO_SHOW, TO_DIE };
+
+static int obey(const int *order)
+{
+    switch (order[0]) {
+    case TO_OPEN: open_all(); break;
+    case TO_CLOSE: close_all(); break;
+    case TO_WORK: return work();
+    case TO_FORECAST: forecast(order[1]); break;
+    case TO_PEEK: peek(); break;
+    case TO_RELAY: relay(); break;
+    case TO_ASK: say("reads", read_record()); break;
+    case TO_COLLECT: collect(); break;
+    case TO_SHOW: show_all(); break;
+    case TO_DIE: die_within_close(); break;
+    }
+    return 0;
+}
+
+/* ---- The scheduler. ---- */
+
+static struct stage {
+    pid_t pid;
+    int orders, reports;
+} stages[SCHEDULER];
+
+static uint8_t sheets[FILES][TENDRILHOOK_SHEET_BYTES];
+static size_t lengths[FILES];
+
+/* A stage ends when nobody can give it orders any more. */
+static void hang_up(int which)
+{
+    if (stages[which].pid == 0) return;
+    close(stages[which].orders);
+    close(stages[which].reports);
+    stages[which].pid = 0;
+}
+
+static void stage(int which, int orders, int reports)
+{
+    int order[2], report;
+    self = which;
+    if (shared_attach(room, self) != 0) die("no shared memory");
+    while (read(orders, order, sizeof order) == sizeof order) {
+        report = obey(order);
+        if (write(reports, &report, sizeof report) != sizeof report) break;
+    }
+    exit(EXIT_SUCCESS);
+}
+
+static void start(int which)
+{
+    int orders[2], reports[2];
+    if (pipe(orders) != 0 || pipe(reports) != 0) die("no pipes");
+    pid_t pid = fork();
+    if (pid < 0) die("no process");
+    if (pid == 0) {
+        for (int other = MODEL; other <= LAST; other++) hang_up(other);
+        close(orders[1]);
+        close(reports[0]);
+        stage(which, orders[0], reports[1]);
+    }
+    close(orders[0]);
+    close(reports[1]);
+    stages[which] = (struct stage){ pid, orders[1], reports[0] };
+}
+
+static void order(int which, int what, int number)
+{
+    if (write(stages[which].orders, (const int[]){ what, number }, 2 * sizeof(int)) != 2 * sizeof(int)) die("a stage takes no orders");
+}
+
+/* What the stage reports; below 0 where it died. */
+static int report(int which)
+{
+    int number;
+    return read(stages[which].reports, &number, sizeof number) == sizeof number ? number : -1;
+}
+
+static void tell(int which, int what, int number)
+{
+    order(which, what, number);
+    if (report(which) < 0) die("a stage died");
+}
+
+static void tell_all(int what)
+{
+    for (int which = MODEL; which <= LAST; which++) tell(which, what, 0);
+}
+
+/* The stages work at once, and meanwhile a second passes again and again. */
+static void at_once(int model, int regrid, int plot, int *reports)
+{
+    struct pollfd done[SCHEDULER] = { { .fd = -1 } };
+    const int orders[] = { 0, model, regrid, plot };
+    int left = LAST;
+    for (int which = MODEL; which <= LAST; which++) {
+        done[which] = (struct pollfd){ .fd = stages[which].reports, .events = POLLIN };
+        order(which, orders[which], 0);
+    }
+    while (left > 0) {
+        poll(done, SCHEDULER, 1);
+        for (int which = MODEL; which <= LAST; which++) {
+            if (done[which].fd < 0 || done[which].revents == 0) continue;
+            if ((reports[which] = report(which)) < 0) die("a stage died");
+            done[which].fd = -1;
+            left--;
+        }
+        if (EVENT(TIME, 0, 1) != TENDRILHOOK_DONE) die("time does not pass");
+    }
+}
+
+static void bury(int which)
+{
+    int status;
+    waitpid(stages[which].pid, &status, 0);
+    hang_up(which);
+    printf("%-10s%s\n", names[which], WIFSIGNALED(status) && WTERMSIG(status) == SIGKILL ? "was killed" : "has gone");
+}
+
+/* What a dead stage had open is closed for it. A request of it that is done has to be collected first. */
+static void close_for(int which)
+{
+    for (int file = 0; file < FILES; file++)
+        for (int place = 0; place < SHARED_PLACES; place++) {
+            char what[64];
+            if (shared->owner[file][place] != which) continue;
+            snprintf(what, sizeof what, "closes file %d for %s", file, names[which]);
+            if (say(what, EVENT(CLOSE, low(file), low(place))) != TENDRILHOOK_OUTSTANDING) continue;
+            say("collects for it", EVENT(COLLECT, low(file), low(place)));
+            printf("%10s\"%s\" comes back to the host\n", "", record());
+            say(what, EVENT(CLOSE, low(file), low(place)));
+        }
+}
+
+static void kill_between_calls(int which)
+{
+    kill(stages[which].pid, SIGKILL);
+    bury(which);
+    close_for(which);
+    start(which);
+    tell(which, TO_OPEN, 0);
+}
+
+/* The scheduler keeps the sheets where no stage can reach them; on a disk they outlast it too. */
+static void save_all(void)
+{
+    for (size_t file = 0; file < FILES; file++) {
+        char what[64];
+        snprintf(what, sizeof what, "saves file %zu", file);
+        say(what, shared_save(file, sheets[file], &lengths[file]));
+        fwrite(sheets[file], 1, lengths[file], stdout);
+    }
+}
+
+/* What the library says of such memories. Here the write's request is gone and its data are not, which no desk has, so it is 29. It need not be: a call
+   that came less far can leave a desk, but not one that the calls so far lead to. */
+static void ask_library(void)
+{
+    static uint8_t sheet[TENDRILHOOK_SHEET_BYTES];
+    size_t length;
+    say("saves file 0, by the library itself", tendrilhook_save(shared->segment, sizeof shared->segment, shared->blocks, sizeof shared->blocks,
+                                                              shared_buffers, TENDRILHOOK_BUFFERS_BYTES, 0, sheet, sizeof sheet, &length));
+}
+
+int main(void)
+{
+    int moved[SCHEDULER];
+    setvbuf(stdout, NULL, _IOLBF, 0);
+    signal(SIGPIPE, SIG_IGN);
+    snprintf(room, sizeof room, "/tendrilhook-stages-%ld", (long)getpid());
+    if (shared_make(room) != 0) die("no shared memory, or no robust mutexes");
+    /* Records of 8 words, 2 to a block, room for 4 and for the records of an open and a close. */
+    say("builds file 0", EVENT(BUILD, 0, 0, 8, 2, 0, 4, 1));
+    say("builds file 1", EVENT(BUILD, 1, 0, 8, 2, 0, 4, 1));
+    for (int which = MODEL; which <= LAST; which++) start(which);
+
+    printf("\nThree stages at once, and time that passes.\n");
+    tell_all(TO_OPEN);
+    at_once(TO_WORK, TO_WORK, TO_WORK, moved);
+    for (int which = MODEL; which <= LAST; which++) printf("%-10s%d records, in order\n", names[which], moved[which]);
+
+    printf("\nRegrid is killed between two calls: it has read a record and not handed it on.\n");
+    tell_all(TO_OPEN);
+    tell(PLOT, TO_ASK, 0);
+    tell(MODEL, TO_FORECAST, 6);
+    tell(MODEL, TO_FORECAST, 12);
+    tell(REGRID, TO_PEEK, 0);
+    kill_between_calls(REGRID);
+    tell(PLOT, TO_COLLECT, 0);
+    tell(PLOT, TO_ASK, 0);
+    tell(REGRID, TO_RELAY, 0);
+    tell(PLOT, TO_COLLECT, 0);
+
+    printf("\nPlot is killed between two calls: the outcome of its read lies there for it.\n");
+    tell(PLOT, TO_ASK, 0);
+    tell(REGRID, TO_RELAY, 0);
+    kill_between_calls(PLOT);
+
+    printf("\nModel is killed within a call: it closes file 0 while its write waits.\n");
+    tell(MODEL, TO_FORECAST, 18);
+    save_all();
+    for (int hours = 24; hours <= 48; hours += 6) tell(MODEL, TO_FORECAST, hours);
+    order(MODEL, TO_DIE, 0);
+    report(MODEL);
+    bury(MODEL);
+    tell(REGRID, TO_ASK, 0);
+    printf("%-10sfinds the desk %s\n", names[self], shared->broken ? "broken: a stage died within a call" : "whole");
+    ask_library();
+    say("makes another, from the last sheets", shared_renew(FILES, sheets, lengths));
+    tell(REGRID, TO_ASK, 0);
+
+    printf("\nAll open their files again, and go on behind the last sheets.\n");
+    start(MODEL);
+    tell_all(TO_OPEN);
+    for (int hours = 24; hours <= 36; hours += 6) tell(MODEL, TO_FORECAST, hours);
+    at_once(TO_CLOSE, TO_WORK, TO_SHOW, moved);
+    for (int which = MODEL; which <= LAST; which++) {
+        pid_t pid = stages[which].pid;
+        hang_up(which);
+        waitpid(pid, NULL, 0);
+    }
+    return shm_unlink(room) == 0 ? EXIT_SUCCESS : EXIT_FAILURE;
+}
