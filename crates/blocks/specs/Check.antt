@@ -4,7 +4,7 @@ use mathlib.Core.Bool.{Bool}
 use mathlib.Core.List.{List}
 use Rattle.words.specs.Word.{wordAt}
 use Rattle.shares.specs.Laid.{walk}
-use Rattle.blocks.specs.declared.layout.Span.{Span}
+use Rattle.ring.specs.declared.layout.Span.{Span}
 
 unfoldable pub laidAt : ℕ → List ℕ → Span → Bool
 laidAt words xs b = walk words xs (b .at + b .size) (b .at + 2 * wordAt xs (b .at + 2)) (b .at + 4) (wordAt xs (b .at))

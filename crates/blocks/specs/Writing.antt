@@ -8,8 +8,8 @@ use Rattle.words.specs.Word.{wordAt}
 use Rattle.rules.specs.State.{Rec}
 use Rattle.rules.specs.Store.{blockBytes, zeroed}
 use Rattle.shares.specs.Inscribed.{inscribedAt}
-use Rattle.blocks.specs.declared.ring.Ring.{Ring}
-use Rattle.blocks.specs.Ring.{geo, Fitted, Ranged, tail}
+use Rattle.ring.specs.declared.Ring.{Ring}
+use Rattle.ring.specs.Ring.{geo, Fitted, Ranged, tail}
 
 abbrev pub recOf : ℕ → ℕ → List ℕ → Rec
 recOf typ wid body = record { typ = typ; wid = wid; body = body }

@@ -1,18 +1,18 @@
 // Whether a share holds a file's records: one walk over the blocks that hold any. Nothing is changed.
-use crate::layout::BLOCK_HEAD;
-use crate::layout::DATA;
-use crate::layout::FOLLOW;
-use crate::layout::ID;
-use crate::layout::RECORD_HEAD;
-use crate::layout::Span;
-use crate::layout::TYPE;
-use crate::layout::USED;
-use crate::layout::block_span;
 use crate::quick::whole;
-use crate::reading::next;
-use crate::ring::Ring;
-use crate::ring::wrapped;
 use kinds::limits::MOST_TYPE;
+use kinds::records::DATA;
+use records::reading::next;
+use ring::Ring;
+use ring::layout::BLOCK_HEAD;
+use ring::layout::FOLLOW;
+use ring::layout::ID;
+use ring::layout::RECORD_HEAD;
+use ring::layout::Span;
+use ring::layout::TYPE;
+use ring::layout::USED;
+use ring::layout::block_span;
+use ring::wrapped;
 ghost use mathlib.Core.Path.{_≡_};
 ghost use mathlib.Core.Bool.{_&&_, _||_};
 ghost use Prim.Native.Nat.{_+_, _*_, _≤_, _<_, min};
@@ -22,7 +22,7 @@ ghost use Rattle.words.specs.Word.{wordAt};
 ghost use Rattle.rules.specs.Limits.{mostWords, shareBytes};
 ghost use Rattle.shares.specs.Laid.{fair, walk};
 ghost use Rattle.shares.specs.Sound.{sweep, sound};
-ghost use Rattle.blocks.specs.Ring.{geo, Fitted};
+ghost use Rattle.ring.specs.Ring.{geo, Fitted};
 ghost use Rattle.blocks.specs.Check.{laidAt};
 
 // Whether a proper record with at most `words` words of data stands at p, whole before e.

@@ -1,14 +1,14 @@
 // The blocks memory: eight shares, that of a file from 4,096 × file on.
-use crate::ring::Ring;
 use crate::writing::put;
 use kinds::limits::SHARE_BYTES;
+use ring::Ring;
 ghost use mathlib.Core.Path.{_≡_};
 ghost use Prim.Native.Nat.{_*_, _<_};
 ghost use lib.ListN.{length};
 ghost use lib.Seq.{sets};
 ghost use Rattle.words.specs.Word.{zeros};
 ghost use Rattle.rules.specs.Limits.{files, shareBytes};
-ghost use Rattle.blocks.specs.Ring as spec;
+ghost use Rattle.ring.specs.Ring as spec;
 ghost use Rattle.blocks.specs.Writing.{recOf, Ready, inscribed};
 ghost use Rattle.blocks.specs.Memory.{blocksBytes, shareAt};
 

@@ -1,10 +1,10 @@
 // The quick way over records of the full size, of which a file in steady use has most. Where such a record ends follows from the geometry, so the next one is
 // read before this one's head has come, where `next` waits for it. `whole-fair` (proofs/quick/Laws.antt): the plain test takes the record, and goes on there.
-use crate::layout::DATA;
-use crate::layout::FOLLOW;
-use crate::layout::ID;
-use crate::layout::RECORD_HEAD;
-use crate::layout::TYPE;
+use kinds::records::DATA;
+use ring::layout::FOLLOW;
+use ring::layout::ID;
+use ring::layout::RECORD_HEAD;
+use ring::layout::TYPE;
 ghost use mathlib.Core.Path.{_≡_};
 ghost use mathlib.Core.Bool.{true};
 ghost use Prim.Native.Nat.{_+_, _*_, _≤_};

@@ -1,21 +1,21 @@
 // A record put: its block is begun where it is the first there, and the rest of the block is lent on to the record's writer.
-use crate::layout::BLOCK_HEAD;
-use crate::layout::BLOCK_HEAD_WORDS;
-use crate::layout::FOLLOW;
-use crate::layout::ID;
-use crate::layout::RECORD_HEAD;
-use crate::layout::RECORD_HEAD_WORDS;
-use crate::layout::TYPE;
-use crate::layout::USED;
-use crate::layout::block_span;
-use crate::ring::Ring;
+use ring::Ring;
+use ring::layout::BLOCK_HEAD;
+use ring::layout::BLOCK_HEAD_WORDS;
+use ring::layout::FOLLOW;
+use ring::layout::ID;
+use ring::layout::RECORD_HEAD;
+use ring::layout::RECORD_HEAD_WORDS;
+use ring::layout::TYPE;
+use ring::layout::USED;
+use ring::layout::block_span;
 ghost use mathlib.Core.Path.{_≡_};
 ghost use Prim.Native.Nat.{_+_, _*_, _%_, _≤_};
 ghost use lib.ListN.{length};
 ghost use lib.Seq.{sets};
 ghost use Rattle.rules.specs.Limits.{shareBytes};
 ghost use Rattle.rules.specs.Store.{pad, recordBytes, added};
-ghost use Rattle.blocks.specs.Ring as spec;
+ghost use Rattle.ring.specs.Ring as spec;
 ghost use Rattle.blocks.specs.Writing.{recOf, recordSize, begun, Roomy, Ready, inscribed};
 
 // "padded with one zero byte if odd"

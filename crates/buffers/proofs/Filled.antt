@@ -1,8 +1,8 @@
 -- Laws of the bytes of a buffer: how they are written, and that they are the rules'.
 use Prim.Native.Nat.{ℕ, _+_, _-_, _≤_}
 use mathlib.Core.Path.{_≡_, refl, sym, ap, _∙_}
-use mathlib.Core.List.{List, [], _++_}
-use mathlib.Core.Option.{none, some}
+use mathlib.Core.List.{List, _++_}
+use mathlib.Core.Option.{some}
 use native.Mathlib.Omega.{arith}
 use lib.ListN.{length, length-append}
 use lib.Seq.{sets}
@@ -37,12 +37,3 @@ clear-written x₀ x₁ n e = e ∙ sets-whole x₀ (zeros bufferBytes) (length-
 pub buffer-some : (a : Acc) → buffer (some a) ≡ filled (lies (a .req))
 unfolding buffer filled
 buffer-some a = refl
-
-pub buffer-none : buffer none ≡ zeros bufferBytes
-unfolding buffer
-buffer-none = refl
-
--- nothing lies there
-pub filled-none : filled [] ≡ zeros bufferBytes
-unfolding filled
-filled-none = refl

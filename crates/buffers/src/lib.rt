@@ -1,5 +1,5 @@
 // Record buffers: a completed read's record, or a waiting write's data, lies at the start of one, and all behind it is zero.
-// Place i of the desk, 8 × file + accessor, has the bytes from 260 × i on of the lent memory.
+// Place i of the desk, 8 × file + accessor, has the i-th of the lent memory.
 ghost use mathlib.Core.Path.{_≡_};
 ghost use Prim.Native.Nat.{_*_, _≤_, _<_};
 ghost use lib.ListN.{length, take};

@@ -12,7 +12,7 @@ use Rattle.rules.specs.State.{Req, idle, reading, writing, readDone, writeDone,
 use Rattle.rules.specs.Requests.{accAt, withReq, withAccs, withQueues, withTimers, alterAcc, say, requeue, leave, cancel}
 use Rattle.rules.specs.Settle.{settle}
 use Rattle.rules.specs.Close.{closed}
-use Rattle.rules.specs.Reply.{answers, Out, leaves, done}
+use Rattle.rules.specs.Reply.{answers, Out, leaves, answering}
 use Rattle.rules.specs.Calls.{ask}
 use Rattle.rules.specs.Calls as calls
 use Rattle.rules.specs.Desk.{Desk, on, fileOf, answered}
@@ -26,15 +26,14 @@ use Rattle.laws.proofs.Accessors.{getD-alter-same}
 use Rattle.memory.specs.Fine.{Fine, StandsFor}
 use Rattle.midst.specs.declared.File as hand
 use Rattle.midst.specs.File.{fileOfRow}
-use Rattle.midst.specs.Mid.{Start, Mid}
+use Rattle.midst.specs.Mid.{Start, Mid, start}
 use Rattle.midst.specs.Outcome.{refusalOf, Outcome, Done}
 use Rattle.midst.specs.Accepted.{CloseKnown, Accepted}
 use Rattle.midst.proofs.Begins.{mid-begin}
 use Rattle.midst.proofs.Changes.{mid-below}
 use Rattle.midst.proofs.Accepted.{accepted-close}
-use Rattle.judges.specs.Requests.{queueOf, outstandingAt, outstandingOf}
+use Rattle.accessors.specs.Outstanding.{queueOf, outstandingAt, outstandingOf}
 use Rattle.controls.specs.Removed.{isWaiting, emptied}
-use Rattle.controls.proofs.Stood.{start}
 use Rattle.controls.proofs.Cancels.{waiting-awaits, waits-is, removable, removed}
 
 -- no request, or one that waits
@@ -66,7 +65,7 @@ pub record Cleared (f p : ℕ) (o : Start) (xs blocks buffers : List ℕ) (x : h
   pub mid : Mid Fine f o xs blocks buffers x file
   pub at : accAt file p ≡ some acc
   pub still : acc .req ≡ idle
-  pub comes : out ≡ done Closed (settle (closed p acc file))
+  pub comes : out ≡ answering Closed (settle (closed p acc file))
 
 module _ {xs blocks buffers : List ℕ} {d : Desk} {s : Alloc} (S : StandsFor xs blocks buffers d s) (f p : ℕ) (r : refusalOf (answered d (on f (calls.close p)) .reply) ≡ 0) where
   pub close-size : (length xs ≡ segmentBytes) × (length buffers ≡ buffersBytes) × (f < files) × (p < places)
@@ -106,7 +105,7 @@ module _ {xs blocks buffers : List ℕ} {d : Desk} {s : Alloc} (S : StandsFor xs
               mid = removed M p (A .known .a) (A .known .at) side k e xs′ buffers′ y z;
               at = cancel-at p (A .known .a) (A .b) (A .known .at);
               still = cancel-still (A .known .a);
-              comes = A .known .waits (waiting-awaits (A .known .a .req) (waits true e)) ∙ ap (λ (c : Built). done Closed (settle c)) (cancel-closed p (A .known .a) (cancel p (A .b)));
+              comes = A .known .waits (waiting-awaits (A .known .a .req) (waits true e)) ∙ ap (λ (c : Built). answering Closed (settle c)) (cancel-closed p (A .known .a) (cancel p (A .b)));
             }
         go false e y z =
             record {
@@ -122,6 +121,6 @@ module _ {xs blocks buffers : List ℕ} {d : Desk} {s : Alloc} (S : StandsFor xs
 pub close-done : {f p : ℕ} {d : Desk} {s : Alloc} {blocks buffers xs′ blocks′ buffers′ : List ℕ} {x : hand.File} {out : Out} {ys bs : List ℕ}
     (C : Cleared f p (start d s blocks buffers) ys blocks bs x out)
     → Outcome f d s (leaves (answers Closed []) (settle (closed p (C .acc) (C .file)))) blocks buffers xs′ blocks′ buffers′ → Done f d s out blocks buffers xs′ blocks′ buffers′ Closed
-unfolding done leaves
+unfolding answering leaves
 close-done {f} {p} {d} {s} {blocks} {buffers} {xs′} {blocks′} {buffers′} C O =
     subst (λ (y : Out). Done f d s y blocks buffers xs′ blocks′ buffers′ Closed) (sym (C .comes)) (record { outcome = O; reply = refl })

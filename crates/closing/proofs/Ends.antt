@@ -12,12 +12,12 @@ use Rattle.rules.specs.Requests.{writers}
 use Rattle.rules.specs.Close.{endReaders, lastGone}
 use Rattle.rules.proofs.Split.{pick-true, pick-false}
 use Rattle.segment.specs.declared.PlaceRow.{PlaceRow}
-use Rattle.segment.specs.Layout.{linkAt, readQueue, segmentWords, segmentBytes}
+use Rattle.segment.specs.Layout.{linkAt, fileRows, segmentWords, segmentBytes, deskPlaces}
 use Rattle.segment.specs.Table.{nth}
 use Rattle.segment.specs.Fields.{entryAt, placeAt}
-use Rattle.requests.specs.Moves.{entryOf, completed}
-use Rattle.judges.specs.Sides.{countSide}
-use Rattle.judges.proofs.Counted.{count-writers}
+use Rattle.requests.specs.Moves.{completed}
+use Rattle.accessors.specs.Sides.{countSide}
+use Rattle.accessors.proofs.Counted.{count-writers}
 use Rattle.midst.specs.declared.File as hand
 use Rattle.midst.specs.Mid.{Start, Mid}
 use Rattle.midst.proofs.Begins.{mid-lengths, mid-row}
@@ -25,20 +25,16 @@ use Rattle.midst.proofs.Walks.{Owed}
 use Rattle.closing.specs.Walk.{endWords, Walk}
 use Rattle.closing.specs.Leaving.{Gone, Stops, Walked}
 use Rattle.closing.proofs.Walks.{walk-slot, walk-size, walk-next}
-use Rattle.closing.proofs.Passes.{next-place, next-found, next-kept, next-ended}
+use Rattle.closing.proofs.Passes.{next-place, next-kept, next-ended}
 
 -- the walk stands at an entry
 
-module _ (f : ℕ) (xs : List ℕ) (slot e : ℕ) where
-  pub stop-size : Stops f xs slot e → (length xs ≡ segmentBytes) × (f < files)
-  stop-size ((n, blocks, buffers, x, o, b, left, W), h, k) = (walk-size W, W .mid .file)
+module _ (xs : List ℕ) (slot e : ℕ) where
+  pub stop-size : Stops xs slot e → (length xs ≡ segmentBytes) × (slot < fileRows)
+  stop-size ((n, f, blocks, buffers, x, o, b, left, W), h, k) = (walk-size W, walk-slot W)
 
-  module _ (p : ℕ) (at : p ≡ entryAt xs e .place) where
-    pub stop-place : Stops f xs slot e → p < 64
-    stop-place ((n, blocks, buffers, x, o, b, left, W), h, k) = rw at (next-place W e (walk-next W e h k))
-
-    pub stop-found : Stops f xs slot e → entryOf xs (readQueue f) p < entries
-    stop-found ((n, blocks, buffers, x, o, b, left, W), h, k) = rw at (next-found W e (walk-next W e h k))
+  pub stop-place : (p : ℕ) → p ≡ entryAt xs e .place → Stops xs slot e → p < deskPlaces
+  stop-place p at ((n, f, blocks, buffers, x, o, b, left, W), h, k) = rw at (next-place W e (walk-next W e h k))
 
 module _ {n f : ℕ} {o : Start} {xs blocks buffers : List ℕ} {x : hand.File} {from : Built} {slot left : ℕ} (W : Walk (Owed n) f o xs blocks buffers x from slot left)
     (e : ℕ) (h : e ≡ nth xs slot) (k : e < entries) (p : ℕ) (at : p ≡ entryAt xs e .place) (row : PlaceRow) (is : row ≡ placeAt xs p) where
@@ -48,8 +44,8 @@ module _ {n f : ℕ} {o : Start} {xs blocks buffers : List ℕ} {x : hand.File} 
   pub stays : row .extended ≡ 1 → (r : ℕ) → r ≡ linkAt e → Walk (Owed n) f o xs blocks buffers x from r (left - 1)
   stays u r v = subst (λ (s : ℕ). Walk (Owed n) f o xs blocks buffers x from s (left - 1)) (sym v) (next-kept W e (walk-next W e h k) (sym extended-is ∙ u))
 
-  pub ends : (row .extended ≡ 1 → ⊥) → (xs′ : List ℕ) → xs′ ≡ completed xs (readQueue f) p (endWords p) → Walk (Owed n) f o xs′ blocks buffers x from slot (left - 1)
-  ends u xs′ v = next-ended W e (walk-next W e h k) (λ z. u (extended-is ∙ z)) xs′ (v ∙ ap (λ (i : ℕ). completed xs (readQueue f) i (endWords i)) at)
+  pub ends : (row .extended ≡ 1 → ⊥) → (xs′ : List ℕ) → xs′ ≡ completed xs slot p (endWords p) → Walk (Owed n) f o xs′ blocks buffers x from slot (left - 1)
+  ends u xs′ v = next-ended W e (walk-next W e h k) (λ z. u (extended-is ∙ z)) xs′ (v ∙ ap (λ (i : ℕ). completed xs slot i (endWords i)) at)
 
 -- the walk
 
@@ -57,8 +53,8 @@ module _ (f : ℕ) (xs₀ xs : List ℕ) (slot left : ℕ) (K : Walked f xs₀ x
   pub walked-size : Gone f xs₀ → (length xs ≡ segmentBytes) × (slot < segmentWords)
   walked-size (n, blocks, buffers, x, o, b, M) = let W = K n blocks buffers x o b M in (walk-size W, omega (arith, walk-slot W))
 
-  pub walked-stops : Gone f xs₀ → (e : ℕ) → e ≡ nth xs slot → e < entries → Stops f xs slot e
-  walked-stops (n, blocks, buffers, x, o, b, M) e h k = ((n, blocks, buffers, x, o, b, left, K n blocks buffers x o b M), h, k)
+  pub walked-stops : Gone f xs₀ → (e : ℕ) → e ≡ nth xs slot → e < entries → Stops xs slot e
+  walked-stops (n, blocks, buffers, x, o, b, M) e h k = ((n, f, blocks, buffers, x, o, b, left, K n blocks buffers x o b M), h, k)
 
 pub gone-size : (f : ℕ) (xs : List ℕ) → Gone f xs → (length xs ≡ segmentBytes) × (f < files)
 gone-size f xs (n, blocks, buffers, x, o, b, M) = (mid-lengths M, M .file)

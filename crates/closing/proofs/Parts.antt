@@ -7,7 +7,7 @@ use mathlib.Core.Option.{Option, some}
 use native.Mathlib.Omega.{arith}
 use lib.ListN.{length}
 use lib.Seq.{sets}
-use Rattle.tally.specs.Count.{bit}
+use Rattle.occurrences.specs.Count.{bit}
 use Rattle.rules.specs.Limits.{files, places, shareBytes}
 use Rattle.rules.specs.State.{idle, Acc, Built}
 use Rattle.rules.specs.Requests.{accAt, putRec}
@@ -17,11 +17,11 @@ use Rattle.rules.proofs.Split.{pick-true, pick-false}
 use Rattle.shares.proofs.Image.{recordWords-most}
 use Rattle.laws.proofs.Midst.{mid-walks}
 use Rattle.segment.specs.declared.PlaceRow.{PlaceRow}
-use Rattle.segment.specs.Layout.{rowAt, placeRow, segmentBytes}
+use Rattle.segment.specs.Layout.{segmentBytes, placeRowAt}
 use Rattle.segment.specs.Table.{fill}
 use Rattle.segment.specs.Fields.{placeWords, placeAt, placeRowOf}
-use Rattle.blocks.specs.declared.ring.Ring.{Ring}
-use Rattle.blocks.specs.Ring as ring
+use Rattle.ring.specs.declared.Ring.{Ring}
+use Rattle.ring.specs.Ring as ring
 use Rattle.blocks.specs.Writing.{recOf, Ready, inscribed}
 use Rattle.blocks.specs.Memory as code
 use Rattle.blocks.proofs.Held.{held-ready}
@@ -58,7 +58,7 @@ module _ {f : ℕ} {o : Start} {xs blocks buffers : List ℕ} {x : hand.File} {b
   leave-size = (mid-lengths M, M .file, mid-below M p a e)
 
   module _ (still : a .req ≡ idle) (row : PlaceRow) (is : row ≡ placeAt xs (places * f + p)) (xs′ : List ℕ)
-      (u : xs′ ≡ fill xs (rowAt (placeRow (places * f + p))) (placeWords (record { side = 0; id = 0; share = 0; timeout = 0; extended = 0; typed = 0; keep = 0; first = 0 }))) where
+      (u : xs′ ≡ fill xs (placeRowAt (places * f + p)) (placeWords (record { side = 0; id = 0; share = 0; timeout = 0; extended = 0; typed = 0; keep = 0; first = 0 }))) where
     row-is : row ≡ placeRowOf (image.placeWords (some a))
     unfolding placeOf
     row-is = is ∙ mid-place M p (mid-below M p a e) ∙ ap (λ (z : Option Acc). placeRowOf (image.placeWords z)) e

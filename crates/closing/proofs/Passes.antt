@@ -1,6 +1,6 @@
 -- The walk along the read queue: the reader at its slot waits on, or ends.
-use Prim.Native.Nat.{ℕ, _+_, _-_, _<_}
-use mathlib.Core.Path.{_≡_, refl, sym, ap, _∙_}
+use Prim.Native.Nat.{ℕ, _-_, _<_}
+use mathlib.Core.Path.{_≡_, refl, sym, ap, _∙_, subst}
 use mathlib.Core.Bool.{Bool, true, false, cond}
 use mathlib.Core.List.{List, [], _∷_, _++_, append-assoc}
 use mathlib.Core.Option.{Option, some}
@@ -9,9 +9,9 @@ use native.Mathlib.Decide.{ℕ-discrete}
 use borrow.Author.Tests.{eq-eqb, ne-eqb}
 use lib.Dec.{eqb}
 use lib.ListN.{length}
-use Rattle.tally.specs.Count.{bit, count}
-use Rattle.tally.proofs.Counts.{bit-eq, count-apart}
-use Rattle.rules.specs.Limits.{places, entries}
+use Rattle.occurrences.specs.Count.{bit, count}
+use Rattle.occurrences.proofs.Counts.{bit-eq, count-apart}
+use Rattle.rules.specs.Limits.{places}
 use Rattle.rules.specs.State.{Req, reading, readDone, ends, Acc, Built}
 use Rattle.rules.specs.Requests.{accAt, withAccs, withQueues, withTimers, alterAcc, say, without, requeue, leave, finish, failReq, fail}
 use Rattle.rules.specs.Close.{endReaders}
@@ -19,12 +19,11 @@ use Rattle.rules.specs.Memories.{lies}
 use Rattle.rules.specs.Allocation.{Alloc, placeOf, heldAt, ownEntry, endsAt, allot, allotAll}
 use Rattle.rules.proofs.Split.{pick-true, pick-false}
 use Rattle.segment.specs.declared.PlaceRow.{PlaceRow}
-use Rattle.segment.specs.Layout.{linkAt, readQueue}
-use Rattle.segment.specs.Fields.{entryOf, entryAt, placeAt, placeRowOf}
+use Rattle.segment.specs.Layout.{linkAt, readQueue, deskPlaces}
+use Rattle.segment.specs.Fields.{entryAt, placeAt, placeRowOf}
 use Rattle.ports.proofs.Chains.{slotAt}
 use Rattle.ports.proofs.Maps.{map-append, map-in}
 use Rattle.requests.specs.Moves.{completed}
-use Rattle.requests.specs.Moves as moves
 use Rattle.laws.specs.Outstanding.{waitsRead, waitsWrite}
 use Rattle.laws.specs.Changes.{readEnds}
 use Rattle.memory.specs.Image.{reqWords}
@@ -34,7 +33,7 @@ use Rattle.midst.specs.Mid.{Start, Mid}
 use Rattle.midst.proofs.Begins.{mid-place}
 use Rattle.midst.proofs.Changes.{Knows, keep, mid-below}
 use Rattle.midst.proofs.Lists.{entriesIn, place-under}
-use Rattle.midst.proofs.Requests.{step-finish-entry, step-finish}
+use Rattle.midst.proofs.Requests.{step-finish}
 use Rattle.midst.proofs.Cuts.{without-absent}
 use Rattle.midst.proofs.Terms.{ends-other, place-other}
 use Rattle.midst.proofs.Waits.{allot-snoc}
@@ -98,7 +97,7 @@ module _ {n f : ℕ} {o : Start} {xs blocks buffers : List ℕ} {x : hand.File} 
     below : N .place < places
     below = mid-below (W .mid) (N .place) (N .acc) (N .opens)
 
-    pub next-place : entryAt xs e .place < 64
+    pub next-place : entryAt xs e .place < deskPlaces
     next-place = rw (N .entry) (place-under f (N .place) (W .mid .file) below)
 
     extended-is : placeAt xs (entryAt xs e .place) .extended ≡ bit (N .acc .extended)
@@ -107,11 +106,8 @@ module _ {n f : ℕ} {o : Start} {xs blocks buffers : List ℕ} {x : hand.File} 
         ap (λ (r : PlaceRow). r .extended) (ap (placeAt xs) (N .entry) ∙ mid-place (W .mid) (N .place) below)
         ∙ ap (λ (z : Option Acc). placeRowOf (image.placeWords z) .extended) (N .opens)
 
-    pub next-found : moves.entryOf xs (readQueue f) (entryAt xs e .place) < entries
-    unfolding waitsRead waitsWrite
-    next-found =
-        rw (N .entry) (step-finish-entry (owed-knows n) (W .mid) (N .place) (N .acc) (N .opens) false 2
-        (reading (N .words) (N .limit) (N .keeps)) (readDone 2 0 []) (N .asks) refl (readEnds (omega arith) (omega arith)))
+    queue-is : b .rq ≡ W .kept ++ N .place ∷ N .others
+    queue-is = W .queue ∙ ap (λ (l : List ℕ). W .kept ++ l) (N .first)
 
     -- it waits on
     pub next-kept : placeAt xs (entryAt xs e .place) .extended ≡ 1 → Walk (Owed n) f o xs blocks buffers x from (linkAt e) (left - 1)
@@ -120,7 +116,7 @@ module _ {n f : ℕ} {o : Start} {xs blocks buffers : List ℕ} {x : hand.File} 
       kept = W .kept ++ (N .place ∷ []);
       rest = N .others;
       mid = W .mid;
-      queue = W .queue ∙ ap (λ (l : List ℕ). W .kept ++ l) (N .first) ∙ sym (append-assoc (W .kept) (N .place ∷ []) (N .others));
+      queue = queue-is ∙ sym (append-assoc (W .kept) (N .place ∷ []) (N .others));
       at = ap (λ (z : ℕ). linkAt z) (N .own) ∙ sym (ap (slotAt (readQueue f)) (map-append (λ y. ownEntry (heldAt t (placeOf f y))) (W .kept) (N .place ∷ []))
           ∙ slot-more (readQueue f) (entriesIn f t (W .kept)) (ownEntry (heldAt t (placeOf f (N .place)))));
       few = omega (arith, W .few, ap length (N .first));
@@ -133,6 +129,9 @@ module _ {n f : ℕ} {o : Start} {xs blocks buffers : List ℕ} {x : hand.File} 
       abbrev c : Built
       c = finish (N .place) 2 (readDone 2 0 []) b
 
+      only : (count (N .place) (W .kept) ≡ 0) × (count (N .place) (N .others) ≡ 0)
+      only = once W (N .place) (N .others) (N .first)
+
       ended : allotAll f (c .past) (o .alloc) ≡ endsAt (placeOf f (N .place)) t
       unfolding finish leave say withTimers requeue alterAcc withAccs withQueues allot
       ended = allot-snoc f (b .past) (ends (N .place) 2) (o .alloc)
@@ -141,23 +140,24 @@ module _ {n f : ℕ} {o : Start} {xs blocks buffers : List ℕ} {x : hand.File} 
       same-kept =
           map-in (λ y. ownEntry (heldAt (allotAll f (c .past) (o .alloc)) (placeOf f y))) (λ y. ownEntry (heldAt t (placeOf f y))) (W .kept)
           (λ y k. ap ownEntry (ap (λ (s : Alloc). heldAt s (placeOf f y)) ended ∙ ends-other (placeOf f (N .place)) t (placeOf f y)
-          (place-other f (N .place) y (count-apart y (N .place) (W .kept) k (once W (N .place) (N .others) (N .first) .0)))))
+          (place-other f (N .place) y (count-apart y (N .place) (W .kept) k (only .0)))))
 
       queue-now : c .rq ≡ W .kept ++ N .others
       unfolding finish leave say withTimers requeue alterAcc withAccs withQueues
       queue-now =
-          ap (without (N .place)) (W .queue ∙ ap (λ (l : List ℕ). W .kept ++ l) (N .first))
-          ∙ without-seam (N .place) (W .kept) (N .others) (once W (N .place) (N .others) (N .first) .0) (once W (N .place) (N .others) (N .first) .1)
+          ap (without (N .place)) queue-is
+          ∙ without-seam (N .place) (W .kept) (N .others) (only .0) (only .1)
 
-      mid-now : (xs′ : List ℕ) → xs′ ≡ completed xs (readQueue f) (entryAt xs e .place) (endWords (entryAt xs e .place)) → Mid (Owed n) f o xs′ blocks buffers x c
+      mid-now : (xs′ : List ℕ) → xs′ ≡ completed xs slot (entryAt xs e .place) (endWords (entryAt xs e .place)) → Mid (Owed n) f o xs′ blocks buffers x c
       unfolding endWords reqWords waitsRead waitsWrite lies
       mid-now xs′ u =
-          rw (u, N .entry) (step-finish (owed-knows n) (W .mid) (N .place) (N .acc) (N .opens) false 2 (reading (N .words) (N .limit) (N .keeps)) (readDone 2 0 []) (N .asks) refl
-          (readEnds (omega arith) (omega arith)) buffers
+          rw (u, N .entry) (subst (λ (z : ℕ). Mid (Owed n) f o (completed xs z (placeOf f (N .place)) (endWords (placeOf f (N .place)))) blocks buffers x c) (sym (W .at))
+          (step-finish (owed-knows n) (W .mid) (N .place) (N .acc) (N .opens) false 2 (reading (N .words) (N .limit) (N .keeps)) (readDone 2 0 []) (N .asks) refl
+          (readEnds (omega arith) (omega arith)) (W .kept) (N .others) queue-is (only .0) buffers
           (fine-walks .endings n (N .place) 2 (readDone 2 0 []) (N .acc) (reading (N .words) (N .limit) (N .keeps)) b (N .opens) (N .asks) (readEnds (omega arith) (omega arith)) (W .mid .good))
-          (keep refl (sym (ap lies (N .asks)))))
+          (keep refl (sym (ap lies (N .asks))))))
 
-      pub next-ended : (xs′ : List ℕ) → xs′ ≡ completed xs (readQueue f) (entryAt xs e .place) (endWords (entryAt xs e .place)) → Walk (Owed n) f o xs′ blocks buffers x from slot (left - 1)
+      pub next-ended : (xs′ : List ℕ) → xs′ ≡ completed xs slot (entryAt xs e .place) (endWords (entryAt xs e .place)) → Walk (Owed n) f o xs′ blocks buffers x from slot (left - 1)
       next-ended xs′ u = record {
         file = c;
         kept = W .kept;

@@ -1,5 +1,5 @@
 -- The walk along the read queue: who stands at its slot.
-use Prim.Native.Nat.{ℕ, _+_, _-_, _≤_, _<_}
+use Prim.Native.Nat.{ℕ, _+_, _≤_, _<_}
 use mathlib.Core.Path.{_≡_, refl, sym, ap, _∙_, subst}
 use mathlib.Core.Bool.{Bool, false}
 use mathlib.Core.List.{List, [], _∷_, _++_, append-nil}
@@ -7,15 +7,15 @@ use mathlib.Core.Option.{some}
 use native.Mathlib.Omega.{arith}
 use lib.ListN.{length, getD, set, length-map, length-append}
 use lib.Seq.{getD-append-seam}
-use Rattle.tally.specs.Count.{count}
-use Rattle.tally.proofs.Counts.{bit-eq, count-append}
+use Rattle.occurrences.specs.Count.{count}
+use Rattle.occurrences.proofs.Counts.{bit-eq, count-append}
 use Rattle.rules.specs.Limits.{entries}
 use Rattle.rules.specs.State.{reading, Acc, Built, built}
 use Rattle.rules.specs.Requests.{accAt}
 use Rattle.rules.specs.Close.{endReaders}
 use Rattle.rules.specs.Desk.{Desk}
 use Rattle.rules.specs.Allocation.{Alloc, placeOf, heldAt, ownEntry, allotAll}
-use Rattle.segment.specs.Layout.{listCount, segmentBytes, readQueue}
+use Rattle.segment.specs.Layout.{listCount, segmentBytes, readQueue, fileRows}
 use Rattle.segment.specs.Table.{nth, dataOf}
 use Rattle.segment.specs.Fields.{entryOf, entryAt}
 use Rattle.ports.specs.Lists.{Chain}
@@ -23,9 +23,9 @@ use Rattle.ports.proofs.Chains.{slotAt, slot-word, slot-end}
 use Rattle.ports.proofs.Lists.{short, slot-in}
 use Rattle.ports.proofs.Boxes.{data-box}
 use Rattle.ports.proofs.Maps.{map-append, map-at}
-use Rattle.laws.specs.Outstanding.{reqAt, waitsRead}
+use Rattle.laws.specs.Outstanding.{reqAt, waitsRead, reqOf}
 use Rattle.laws.proofs.Outstanding.{outstanding-most}
-use Rattle.memory.specs.Image.{reqOf, reqWords, listsOf, boxesOf}
+use Rattle.memory.specs.Image.{reqWords, listsOf, boxesOf}
 use Rattle.memory.proofs.Boxes.{getD-listsOf, getD-boxesOf}
 use Rattle.midst.specs.declared.File as hand
 use Rattle.midst.specs.Mid.{Start, Mid}
@@ -78,7 +78,7 @@ module _ {n f : ℕ} {o : Start} {xs blocks buffers : List ℕ} {x : hand.File} 
   split : getD (listsOf d t) (readQueue f) [] ≡ entriesIn f t (W .kept) ++ entriesIn f t (W .rest)
   split = listed ∙ map-append (λ y. ownEntry (heldAt t (placeOf f y))) (W .kept) (W .rest)
 
-  pub walk-slot : slot < 1362
+  pub walk-slot : slot < fileRows
   walk-slot = rw (W .at) (slot-in (W .mid .segment .boxes .lists) (readQueue f) (entriesIn f t (W .kept)) (entriesIn f t (W .rest)) low split .0)
 
   pub walk-size : length xs ≡ segmentBytes

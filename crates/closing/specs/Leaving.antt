@@ -19,10 +19,10 @@ abbrev pub Goes : (Built → Built) → ℕ → List ℕ → List ℕ → Type 0
 Goes g f xs xs′ =
     (n : ℕ) (blocks buffers : List ℕ) (x : hand.File) (o : Start) (b : Built) → Mid (Owed n) f o xs blocks buffers x b → Mid (Owed n) f o xs′ blocks buffers x (g b)
 
--- the walk stands at the entry e
-abbrev pub Stops : ℕ → List ℕ → ℕ → ℕ → Type 0
-Stops f xs slot e =
-    ((n : ℕ) × (blocks : List ℕ) × (buffers : List ℕ) × (x : hand.File) × (o : Start) × (b : Built) × (left : ℕ) × Walk (Owed n) f o xs blocks buffers x b slot left)
+-- a walk stands at the entry e
+abbrev pub Stops : List ℕ → ℕ → ℕ → Type 0
+Stops xs slot e =
+    ((n : ℕ) × (f : ℕ) × (blocks : List ℕ) × (buffers : List ℕ) × (x : hand.File) × (o : Start) × (b : Built) × (left : ℕ) × Walk (Owed n) f o xs blocks buffers x b slot left)
     × (e ≡ nth xs slot) × (e < entries)
 
 -- from the segment xs₀ on, the walk has come to this slot

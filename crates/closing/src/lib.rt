@@ -17,7 +17,7 @@ ghost use Rattle.rules.specs.Allocation.{Alloc};
 ghost use Rattle.segment.specs.Layout.{segmentBytes};
 ghost use Rattle.buffers.specs.Buffer.{buffersBytes};
 ghost use Rattle.requests.specs.Moves.{entryOf, cancelled};
-ghost use Rattle.judges.specs.Requests.{queueOf, outstandingAt};
+ghost use Rattle.accessors.specs.Outstanding.{queueOf, outstandingAt};
 ghost use Rattle.controls.specs.Removed.{isWaiting, emptied};
 ghost use Rattle.memory.specs.Fine.{Fine, StandsFor};
 ghost use Rattle.midst.specs.Mid.{Start, Mid};
@@ -29,17 +29,15 @@ mod readers;
 use blocks::memory::put_at;
 use controls::waiting::remove;
 use controls::waiting::waits;
-use judges::sides::WRITER;
 use kinds::Answer;
 use kinds::limits::PLACES;
+use kinds::records::CLOSE;
+use kinds::sides::WRITER;
 use midst::File;
 use midst::take_file;
 use readers::last_gone;
 use segment::PlaceRow;
 use settling::rest;
-
-// A close record's type.
-const CLOSE: u16 = 2;
 
 // The request of place acc, if it waits, is cancelled; the side is its accessor's.
 fn cancel(segment: &mut [u8], buffers: &mut [u8], f: usize, acc: usize, side: u16)

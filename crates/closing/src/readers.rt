@@ -6,25 +6,26 @@ ghost use lib.ListN.{length};
 ghost use Rattle.rules.specs.Limits.{entries};
 ghost use Rattle.rules.specs.State.{Built};
 ghost use Rattle.rules.specs.Close.{endReaders, lastGone};
-ghost use Rattle.segment.specs.Layout.{segmentBytes, readQueue};
-ghost use Rattle.requests.specs.Moves.{entryOf, completed};
+ghost use Rattle.segment.specs.Layout.{segmentBytes, fileRows, deskPlaces};
+ghost use Rattle.segment.specs.Table.{nth};
+ghost use Rattle.requests.specs.Moves.{completed};
 ghost use Rattle.midst.specs.declared.File as hand;
 ghost use Rattle.midst.specs.Mid.{Start};
 ghost use Rattle.midst.proofs.Walks.{Owed};
 ghost use Rattle.closing.specs.Walk.{endWords, Walk};
 ghost use Rattle.closing.specs.Leaving.{Gone, Goes, Stops};
-use judges::sides::WRITER;
-use judges::sides::count_side;
+use accessors::sides::count_side;
+use kinds::sides::WRITER;
+use kinds::statuses;
 use segment::Entry;
 use segment::layout;
 
-const END_OF_FILE: u16 = 2;
+const END_OF_FILE: u16 = statuses::END_OF_FILE as u16;
 
-// The waiting read of a place ends.
-fn end_read(segment: &mut [u8], f: usize, place: u16)
-    requires { ⌜ (length (now segment) ≡ segmentBytes) × (f < 8) × (place < 64) ⌝ }
-    requires { ⌜ entryOf (now segment) (readQueue f) place < entries ⌝ }
-    ensures { λ _. ⌜ now (segment .exit) ≡ completed (now (segment .entry)) (readQueue f) place (endWords place) ⌝ }
+// The waiting read of a place, whose entry stands at the slot, ends.
+fn end_read(segment: &mut [u8], slot: usize, place: u16)
+    requires { ⌜ (length (now segment) ≡ segmentBytes) × (slot < fileRows) × (place < deskPlaces) × (nth (now segment) slot < entries) ⌝ }
+    ensures { λ _. ⌜ now (segment .exit) ≡ completed (now (segment .entry)) slot place (endWords place) ⌝ }
 {
     let done = Entry {
         place,
@@ -36,20 +37,20 @@ fn end_read(segment: &mut [u8], f: usize, place: u16)
         size: 0,
         seconds: 0,
     };
-    requests::complete(segment, layout::READ_QUEUES + f, done);
+    requests::complete(segment, slot, done);
 }
 
 // The reader whose entry e stands at the slot: it waits on, and the walk goes on behind it, or it ends, and the next one stands at the slot.
-fn pass(segment: &mut [u8], f: usize, slot: usize, e: u16) -> usize
-    requires { ⌜ Stops f (now segment) slot e ⌝ }
-    ensures { λ r. ⌜ ((n : ℕ) (blocks buffers : List ℕ) (x : hand.File) (o : Start) (b : Built) (left : ℕ) → Walk (Owed n) f o (now (segment .entry)) blocks buffers x b slot left → Walk (Owed n) f o (now (segment .exit)) blocks buffers x b r (left - 1)) ⌝ }
+fn pass(segment: &mut [u8], slot: usize, e: u16) -> usize
+    requires { ⌜ Stops (now segment) slot e ⌝ }
+    ensures { λ r. ⌜ ((n f : ℕ) (blocks buffers : List ℕ) (x : hand.File) (o : Start) (b : Built) (left : ℕ) → Walk (Owed n) f o (now (segment .entry)) blocks buffers x b slot left → Walk (Owed n) f o (now (segment .exit)) blocks buffers x b r (left - 1)) ⌝ }
 {
     let place = segment::entry_place(segment, e);
     let row = segment::read_place(segment, place as usize);
     if row.extended == 1 {
         return segment::link_at(e);
     }
-    end_read(segment, f, place);
+    end_read(segment, slot, place);
     slot
 }
 
@@ -64,7 +65,7 @@ fn end_readers(segment: &mut [u8], f: usize)
         if layout::ENTRIES <= e {
             return;
         }
-        slot = pass(segment, f, slot, e);
+        slot = pass(segment, slot, e);
         left -= 1;
     }
 }

@@ -21,19 +21,19 @@ use Rattle.segment.specs.Fields.{fileAt, placeAt}
 use Rattle.buffers.specs.Buffer.{buffersBytes}
 use Rattle.requests.specs.Moves.{entryOf, cancelled}
 use Rattle.laws.specs.Outstanding.{uncollected}
-use Rattle.memory.specs.Stands.{Bytes}
+use Rattle.words.specs.Word.{Bytes}
 use Rattle.memory.specs.Fine.{Fine, StandsFor}
 use Rattle.midst.specs.File.{fileOfRow}
-use Rattle.midst.specs.Mid.{Mid}
+use Rattle.midst.specs.Mid.{Mid, start}
 use Rattle.midst.specs.Outcome.{refusalOf, Done}
 use Rattle.midst.specs.Accepted.{ControlKnown}
 use Rattle.midst.proofs.Begins.{mid-begin}
 use Rattle.midst.proofs.Changes.{mid-below}
 use Rattle.midst.proofs.Accepted.{accepted-control, accepted-abort}
-use Rattle.judges.specs.Requests.{queueOf, outstandingAt, outstandingOf}
+use Rattle.accessors.specs.Outstanding.{queueOf, outstandingAt, outstandingOf}
 use Rattle.controls.specs.Removed.{isWaiting, emptied}
 use Rattle.controls.specs.Acts.{Taken}
-use Rattle.controls.proofs.Stood.{start, begins-rowed, stays-done}
+use Rattle.controls.proofs.Stood.{begins-rowed, stays-done}
 use Rattle.controls.proofs.Cancels.{waiting-awaits, waits-is, removable, removed, removed-rowed}
 
 -- the accessor of a control that is accepted

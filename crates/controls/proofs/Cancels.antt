@@ -7,7 +7,7 @@ use mathlib.Core.Option.{some}
 use native.Mathlib.Omega.{arith}
 use lib.Dec.{eqb}
 use lib.ListN.{set}
-use Rattle.tally.specs.Count.{bit}
+use Rattle.occurrences.specs.Count.{bit}
 use Rattle.rules.specs.Limits.{places, entries}
 use Rattle.rules.specs.State.{Req, idle, reading, writing, readDone, writeDone, Acc, Built, built}
 use Rattle.rules.specs.Requests.{accAt, cancel}
@@ -28,10 +28,10 @@ use Rattle.midst.proofs.Changes.{fine-knows, Laid, keep, clear, mid-below}
 use Rattle.midst.proofs.Requests.{step-cancel-entry, step-cancel}
 use Rattle.midst.proofs.Terms.{waitsAt}
 use Rattle.midst.proofs.Walks.{fine-walks}
-use Rattle.midst.proofs.Stays.{Rowed, rowed-cancel}
-use Rattle.judges.specs.Requests.{queueOf, outstandingAt, outstandingOf}
-use Rattle.judges.specs.Sides.{sideOf}
-use Rattle.judges.proofs.Waits.{outstanding-boxes}
+use Rattle.midst.proofs.EndsUnwritten.{Rowed, rowed-cancel}
+use Rattle.accessors.specs.Outstanding.{queueOf, outstandingAt, outstandingOf}
+use Rattle.accessors.specs.Sides.{sideOf}
+use Rattle.accessors.proofs.Waits.{outstanding-boxes}
 use Rattle.controls.specs.Removed.{isWaiting, emptied}
 
 -- the side that a row has

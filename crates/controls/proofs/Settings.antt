@@ -1,47 +1,47 @@
 -- A control that is a setting: the place's row is written.
 use Prim.Native.Nat.{ℕ, zero, suc, _*_, _+_, _≤_, _<_}
-use mathlib.Core.Path.{_≡_, refl, ap, _∙_}
+use mathlib.Core.Path.{_≡_, refl, sym, ap, _∙_}
 use mathlib.Core.Bool.{Bool}
 use mathlib.Core.Logic.{inl, inr}
 use mathlib.Core.List.{List, [], _∷_}
-use mathlib.Core.Option.{some}
+use mathlib.Core.Option.{Option, none, some}
 use native.Mathlib.Omega.{arith}
 use types.Run.{OneOf}
 use denote.Enum.Declared.{tagOf}
 use lib.Dec.{eqb}
-use Rattle.tally.specs.Count.{bit}
+use Rattle.occurrences.specs.Count.{bit}
 use Rattle.kinds.specs.declared.Answer.the-variants.{Controlled}
 use Rattle.kinds.specs.declared.Control.{Control}
 use Rattle.kinds.specs.declared.Control.the-variants.{Timeout, Verify, Abort, Extended, Typed, Keep}
 use Rattle.kinds.proofs.Control as control
 use Rattle.rules.specs.Limits.{files, places}
 use Rattle.rules.specs.State.{Acc, Built, built}
-use Rattle.rules.specs.Requests.{accAt, withAccs, alterAcc, isWriter}
-use Rattle.rules.specs.Reply.{Out, done}
-use Rattle.rules.specs.Controls.{setTimeout, setExtended, setTyped, setKeep, unchanged}
+use Rattle.rules.specs.Requests.{accAt, withAccs, alter, alterAcc, isWriter}
+use Rattle.rules.specs.Reply.{Out, answering}
+use Rattle.rules.specs.Controls.{setTimeout, setExtended, setTyped, setKeep}
 use Rattle.rules.specs.Calls.{ask}
 use Rattle.rules.specs.Calls as calls
 use Rattle.rules.specs.Desk.{Desk, on, fileOf, answered}
 use Rattle.rules.specs.Allocation.{Alloc, placeOf}
 use Rattle.segment.specs.declared.PlaceRow.{PlaceRow}
-use Rattle.segment.specs.Layout.{rowAt, placeRow}
+use Rattle.segment.specs.Layout.{placeRowAt}
 use Rattle.segment.specs.Table.{fill}
 use Rattle.segment.specs.Fields.{placeWords, fileAt, placeAt, placeRowOf}
 use Rattle.laws.specs.Changes.{Mild}
 use Rattle.memory.specs.Image as image
-use Rattle.memory.specs.Stands.{Bytes}
+use Rattle.words.specs.Word.{Bytes}
 use Rattle.memory.specs.Fine.{Fine, StandsFor}
 use Rattle.midst.specs.File.{fileOfRow}
-use Rattle.midst.specs.Mid.{Mid}
+use Rattle.midst.specs.Mid.{Mid, start}
 use Rattle.midst.specs.Outcome.{refusalOf, Done}
 use Rattle.midst.proofs.Begins.{mid-begin, mid-place}
 use Rattle.midst.proofs.Rows.{mid-mild}
 use Rattle.midst.proofs.Changes.{mid-below}
 use Rattle.midst.proofs.Walks.{fine-walks}
-use Rattle.midst.proofs.Stays.{Rowed, rowed-place}
+use Rattle.midst.proofs.EndsUnwritten.{Rowed, rowed-place}
 use Rattle.midst.proofs.Accepted.{accepted-timeout, accepted-verify, accepted-extended, accepted-typed, accepted-keep}
 use Rattle.controls.specs.Changed.{changedRow}
-use Rattle.controls.proofs.Stood.{start, begins-rowed, stays-done}
+use Rattle.controls.proofs.Stood.{begins-rowed, stays-done}
 
 -- a parameter that is 0 or 1
 switch : (v : ℕ) → v ≤ 1 → v ≡ bit (eqb v 1)
@@ -54,9 +54,9 @@ mild-timeout : (v : ℕ) → Mild (setTimeout v)
 unfolding Mild isWriter setTimeout
 mild-timeout v a = (refl, refl, refl, refl)
 
-mild-unchanged : Mild unchanged
-unfolding Mild isWriter unchanged
-mild-unchanged a = (refl, refl, refl, refl)
+mild-same : Mild (λ a. a)
+unfolding Mild isWriter
+mild-same a = (refl, refl, refl, refl)
 
 mild-extended : (v : Bool) → Mild (setExtended v)
 unfolding Mild isWriter setExtended
@@ -78,9 +78,22 @@ row-timeout : (v : ℕ) → Sets (Timeout v) (setTimeout v)
 unfolding placeWords changedRow placeRowOf image.placeWords setTimeout
 row-timeout v a = refl
 
-row-verify : (v : ℕ) → Sets (Verify v) unchanged
-unfolding placeWords changedRow placeRowOf image.placeWords unchanged
+row-verify : (v : ℕ) → Sets (Verify v) (λ a. a)
+unfolding placeWords changedRow placeRowOf image.placeWords
 row-verify v a = refl
+
+-- verify writes the row again as it was
+alter-same : (l : List (Option Acc)) (p : ℕ) → alter (λ a. a) l p ≡ l
+unfolding alter
+alter-same [] p = refl
+alter-same (none ∷ l) zero = refl
+alter-same (some a ∷ l) zero = refl
+alter-same (none ∷ l) (suc p) = ap (λ (t : List (Option Acc)). none ∷ t) (alter-same l p)
+alter-same (some a ∷ l) (suc p) = ap (λ (t : List (Option Acc)). some a ∷ t) (alter-same l p)
+
+set-same : (p : ℕ) (b : Built) → answering Controlled b ≡ answering Controlled (alterAcc p (λ a. a) b)
+unfolding alterAcc withAccs
+set-same p b = ap (λ (l : List (Option Acc)). answering Controlled (withAccs l b)) (sym (alter-same (b .accs) p))
 
 row-extended : (v : ℕ) → v ≤ 1 → Sets (Extended v) (setExtended (eqb v 1))
 unfolding placeWords changedRow placeRowOf image.placeWords setExtended
@@ -101,11 +114,11 @@ alter-rowed xs f p g b e = e
 
 -- the segment behind it
 abbrev pub written : Control → ℕ → ℕ → List ℕ → List ℕ
-written c f p xs = fill xs (rowAt (placeRow (places * f + p))) (placeWords (changedRow c (placeAt xs (places * f + p))))
+written c f p xs = fill xs (placeRowAt (places * f + p)) (placeWords (changedRow c (placeAt xs (places * f + p))))
 
 module _ {xs blocks buffers : List ℕ} {d : Desk} {s : Alloc} (S : StandsFor xs blocks buffers d s) (f p : ℕ) (bytes : Bytes buffers) where
   setting : (c : Control) (g : Acc → Acc) (b : Built) (a : Acc) (out : Out) (xs′ : List ℕ) → Mild g → Sets c g → f < files → fileOf d f ≡ built b → accAt b p ≡ some a
-      → out ≡ done Controlled (alterAcc p g b) → xs′ ≡ written c f p xs → Bytes xs′ → Done f d s out blocks buffers xs′ blocks buffers Controlled
+      → out ≡ answering Controlled (alterAcc p g b) → xs′ ≡ written c f p xs → Bytes xs′ → Done f d s out blocks buffers xs′ blocks buffers Controlled
   unfolding placeOf
   setting c g b a out xs′ m r h e k u v bs =
       let M : Mid Fine f (start d s blocks buffers) xs blocks buffers (fileOfRow (fileAt xs f)) b = mid-begin S f b h e in
@@ -126,7 +139,7 @@ module _ {xs blocks buffers : List ℕ} {d : Desk} {s : Alloc} (S : StandsFor xs
       setting (Timeout v) (setTimeout v) (A .b) (A .known .a) _ xs′ (mild-timeout v) (row-timeout v) (A .file) (A .stands) (A .known .at) (A .known .out) e bs
   set-done (Verify v) t r xs′ e bs =
       let A = accepted-verify d f p v r in
-      setting (Verify v) unchanged (A .b) (A .known .a) _ xs′ mild-unchanged (row-verify v) (A .file) (A .stands) (A .known .at) (A .known .out) e bs
+      setting (Verify v) (λ a. a) (A .b) (A .known .a) _ xs′ mild-same (row-verify v) (A .file) (A .stands) (A .known .at) (A .known .out ∙ set-same p (A .b)) e bs
   set-done (Abort v) (inl u) r xs′ e bs = absurd (omega arith)
   set-done (Abort v) (inr (inl u)) r xs′ e bs = absurd (omega arith)
   set-done (Abort v) (inr (inr (inl u))) r xs′ e bs = absurd (omega arith)

@@ -2,36 +2,30 @@
 use Prim.Native.Nat.{ℕ, _<_}
 use mathlib.Core.Path.{_≡_, refl, sym, ap, _∙_, subst}
 use mathlib.Core.List.{List}
-use native.Mathlib.Omega.{arith}
 use Rattle.kinds.specs.declared.Answer.{Answer}
 use Rattle.rules.specs.Limits.{files}
 use Rattle.rules.specs.State.{Built, built}
-use Rattle.rules.specs.Reply.{Out, leaves, done}
+use Rattle.rules.specs.Reply.{Out, leaves, answering}
 use Rattle.rules.specs.Desk.{Desk, fileOf}
 use Rattle.rules.specs.Allocation.{Alloc}
-use Rattle.segment.specs.Layout.{fileRow}
 use Rattle.memory.specs.Image.{fileWords}
-use Rattle.memory.specs.Stands.{Bytes}
+use Rattle.words.specs.Word.{Bytes}
 use Rattle.memory.specs.Fine.{StandsFor}
-use Rattle.memory.proofs.Image.{rowOf-file}
+use Rattle.memory.proofs.Segments.{segment-file}
 use Rattle.midst.specs.declared.File as hand
-use Rattle.midst.specs.Mid.{Start, Mid}
+use Rattle.midst.specs.Mid.{Mid, start}
 use Rattle.midst.specs.Outcome.{Done}
-use Rattle.midst.proofs.Stays.{Rowed, mid-stay}
-
--- how it began
-abbrev pub start : Desk → Alloc → List ℕ → List ℕ → Start
-start d s blocks buffers = record { desk = d; alloc = s; blocks = blocks; buffers = buffers }
+use Rattle.midst.proofs.EndsUnwritten.{Rowed, mid-stay}
 
 module _ {xs blocks buffers : List ℕ} {d : Desk} {s : Alloc} (S : StandsFor xs blocks buffers d s) (f : ℕ) where
   -- the row of a file that stands
   pub begins-rowed : (b : Built) → f < files → fileOf d f ≡ built b → Rowed xs f b
-  begins-rowed b h e = S .stands .segment .rows (fileRow f) (omega arith) ∙ rowOf-file d f h ∙ ap fileWords e
+  begins-rowed b h e = segment-file (S .stands .segment) f h ∙ ap fileWords e
 
-  pub stays-done : {I : Built → Type 0} (xs′ buffers′ : List ℕ) (x : hand.File) (c : Built) (a : Answer) (out : Out) → out ≡ done a c
+  pub stays-done : {I : Built → Type 0} (xs′ buffers′ : List ℕ) (x : hand.File) (c : Built) (a : Answer) (out : Out) → out ≡ answering a c
       → Mid I f (start d s blocks buffers) xs′ blocks buffers′ x c → Rowed xs′ f c → Bytes xs′ → Bytes buffers′
       → Done f d s out blocks buffers xs′ blocks buffers′ a
-  unfolding done leaves
+  unfolding answering leaves
   stays-done xs′ buffers′ x c a out e M r bs bf =
       subst (λ (y : Out). Done f d s y blocks buffers xs′ blocks buffers′ a) (sym e) (record {
         outcome = record { stands = mid-stay M r (S .stands .bodies) bs (S .stands .bodies .blocks-bytes) bf; apart = M .apart };

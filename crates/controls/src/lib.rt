@@ -5,7 +5,7 @@ ghost use Prim.Native.Nat.{ℕ, _<_};
 ghost use lib.ListN.{length};
 ghost use Rattle.kinds.specs.declared.Control.the-variants as variant;
 ghost use Rattle.rules.specs.Calls as calls;
-ghost use Rattle.segment.specs.Layout.{segmentBytes, rowAt, placeRow};
+ghost use Rattle.segment.specs.Layout.{segmentBytes, deskPlaces, placeRowAt};
 ghost use Rattle.segment.specs.Table.{fill};
 ghost use Rattle.segment.specs.Fields.{placeWords, placeAt};
 ghost use Rattle.controls.specs.Changed.{changedRow};
@@ -16,6 +16,8 @@ pub mod waiting;
 use kinds::Answer;
 use kinds::Control;
 use kinds::limits::PLACES;
+use kinds::operations;
+use kinds::statuses;
 use segment::PlaceRow;
 use waiting::remove;
 use waiting::waits;
@@ -48,8 +50,8 @@ fn changed(row: PlaceRow, asked: Control) -> PlaceRow
 }
 
 fn set(segment: &mut [u8], place: usize, asked: Control)
-    requires { ⌜ (length (now segment) ≡ segmentBytes) × (place < 64) ⌝ }
-    ensures { λ _. ⌜ now (segment .exit) ≡ fill (now (segment .entry)) (rowAt (placeRow place)) (placeWords (changedRow asked (placeAt (now (segment .entry)) place))) ⌝ }
+    requires { ⌜ (length (now segment) ≡ segmentBytes) × (place < deskPlaces) ⌝ }
+    ensures { λ _. ⌜ now (segment .exit) ≡ fill (now (segment .entry)) (placeRowAt place) (placeWords (changedRow asked (placeAt (now (segment .entry)) place))) ⌝ }
 {
     let row = segment::read_place(segment, place);
     segment::write_place(segment, place, changed(row, asked));
@@ -66,8 +68,8 @@ fn abort(segment: &mut [u8], buffers: &mut [u8], f: usize, acc: usize) -> Answer
         return Answer::Controlled;
     }
     Answer::Status {
-        operation: 5,
-        status: 2,
+        operation: operations::CONTROL,
+        status: statuses::END_OF_FILE,
     }
 }
 

@@ -6,13 +6,13 @@ ghost use Rattle.rules.specs.Limits.{files, places, entries};
 ghost use Rattle.segment.specs.Layout.{segmentBytes};
 ghost use Rattle.buffers.specs.Buffer.{buffersBytes};
 ghost use Rattle.requests.specs.Moves.{entryOf, cancelled};
-ghost use Rattle.judges.specs.Requests.{queueOf, outstandingAt};
+ghost use Rattle.accessors.specs.Outstanding.{queueOf, outstandingAt};
 ghost use Rattle.controls.specs.Removed.{isWaiting, emptied};
-use judges::outstanding::Outstanding;
-use judges::outstanding::outstanding_at;
-use judges::outstanding::queue_of;
-use judges::sides::WRITER;
+use accessors::outstanding::Outstanding;
+use accessors::outstanding::outstanding_at;
+use accessors::outstanding::queue_of;
 use kinds::limits::PLACES;
+use kinds::sides::WRITER;
 
 // Whether the request of place acc of file f waits; the side is its accessor's.
 pub fn waits(segment: &[u8], f: usize, acc: usize, side: u16) -> bool

@@ -1,29 +1,26 @@
 -- What a frame asks of a file, and what is known of a call that no desk refuses.
-use Prim.Native.Nat.{ℕ, _≤_, _<_}
+use Prim.Native.Nat.{ℕ, _<_}
 use mathlib.Core.Path.{_≡_, refl, sym, ap, _∙_, subst}
 use mathlib.Core.List.{List, []}
-use mathlib.Core.Logic.{_⊎_, inl, inr}
+use mathlib.Core.Logic.{inl}
 use native.Mathlib.Omega.{arith}
-use lib.ListN.{length, drop}
-use lib.Seq.{sets}
+use lib.ListN.{drop}
 use Rattle.kinds.specs.declared.Answer.{Answer}
 use Rattle.kinds.specs.declared.Event.{Event}
 use Rattle.kinds.specs.declared.Frame.{Frame}
 use Rattle.kinds.specs.declared.Frame.the-variants as frame
-use Rattle.rules.specs.Limits.{files, bufferBytes}
-use Rattle.rules.specs.State.{Built, File, unbuilt, built}
-use Rattle.rules.specs.Answers.{answerBytes}
-use Rattle.rules.specs.Reply.{Reply, answers, Out}
+use Rattle.rules.specs.Limits.{files}
+use Rattle.rules.specs.State.{Built, built}
 use Rattle.rules.specs.Frames.{frameOf}
 use Rattle.rules.specs.Calls.{Ask, ask}
-use Rattle.rules.specs.Desk.{Desk, Call, event, Asked, on, asked, frameAsks, fileOf, Responded, answered, respond}
+use Rattle.rules.specs.Desk.{Desk, event, on, asked, frameAsks, fileOf, Responded, answered, respond}
 use Rattle.rules.specs.Allocation.{Alloc}
 use Rattle.laws.specs.Runs.{Proper}
 use Rattle.memory.specs.Fine.{StandsFor}
-use Rattle.midst.specs.Outcome.{refusalOf, Outcome, Done, Gave}
+use Rattle.midst.specs.Outcome.{refusalOf, Done, Gave}
 use Rattle.midst.specs.Outcome as outcome
 use Rattle.midst.proofs.Accepted.{accepted-file}
-use Rattle.midst.proofs.Stayed.{Built′, stays-built, respond-is, outcome-stays}
+use Rattle.midst.proofs.StandsBehind.{Built′, stays-built, respond-is, outcome-stays}
 use Rattle.desk.specs.Acted.{Acted, Four}
 
 module _ (fr : List ℕ) (e : Event) (q : Ask) (f : ℕ) (said : frameOf fr ≡ frame.Event e) (is : frameAsks (frame.Event e) (drop 5 fr) ≡ on f q) where

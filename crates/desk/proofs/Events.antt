@@ -1,11 +1,11 @@
 -- Each event that no desk refuses: it may be done, and what it comes to is the rules' answer.
 use Prim.Native.Nat.{ℕ, _<_}
-use mathlib.Core.Path.{_≡_, refl, sym, ap, _∙_}
+use mathlib.Core.Path.{_≡_, refl, ap}
 use mathlib.Core.List.{List, [], map}
 use mathlib.Core.Logic.{inl}
 use mathlib.Core.Option.{some}
 use native.Mathlib.Omega.{arith}
-use lib.ListN.{length, drop}
+use lib.ListN.{drop}
 use Rattle.kinds.specs.declared.Answer.{Answer}
 use Rattle.kinds.specs.declared.Answer.the-variants.{Passed}
 use Rattle.kinds.specs.declared.Control as kinds
@@ -14,12 +14,13 @@ use Rattle.kinds.specs.declared.Frame.{Frame}
 use Rattle.kinds.specs.declared.Frame.the-variants.{Event}
 use Rattle.rules.specs.Limits.{files}
 use Rattle.rules.specs.State.{Built, unbuilt, built}
-use Rattle.rules.specs.Reply.{done}
+use Rattle.rules.specs.Reply.{answering}
 use Rattle.rules.specs.Frames.{frameOf}
 use Rattle.rules.specs.Calls.{ask}
 use Rattle.rules.specs.Calls as calls
-use Rattle.rules.specs.Look as looking
-use Rattle.rules.specs.Desk.{Desk, event, asked, frameAsks, time, fileOf, fileTime, answered, respond}
+use Rattle.rules.specs.Counts as counting
+use Rattle.rules.specs.Desk.{Desk, event, asked, frameAsks, time, fileOf, answered, respond}
+use Rattle.rules.specs.Time.{fileTime}
 use Rattle.rules.specs.Allocation.{Alloc, allocTime}
 use Rattle.memory.specs.Stands.{Stands, buffersAt}
 use Rattle.memory.specs.Fine.{StandsFor}
@@ -27,9 +28,9 @@ use Rattle.midst.specs.Outcome.{refusalOf, Done, Gave}
 use Rattle.midst.specs.Outcome as outcome
 use Rattle.midst.specs.Accepted.{Accepted}
 use Rattle.midst.proofs.Accepted.{accepted-counts}
-use Rattle.midst.proofs.Stayed.{time-stays}
-use Rattle.tallies.specs.Tallies.{FileStands}
-use Rattle.tallies.proofs.Counted.{accepted-stands}
+use Rattle.midst.proofs.StandsBehind.{time-stays}
+use Rattle.midst.specs.FileStands.{FileStands}
+use Rattle.midst.proofs.FileStands.{accepted-stands}
 use Rattle.desk.specs.Acted.{Acted}
 use Rattle.desk.proofs.Writes.{write-long}
 use Rattle.desk.proofs.Accepts.{accepts, acted, acted-data}
@@ -121,7 +122,7 @@ module _ (fr : List ℕ) {xs blocks buffers : List ℕ} (never : (d : Desk) (s :
     pub counts-stand : (d : Desk) (s : Alloc) → StandsFor xs blocks buffers d s → FileStands xs blocks f
     counts-stand d s S = accepted-stands f calls.counts S (accepted-counts d f (ok-counts d s S))
 
-    pub counted : (r : Answer) → ((zs : List ℕ) (d : Desk) (s : Alloc) (b : Built) → StandsFor xs blocks zs d s → fileOf d f ≡ built b → looking.counts b ≡ done r b)
+    pub counted : (r : Answer) → ((zs : List ℕ) (d : Desk) (s : Alloc) (b : Built) → StandsFor xs blocks zs d s → fileOf d f ≡ built b → counting.counts b ≡ answering r b)
         → (d : Desk) (s : Alloc) (S : StandsFor xs blocks buffers d s) (memory : List ℕ) → Acted d s (event fr) blocks buffers memory xs blocks buffers memory r 0
     counted r h d s S memory =
         let k = accepted-counts d f (ok-counts d s S) in

@@ -1,10 +1,9 @@
 -- Of each accepted event: the file is built behind it, and where a record's data follow the answer has four bytes.
 use Prim.Native.Nat.{ℕ, _<_}
 use mathlib.Core.Path.{_≡_, refl, sym, ap, _∙_, subst}
-use mathlib.Core.Bool.{true, false}
 use mathlib.Core.List.{List, []}
 use mathlib.Core.Logic.{inl, inr}
-use mathlib.Core.Option.{Option, none, some}
+use mathlib.Core.Option.{Option}
 use lib.Dec.{eqb}
 use lib.ListN.{length, set}
 use Rattle.kinds.specs.declared.Answer.{Answer}
@@ -15,22 +14,20 @@ use Rattle.rules.specs.Store.{fetch}
 use Rattle.rules.specs.Count.{countBytes}
 use Rattle.rules.specs.Requests.{writers}
 use Rattle.rules.specs.Answers.{answerBytes}
-use Rattle.rules.specs.Reply.{answers, Out, hushed, leaves, done, status}
+use Rattle.rules.specs.Reply.{Out, hushed, leaves, answering, status}
 use Rattle.rules.specs.Transfer.{mayWait, readOn, collected, collect}
-use Rattle.rules.specs.Calls.{Ask, ask}
+use Rattle.rules.specs.Calls.{ask}
 use Rattle.rules.specs.Calls as calls
-use Rattle.rules.specs.Look as looking
+use Rattle.rules.specs.Counts as counting
 use Rattle.rules.specs.Desk.{Desk, on, fileOf, answered}
 use Rattle.rules.specs.Allocation.{Alloc, allotAll}
 use Rattle.rules.proofs.Split.{both, opt}
 use Rattle.laws.specs.Runs.{OnFile, Proper}
-use Rattle.laws.specs.Entries.{Calm}
 use lib.Seq.{set-getD}
 use Rattle.memory.specs.Fine.{StandsFor}
-use Rattle.midst.specs.Mid.{Apart}
-use Rattle.midst.specs.Outcome.{refusalOf, Outcome, Done}
+use Rattle.midst.specs.Outcome.{refusalOf, Done}
 use Rattle.midst.proofs.Accepted.{accepted-build, accepted-open, accepted-read, accepted-write, accepted-control, accepted-collect, accepted-close, accepted-counts}
-use Rattle.midst.proofs.Stayed.{Built′}
+use Rattle.midst.proofs.StandsBehind.{Built′}
 use Rattle.desk.specs.Acted.{Four}
 use Rattle.desk.proofs.Accepts.{built-stays}
 
@@ -38,7 +35,7 @@ use Rattle.desk.proofs.Accepts.{built-stays}
 
 module _ (d : Desk) (f : ℕ) where
   pub built-build : (r b n x : ℕ) → refusalOf (answered d (on f (calls.build r b n x)) .reply) ≡ 0 → Built′ (ask (fileOf d f) (calls.build r b n x))
-  unfolding done leaves
+  unfolding answering leaves
   built-build r b n x e = let k = accepted-build d f r b n x e .known .out in record { file = _; is = ap (λ (o : Out). o .file) k }
 
   pub built-open : (a s m : ℕ) → refusalOf (answered d (on f (calls.opens a s m)) .reply) ≡ 0 → Built′ (ask (fileOf d f) (calls.opens a s m))
@@ -72,7 +69,7 @@ module _ (d : Desk) (f : ℕ) where
 -- where the data begin
 
 four-status : (op st : ℕ) (b : Built) → Four (status op st b .reply)
-unfolding Four status done leaves
+unfolding Four status answering leaves
 four-status op st b = inl refl
 
 four-on : (p : ℕ) (a : Acc) (n : ℕ) (b : Built) → Four (readOn p a n b .reply)
@@ -107,7 +104,7 @@ unfolding hushed
 hushed-same b e = ap {B = Built} (λ (l : List Hap). record { geo = b .geo; store = b .store; accs = b .accs; rq = b .rq; wq = b .wq; timers = b .timers; past = l }) (sym e)
 
 pub counts-done : {xs blocks buffers : List ℕ} {d : Desk} {s : Alloc} → StandsFor xs blocks buffers d s → (f : ℕ) (r : Answer) → f < files → (b : Built) → fileOf d f ≡ built b
-    → looking.counts b ≡ done r b → Done f d s (ask (fileOf d f) calls.counts) blocks buffers xs blocks buffers r
+    → counting.counts b ≡ answering r b → Done f d s (ask (fileOf d f) calls.counts) blocks buffers xs blocks buffers r
 unfolding ask calls.askBuilt
 counts-done {xs} {blocks} {buffers} {d} {s} S f r hf b e q = rw (e, ask) (subst (λ (o : Out). Done f d s o blocks buffers xs blocks buffers r) (sym q) same)
   where
@@ -117,8 +114,8 @@ counts-done {xs} {blocks} {buffers} {d} {s} S f r hf b e q = rw (e, ask) (subst 
     file-same : set d f (built (hushed b)) ≡ d
     file-same = ap (λ (c : Built). set d f (built c)) (hushed-same b calm) ∙ ap (set d f) (sym e) ∙ (unfold fileOf in set-getD d f unbuilt)
 
-    same : Done f d s (done r b) blocks buffers xs blocks buffers r
-    same = unfold done leaves allotAll in record {
+    same : Done f d s (answering r b) blocks buffers xs blocks buffers r
+    same = unfold answering leaves allotAll in record {
       outcome = record {
         stands = rw (file-same, calm, allotAll) (S .stands);
         apart = record { shares = λ g h k. refl; others = λ g h k. refl };

@@ -1,6 +1,7 @@
 pub mod Tells
 pub mod Accepts
 pub mod Known
+pub mod First
 pub mod Refuses
 pub mod Writes
 pub mod Events

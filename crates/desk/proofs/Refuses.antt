@@ -2,10 +2,10 @@
 use Prim.Native.Nat.{ℕ}
 use mathlib.Core.Path.{_≡_, refl, sym, ap, _∙_, subst}
 use mathlib.Core.List.{List, [], _∷_}
-use mathlib.Core.Logic.{_⊎_, inl, inr}
+use mathlib.Core.Logic.{inl, inr}
 use mathlib.Core.Option.{none, some}
 use native.Mathlib.Omega.{arith}
-use lib.ListN.{length, drop}
+use lib.ListN.{getD, drop}
 use types.Run.{OneOf}
 use denote.Enum.Declared.{tagOf}
 use Rattle.kinds.specs.declared.Answer.the-variants.{Status}
@@ -19,16 +19,16 @@ use Rattle.rules.specs.Reply.{Reply, answers}
 use Rattle.rules.specs.Frames.{frameOf}
 use Rattle.rules.specs.Calls.{Ask, refusal}
 use Rattle.rules.specs.Calls as calls
-use Rattle.rules.specs.Desk.{Desk, event, on, time, bad, asked, frameAsks, Responded, answered, respond}
+use Rattle.rules.specs.Desk.{Desk, event, on, bad, asked, frameAsks, Responded, answered, respond}
 use Rattle.rules.specs.Allocation.{Alloc, allocAsked}
 use Rattle.memory.specs.Fine.{StandsFor}
 use Rattle.midst.specs.Outcome.{replyStatus, statusOf, refusalOf, Told}
 use Rattle.midst.proofs.Accepted.{accepted-code}
 use Rattle.midst.proofs.Refused.{stands-refused}
-use Rattle.midst.proofs.Stayed.{still-stays}
-use Rattle.judges.specs.Refused.{Refuses}
+use Rattle.midst.proofs.StandsBehind.{still-stays}
 use Rattle.desk.specs.Acted.{Responds}
 use Rattle.desk.specs.Refusals.{operationOf, Twice, Refusal}
+use Rattle.desk.proofs.First.{first-byte}
 use Rattle.desk.proofs.Tells.{tells-none}
 
 -- operation and status, told
@@ -49,7 +49,7 @@ module _ {xs blocks buffers : List ℕ} {d : Desk} {s : Alloc} (S : StandsFor xs
       }
 
   -- an event
-  pub event-refused : (e : Event) (n : ℕ) → frameOf fr ≡ frame.Event e → n ≡ refusalOf (answered d (frameAsks (frame.Event e) (drop 5 fr)) .reply) → (n ≡ 0 → ⊥)
+  event-refused : (e : Event) (n : ℕ) → frameOf fr ≡ frame.Event e → n ≡ refusalOf (answered d (frameAsks (frame.Event e) (drop 5 fr)) .reply) → (n ≡ 0 → ⊥)
       → Twice (operationOf e) n memory memory′ k → Responds d s (event fr) blocks buffers memory xs blocks buffers memory′ k
   unfolding operationOf frameAsks asked refusal
   event-refused (Build f r b n x) m said e z T = on-refused f (calls.build r b n x) 1 m (ap (λ (y : Frame). frameAsks y (drop 5 fr)) said) (λ _. refl) e z T
@@ -61,6 +61,11 @@ module _ {xs blocks buffers : List ℕ} {d : Desk} {s : Alloc} (S : StandsFor xs
   event-refused (Close f p) m said e z T = on-refused f (calls.close p) 7 m (ap (λ (y : Frame). frameAsks y (drop 5 fr)) said) (λ _. refl) e z T
   event-refused (Time t) m said e z T = absurd (z (unfold answered refusalOf replyStatus statusOf in e))
   event-refused (Counts f) m said e z T = on-refused f calls.counts 9 m (ap (λ (y : Frame). frameAsks y (drop 5 fr)) said) (λ _. refl) e z T
+
+  -- its first byte is repeated
+  pub first-refused : (e : Event) (n : ℕ) → frameOf fr ≡ frame.Event e → n ≡ refusalOf (answered d (frameAsks (frame.Event e) (drop 5 fr)) .reply) → (n ≡ 0 → ⊥)
+      → Twice (getD fr 0 0) n memory memory′ k → Responds d s (event fr) blocks buffers memory xs blocks buffers memory′ k
+  first-refused e n said h z T = event-refused e n said h z (subst (λ (op : ℕ). Twice op n memory memory′ k) (first-byte fr e said) T)
 
   -- a frame of no shape
   shape-refused : asked (event fr) ≡ bad → Twice 0 30 memory memory′ k → Responds d s (event fr) blocks buffers memory xs blocks buffers memory′ k

@@ -1,7 +1,7 @@
 -- The contracts of the functions that act leave nothing open: two results that meet one are the same, in the answer and in all lent memories.
 use Prim.Native.Nat.{ℕ, _<_}
 use mathlib.Core.Path.{_≡_, refl, sym, ap, _∙_}
-use mathlib.Core.List.{List, [], map}
+use mathlib.Core.List.{List, map}
 use native.Mathlib.Decide.{ℕ-discrete}
 use lib.ListN.{length, set}
 use lib.Seq.{sets}
@@ -13,7 +13,8 @@ use Rattle.rules.specs.State.{unbuilt}
 use Rattle.rules.specs.Reply.{Reply, answers, shows}
 use Rattle.rules.specs.Calls.{Ask, ask}
 use Rattle.rules.specs.Calls as calls
-use Rattle.rules.specs.Desk.{Desk, on, time, fileOf, fileTime, answered}
+use Rattle.rules.specs.Desk.{Desk, on, time, fileOf, answered}
+use Rattle.rules.specs.Time.{fileTime}
 use Rattle.rules.specs.Allocation.{Alloc, allotAll, allocTime, allocAsked}
 use Rattle.laws.specs.Runs.{Proper, OnFile}
 use Rattle.laws.specs.Queues.{Agree}
@@ -30,8 +31,8 @@ use Rattle.memory.proofs.Determined.{stands-same}
 use Rattle.midst.specs.Outcome.{refusalOf, Outcome, Done, Gave}
 use Rattle.midst.proofs.Accepted.{accepted-file}
 use Rattle.midst.proofs.Alike.{file-set}
-use Rattle.midst.proofs.Keeps.{answered-fine}
-use Rattle.midst.proofs.Stayed.{Built′}
+use Rattle.midst.proofs.StaysFine.{answered-fine}
+use Rattle.midst.proofs.StandsBehind.{Built′}
 use Rattle.promises.proofs.Unbuilt.{not-both, time-unbuilt}
 use Rattle.desk.proofs.Known.{built-build, built-open, built-read, built-write, built-control, built-collect, built-close}
 use Rattle.laws.proofs.Isolation.{answered-time}

@@ -5,6 +5,7 @@ use mathlib.Core.List.{List}
 use lib.ListN.{length}
 use lib.Seq.{sets}
 use Rattle.kinds.specs.declared.Answer.{Answer}
+use Rattle.rules.specs.Limits.{bufferBytes}
 use Rattle.rules.specs.Answers.{answerBytes}
 use Rattle.rules.specs.Reply.{Reply}
 use Rattle.rules.specs.Desk.{Desk, Call}
@@ -23,5 +24,5 @@ served {memory = memory} {memory₁ = memory₁} {memory′ = memory′} {a = a}
 
 -- the lengths that are added are small
 pub served-short : {d : Desk} {s : Alloc} {c : Call} {blocks buffers memory xs′ blocks′ buffers′ memory₁ : List ℕ} {a : Answer} {n : ℕ}
-    → Acted d s c blocks buffers memory xs′ blocks′ buffers′ memory₁ a n → n ≤ 260
+    → Acted d s c blocks buffers memory xs′ blocks′ buffers′ memory₁ a n → n ≤ bufferBytes
 served-short A = A .most

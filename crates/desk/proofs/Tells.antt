@@ -1,7 +1,7 @@
 -- The answer's bytes, written over a memory where its data stand already.
 use Prim.Native.Nat.{ℕ, _+_, _≤_}
-use mathlib.Core.Path.{_≡_, refl, sym, ap, ap₂, _∙_}
-use mathlib.Core.List.{List, [], _∷_, _++_, append-nil}
+use mathlib.Core.Path.{_≡_, sym, ap, ap₂, _∙_}
+use mathlib.Core.List.{List, [], _++_, append-nil}
 use mathlib.Core.Logic.{_⊎_, inl, inr}
 use native.Mathlib.Omega.{arith}
 use lib.ListN.{length, take, drop, take-append-drop, length-append}
@@ -10,7 +10,7 @@ use Rattle.words.proofs.Runs.{sets-at, sets-left, sets-right}
 use Rattle.words.proofs.Parts.{sets-whole}
 use Rattle.kinds.specs.declared.Answer.{Answer}
 use Rattle.rules.specs.Answers.{answerBytes}
-use Rattle.rules.specs.Reply.{Reply, answers}
+use Rattle.rules.specs.Reply.{answers}
 use Rattle.rules.specs.Desk.{replyBytes}
 use Rattle.midst.specs.Outcome.{Told}
 

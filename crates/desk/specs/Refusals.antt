@@ -12,7 +12,7 @@ use Rattle.rules.specs.Calls.{control}
 use Rattle.rules.specs.Desk.{on}
 use Rattle.judges.specs.Refused.{Refuses}
 
--- the operation of an event, which its answer repeats
+-- the operation of an event, with which its frame begins, and its answer
 unfoldable pub operationOf : Event → ℕ
 operationOf (Build f r b n x) = 1
 operationOf (Open f a s m) = 2

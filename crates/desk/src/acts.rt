@@ -1,11 +1,12 @@
 // An accepted event is done. What acts cannot refuse.
 use closing::close;
 use controls::control;
+use file_counts::counts;
 use kinds::Answer;
 use kinds::Event;
+use kinds::limits::WRITE_HEAD;
 use opening::build;
 use opening::open;
-use tallies::counts;
 use timeouts::pass_time;
 use transfers::Given;
 use transfers::collect;
@@ -22,9 +23,6 @@ ghost use Rattle.rules.specs.Allocation.{Alloc};
 ghost use Rattle.memory.specs.Fine.{StandsFor};
 ghost use Rattle.midst.specs.Outcome.{Sound, refusalOf};
 ghost use Rattle.desk.specs.Acted.{Acted};
-
-// Where a write's data stand in its frame.
-const DATA: usize = 5;
 
 // An answer with no data behind it.
 fn plain(answer: Answer) -> Given
@@ -93,7 +91,7 @@ pub fn act(
             file as usize,
             acc as usize,
             count,
-            &frame[DATA..],
+            &frame[WRITE_HEAD..],
         )),
         Event::Control {
             file,

@@ -8,11 +8,11 @@ use frames::encode;
 use judges::judge;
 use kinds::Event;
 use kinds::Frame;
+use kinds::limits::ANSWER_ROOM;
 use refusals::refuse;
-use refusals::refuse_event;
+use refusals::status;
 use sound::sound;
 ghost use mathlib.Core.Path.{_≡_};
-ghost use mathlib.Core.List.{List};
 ghost use Prim.Native.Nat.{_≤_};
 ghost use lib.ListN.{length};
 ghost use Rattle.kinds.specs.declared.Frame.the-variants as what;
@@ -26,9 +26,6 @@ ghost use Rattle.midst.specs.Outcome.{Sound, refusalOf};
 ghost use Rattle.promises.specs.Promise.{Promise};
 ghost use Rattle.promises.specs.Promise as host;
 ghost use Rattle.desk.specs.Acted.{Responds};
-
-// "264 bytes for its answer".
-pub const ANSWER_BYTES: usize = 264;
 
 // An accepted event is done and answered.
 fn serve(
@@ -56,9 +53,10 @@ pub fn event(
     answer: &mut [u8],
     frame: &[u8],
 ) -> usize
-    ensures { λ r. ⌜ Promise (record { segment = now (segment .entry); blocks = now (blocks .entry); buffers = now (buffers .entry) }) (host.event (now (answer .entry)) (now («frame» .entry))) (host.answer r (now (answer .exit))) (record { segment = now (segment .exit); blocks = now (blocks .exit); buffers = now (buffers .exit) }) ⌝ }
+    ensures promise { λ r. ⌜ Promise (record { segment = now (segment .entry); blocks = now (blocks .entry); buffers = now (buffers .entry) }) (host.event (now (answer .entry)) (now («frame» .entry))) (host.answer r (now (answer .exit))) (record { segment = now (segment .exit); blocks = now (blocks .exit); buffers = now (buffers .exit) }) ⌝ }
+    ensures room { λ r. ⌜ r ≤ answerRoom ⌝ }
 {
-    if answer.len() != ANSWER_BYTES {
+    if answer.len() != ANSWER_ROOM {
         return 0;
     }
     if !sound(segment, blocks, buffers) {
@@ -70,7 +68,7 @@ pub fn event(
     };
     let number = judge(segment, event);
     if number != 0 {
-        return refuse_event(event, number, answer);
+        return status(frame[0], number, answer);
     }
     serve(segment, blocks, buffers, answer, event, frame)
 }

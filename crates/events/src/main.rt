@@ -1,8 +1,12 @@
 // The event program: frames on standard input, a hexadecimal line each, and their answers on standard output, a line each.
+use kinds::limits::BLOCKS_BYTES;
+use kinds::limits::BUFFERS_BYTES;
+use segment::layout::SEGMENT_BYTES;
+
 fn main() {
-    let mut segment = [0u8; 3876];
-    let mut blocks = [0u8; 32768];
-    let mut buffers = [0u8; 16640];
+    let mut segment = [0u8; SEGMENT_BYTES];
+    let mut blocks = [0u8; BLOCKS_BYTES];
+    let mut buffers = [0u8; BUFFERS_BYTES];
     fresh::fresh(&mut segment, &mut blocks, &mut buffers);
     serving::serve(&mut segment, &mut blocks, &mut buffers, true);
 }

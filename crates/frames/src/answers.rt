@@ -6,10 +6,10 @@ ghost use lib.ListN.{length};
 ghost use lib.Seq.{sets};
 ghost use Rattle.words.specs.Word.{word};
 ghost use Rattle.rules.specs.Answers.{answerBytes};
-use crate::operations;
 use kinds::Answer;
-
-const DONE: u8 = 0;
+use kinds::limits::ANSWER_HEAD;
+use kinds::operations;
+use kinds::statuses::DONE;
 
 fn status(operation: u8, number: u8, out: &mut [u8]) -> usize
     requires { ⌜ 2 ≤ length (now out) ⌝ }
@@ -23,15 +23,13 @@ fn status(operation: u8, number: u8, out: &mut [u8]) -> usize
 // operation 00 w(2)
 const WORD: usize = 2;
 
-const WORD_END: usize = 4;
-
 fn done_word(operation: u8, w: u16, out: &mut [u8]) -> usize
     requires { ⌜ 4 ≤ length (now out) ⌝ }
     ensures { λ r. ⌜ (r ≡ 4) × (now (out .exit) ≡ sets (now (out .entry)) 0 (operation ∷ 0 ∷ word w)) ⌝ }
 {
     status(operation, DONE, out);
     words::put(out, WORD, w);
-    WORD_END
+    ANSWER_HEAD
 }
 
 // 02 00 accessor ID(2)

@@ -1,7 +1,6 @@
 // The bytes of events and answers: a frame to what it says, an answer to its bytes.
 mod answers;
-mod events;
-mod operations;
+mod decoding;
 
 pub use answers::encode;
-pub use events::decode;
+pub use decoding::decode;

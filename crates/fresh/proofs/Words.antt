@@ -10,7 +10,7 @@ use borrow.Author.Tests.{lt-ltb, le-ltb, eq-eqb, ne-eqb}
 use Rattle.words.specs.Word.{word}
 use Rattle.words.proofs.Runs.{sets-at}
 use Rattle.words.proofs.Parts.{sets-whole}
-use Rattle.segment.specs.Layout.{nil, segmentWords, segmentBytes}
+use Rattle.segment.specs.Layout.{readQueues, listCount, nil, entryWidth, fileRows, segmentWords, segmentBytes}
 use Rattle.segment.specs.Table.{putNth}
 use Rattle.rules.specs.Limits.{entries}
 use Rattle.memory.specs.Fresh.{table, freshLink, freshWord, freshSegment}
@@ -25,25 +25,25 @@ pub link-last : (e : ℕ) → entries ≤ e + 1 → nil ≡ freshLink e
 unfolding freshLink
 link-last e h = let k : entries ≤ suc e = omega arith in rw (le-ltb (suc e) entries k)
 
-pub word-free : (k : ℕ) → k < 1 → 0 ≡ freshWord k
+pub word-free : (k : ℕ) → k < readQueues → 0 ≡ freshWord k
 unfolding freshWord
-word-free k h = rw (lt-ltb k 1 h)
+word-free k h = rw (lt-ltb k readQueues h)
 
-pub word-list : (k : ℕ) → 1 ≤ k → k < 82 → nil ≡ freshWord k
+pub word-list : (k : ℕ) → readQueues ≤ k → k < listCount → nil ≡ freshWord k
 unfolding freshWord
-word-list k l h = rw (le-ltb k 1 l, lt-ltb k 82 h)
+word-list k l h = rw (le-ltb k readQueues l, lt-ltb k listCount h)
 
-pub word-link : (k : ℕ) → 1 ≤ k → 82 ≤ k → k < 1362 → (k - 82) % 10 ≡ 0 → freshLink ((k - 82) / 10) ≡ freshWord k
+pub word-link : (k : ℕ) → readQueues ≤ k → listCount ≤ k → k < fileRows → (k - listCount) % entryWidth ≡ 0 → freshLink ((k - listCount) / entryWidth) ≡ freshWord k
 unfolding freshWord
-word-link k l m h e = rw (le-ltb k 1 l, le-ltb k 82 m, lt-ltb k 1362 h, eq-eqb ((k - 82) % 10) 0 e)
+word-link k l m h e = rw (le-ltb k readQueues l, le-ltb k listCount m, lt-ltb k fileRows h, eq-eqb ((k - listCount) % entryWidth) 0 e)
 
-pub word-data : (k : ℕ) → 1 ≤ k → 82 ≤ k → k < 1362 → ((k - 82) % 10 ≡ 0 → ⊥) → 0 ≡ freshWord k
+pub word-data : (k : ℕ) → readQueues ≤ k → listCount ≤ k → k < fileRows → ((k - listCount) % entryWidth ≡ 0 → ⊥) → 0 ≡ freshWord k
 unfolding freshWord
-word-data k l m h e = rw (le-ltb k 1 l, le-ltb k 82 m, lt-ltb k 1362 h, ne-eqb ((k - 82) % 10) 0 e)
+word-data k l m h e = rw (le-ltb k readQueues l, le-ltb k listCount m, lt-ltb k fileRows h, ne-eqb ((k - listCount) % entryWidth) 0 e)
 
-pub word-row : (k : ℕ) → 1 ≤ k → 82 ≤ k → 1362 ≤ k → 0 ≡ freshWord k
+pub word-row : (k : ℕ) → readQueues ≤ k → listCount ≤ k → fileRows ≤ k → 0 ≡ freshWord k
 unfolding freshWord
-word-row k l m h = rw (le-ltb k 1 l, le-ltb k 82 m, le-ltb k 1362 h)
+word-row k l m h = rw (le-ltb k readQueues l, le-ltb k listCount m, le-ltb k fileRows h)
 
 -- the bytes of the n words from word k on
 unfoldable pub from : ℕ → ℕ → List ℕ

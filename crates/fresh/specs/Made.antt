@@ -6,6 +6,7 @@ use lib.Dec.{eqb}
 use lib.ListN.{length}
 use Rattle.segment.specs.Layout.{segmentBytes}
 use Rattle.rules.specs.Limits.{files, places, shareBytes, bufferBytes}
+use Rattle.laws.specs.Bounds.{leastRefusal}
 use Rattle.memory.specs.Fresh.{freshSegment, freshBlocks, freshBuffers}
 
 pub record Made : Type 0 where
@@ -16,7 +17,7 @@ pub record Made : Type 0 where
 
 -- 29: the memories stay
 unfoldable pub unmade : List ℕ → List ℕ → List ℕ → Made
-unmade segment blocks buffers = record { status = 29; segment = segment; blocks = blocks; buffers = buffers }
+unmade segment blocks buffers = record { status = leastRefusal; segment = segment; blocks = blocks; buffers = buffers }
 
 -- "of 29 it tests lengths alone"
 unfoldable pub made : List ℕ → List ℕ → List ℕ → Made

@@ -1,22 +1,19 @@
-// "One call makes a fresh desk: no file built, blocks and buffers zero, the free list in order of entry number."
+// "One call makes a fresh desk: no file built, blocks and buffers zero, the free list in order of entry number".
 ghost use mathlib.Core.Path.{_≡_};
 ghost use Prim.Native.Nat.{_<_};
 ghost use lib.ListN.{length};
+ghost use Rattle.rules.specs.Limits.{entries};
 ghost use Rattle.segment.specs.Layout.{segmentWords, segmentBytes};
 ghost use Rattle.memory.specs.Fresh.{freshLink, freshWord, freshSegment};
 ghost use Rattle.fresh.specs.Made.{made};
 use kinds::limits;
+use kinds::refusals;
+use kinds::statuses;
 use segment::layout;
-
-const SEGMENT_WORDS: usize = layout::SEGMENT_BYTES / 2;
-
-const BLOCKS_BYTES: usize = limits::FILES * limits::SHARE_BYTES;
-
-const BUFFERS_BYTES: usize = limits::FILES * limits::PLACES * limits::BUFFER_BYTES;
 
 // Where entry e's link leads.
 fn fresh_link(e: u16) -> u16
-    requires { ⌜ e < 128 ⌝ }
+    requires { ⌜ e < entries ⌝ }
     ensures { λ r. ⌜ r ≡ freshLink e ⌝ }
 {
     if e + 1 < layout::ENTRIES {
@@ -30,7 +27,7 @@ fn fresh_word(k: usize) -> u16
     requires { ⌜ k < segmentWords ⌝ }
     ensures { λ r. ⌜ r ≡ freshWord k ⌝ }
 {
-    if k < 1 {
+    if k < layout::READ_QUEUES {
         return 0;
     }
     if k < layout::LINKS {
@@ -52,7 +49,7 @@ fn fresh_segment(s: &mut [u8])
     ensures { λ _. ⌜ now (s .exit) ≡ freshSegment ⌝ }
 {
     let mut k = 0;
-    while k < SEGMENT_WORDS {
+    while k < layout::SEGMENT_WORDS {
         let w = fresh_word(k);
         segment::put(s, k, w);
         k += 1;
@@ -64,16 +61,16 @@ pub fn fresh(segment: &mut [u8], blocks: &mut [u8], buffers: &mut [u8]) -> u8
     ensures { λ r. ⌜ record { status = r; segment = now (segment .exit); blocks = now (blocks .exit); buffers = now (buffers .exit) } ≡ made (now (segment .entry)) (now (blocks .entry)) (now (buffers .entry)) ⌝ }
 {
     if segment.len() != layout::SEGMENT_BYTES {
-        return 29;
+        return refusals::UNSOUND;
     }
-    if blocks.len() != BLOCKS_BYTES {
-        return 29;
+    if blocks.len() != limits::BLOCKS_BYTES {
+        return refusals::UNSOUND;
     }
-    if buffers.len() != BUFFERS_BYTES {
-        return 29;
+    if buffers.len() != limits::BUFFERS_BYTES {
+        return refusals::UNSOUND;
     }
     fresh_segment(segment);
-    words::zero(blocks, 0, BLOCKS_BYTES);
-    words::zero(buffers, 0, BUFFERS_BYTES);
-    0
+    words::zero(blocks, 0, limits::BLOCKS_BYTES);
+    words::zero(buffers, 0, limits::BUFFERS_BYTES);
+    statuses::DONE
 }

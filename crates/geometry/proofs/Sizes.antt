@@ -2,12 +2,12 @@
 use Prim.Native.Nat.{ℕ, zero, suc, _+_, _-_, _*_, _<_, _≤_}
 use mathlib.Core.Bool.{Bool, true, false, _&&_}
 use mathlib.Core.Path.{_≡_, refl, sym, _∙_}
-use native.Mathlib.Nat.{div-le-self, div-add-mod', mod-lt, mul-le-mul, le-mul-of-pos-right}
+use native.Mathlib.Nat.{div-le-self, div-add-mod', mod-lt, mul-comm, mul-le-mul}
 use native.Mathlib.Omega.{arith}
 use lib.Dec.{leb}
 use borrow.Author.Tests.{leb-true}
 use Rattle.rules.specs.Limits.{mostWords, mostFactor, mostRecords, mostExtents, shareWords}
-use Rattle.rules.specs.Geometry.{upTo, blockSize, within, inRange, fitsShare}
+use Rattle.rules.specs.Geometry.{dividedUp, capacity, blockSize, within, inRange, fitsShare}
 
 -- the test x held, and y decides; or it did not
 pub and-on : {x y t u : Bool} → t ≡ x → t ≡ true → u ≡ y → u ≡ (x && y)
@@ -20,14 +20,14 @@ pub factor-some : (q m : ℕ) → 1 ≤ q * m → 1 ≤ q
 factor-some zero m h = omega arith
 factor-some (suc q) m h = omega arith
 
-pub up-to-least : (n m : ℕ) → 1 ≤ n → 1 ≤ m → (1 ≤ upTo n m) × (upTo n m < n + m) × (n ≤ upTo n m * m) × (upTo n m * m < n + m)
-unfolding upTo
-up-to-least n m g h =
+pub divided-up-least : (n m : ℕ) → 1 ≤ n → 1 ≤ m → (1 ≤ dividedUp n m) × (dividedUp n m < n + m) × (n ≤ dividedUp n m * m) × (dividedUp n m * m < n + m)
+unfolding dividedUp
+divided-up-least n m g h =
     let p : 0 < m = omega arith in
     let l = div-le-self (n + (m - 1)) m in
     let e = div-add-mod' (n + (m - 1)) m in
     let k = mod-lt (n + (m - 1)) p in
-    (factor-some (upTo n m) m (omega arith), omega arith, omega arith, omega arith)
+    (factor-some (dividedUp n m) m (omega arith), omega arith, omega arith, omega arith)
 
 pub product-most : (a b m n : ℕ) → a ≤ m → b ≤ n → a * b ≤ m * n
 product-most a b m n h k = mul-le-mul h k
@@ -35,12 +35,13 @@ product-most a b m n h k = mul-le-mul h k
 pub records-most : (r b : ℕ) → r ≤ mostWords → b ≤ mostFactor → (r + 3) * b ≤ (mostWords + 3) * mostFactor
 records-most r b h k = product-most (r + 3) b (mostWords + 3) mostFactor (omega arith) k
 
--- what fits the share is few enough for `capacity`
-pub fits-few : (r b d : ℕ) → fitsShare r b d ≡ true → d ≤ shareWords
-unfolding fitsShare blockSize
-fits-few r b d e =
-    let p : 0 < (r + 3) * b + 2 = omega arith in
-    omega (arith, leb-true (d * ((r + 3) * b + 2)) shareWords e, le-mul-of-pos-right d p)
+-- a share holds no more records than words
+pub fits-capacity : (r b d : ℕ) → fitsShare r b d ≡ true → capacity b d ≤ shareWords
+unfolding fitsShare blockSize capacity
+fits-capacity r b d e =
+    let each : 1 * b ≤ (r + 3) * b = product-most 1 b (r + 3) b (omega arith) (omega arith) in
+    let all : d * b ≤ d * ((r + 3) * b + 2) = product-most d b d ((r + 3) * b + 2) (omega arith) (omega (arith, each)) in
+    omega (arith, leb-true (d * ((r + 3) * b + 2)) shareWords e, all, mul-comm b d)
 
 -- what the ranges say, for those who are asked for them
 pub and-both : (x y : Bool) → (x && y) ≡ true → (x ≡ true) × (y ≡ true)

@@ -7,7 +7,7 @@ use kinds::limits::SHARE_WORDS;
 ghost use mathlib.Core.Path.{_≡_};
 ghost use Prim.Native.Nat.{_+_, _*_, _≤_, _<_};
 ghost use Rattle.rules.specs.Limits.{mostWords, mostFactor, mostRecords, mostExtents, shareWords};
-ghost use Rattle.rules.specs.Geometry.{upTo, dataBlocks, capacity, blockSize, within, inRange, fitsShare};
+ghost use Rattle.rules.specs.Geometry.{dividedUp, dataBlocks, capacity, blockSize, within, inRange, fitsShare};
 
 // The words before a block's first record, and before a record's data.
 const BLOCK_HEAD: u16 = 2;
@@ -31,9 +31,9 @@ pub fn in_range(words: u16, factor: u8, records: u16, extents: u8) -> bool
 }
 
 // How many times m holds n, rounded up.
-fn up_to(n: u16, m: u16) -> u16
+fn divided_up(n: u16, m: u16) -> u16
     requires { ⌜ (1 ≤ n) × (1 ≤ m) × (n + m ≤ 65536) ⌝ }
-    ensures { λ r. ⌜ r ≡ upTo n m ⌝ }
+    ensures { λ r. ⌜ r ≡ dividedUp n m ⌝ }
     ensures { λ r. ⌜ (1 ≤ r) × (r < n + m) × (n ≤ r * m) × (r * m < n + m) ⌝ }
 {
     (n + (m - 1)) / m
@@ -48,8 +48,8 @@ pub fn data_blocks(records: u16, factor: u8, extents: u8) -> u16
     ensures { λ r. ⌜ (1 ≤ r) × (r ≤ shareWords) ⌝ }
 {
     let x = extents as u16;
-    let blocks = up_to(records + 2, factor as u16);
-    up_to(blocks + 1, x) * x - 1
+    let blocks = divided_up(records + 2, factor as u16);
+    divided_up(blocks + 1, x) * x - 1
 }
 
 // The words of a block.
@@ -61,12 +61,11 @@ pub fn block_size(words: u16, factor: u8) -> u16
     (words + RECORD_HEAD) * factor as u16 + BLOCK_HEAD
 }
 
-// The records that fit in so many blocks.
-pub fn capacity(factor: u8, blocks: u16) -> u16
-    requires { ⌜ (factor ≤ mostFactor) × (blocks ≤ shareWords) ⌝ }
+// The records that fit in so many blocks, counted at 32 bits: whatever the share holds, the product does not wrap.
+pub fn capacity(factor: u8, blocks: u16) -> u32
     ensures { λ r. ⌜ r ≡ capacity factor blocks ⌝ }
 {
-    factor as u16 * blocks
+    factor as u32 * blocks as u32
 }
 
 // Whether so many blocks, any number, fit into a file's share.

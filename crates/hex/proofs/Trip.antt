@@ -4,16 +4,13 @@ use mathlib.Core.Bool.{true}
 use mathlib.Core.List.{List, [], _∷_}
 use mathlib.Core.Path.{_≡_, refl, _∙_}
 use native.Mathlib.Omega.{arith}
-use lib.ListN.{length, getD, length-append}
+use lib.ListN.{length, length-append}
 use borrow.Author.Tests.{lt-ltb, le-leb, eq-eqb}
 use Rattle.rules.specs.Limits.{lineBytes}
 use Rattle.rules.specs.Line.{valueOf, digitOf, digitsOf, allDigits, bytesOf, isLine, lineFrame, lineOf}
 use Rattle.hex.proofs.Digits.{value-digit, digit-value}
 use Rattle.hex.proofs.Lines.{digits-cons, line-is, frame-line}
-
--- each element is a byte
-abbrev pub Bytes : List ℕ → Type 0
-Bytes xs = (i : ℕ) → getD xs i 0 < 256
+use Rattle.words.specs.Word.{Bytes}
 
 pub length-digits : (xs : List ℕ) → length (digitsOf xs) ≡ 2 * length xs
 unfolding digitsOf
@@ -32,14 +29,14 @@ pub value-low : (x : ℕ) → valueOf (digitOf (x % 16)) ≡ x % 16
 value-low x = value-digit (x % 16) (omega arith)
 
 pub digits-digits : (xs : List ℕ) → Bytes xs → allDigits (digitsOf xs) ≡ true
-unfolding digitsOf allDigits
+unfolding digitsOf allDigits Bytes
 digits-digits [] h = refl
 digits-digits (x ∷ xs) h =
     let b : x < 256 = h 0 in
     rw (value-high x b, value-low x, lt-ltb (x / 16) 16 (omega arith), lt-ltb (x % 16) 16 (omega arith), digits-digits xs (λ i. h (suc i)))
 
 pub bytes-digits : (xs : List ℕ) → Bytes xs → bytesOf (digitsOf xs) ≡ xs
-unfolding digitsOf bytesOf
+unfolding digitsOf bytesOf Bytes
 bytes-digits [] h = refl
 bytes-digits (x ∷ xs) h =
     let e : x / 16 * 16 + x % 16 ≡ x = omega arith in

@@ -1,4 +1,4 @@
-// "A hexadecimal frame a line": upper-case digits, two a byte, most significant first.
+// Events, "a hexadecimal frame a line": upper-case digits, two a byte, most significant first.
 use kinds::limits::LINE_BYTES;
 ghost use mathlib.Core.Path.{_≡_};
 ghost use mathlib.Core.Bool.{true};

@@ -5,39 +5,21 @@ use mathlib.Core.List.{List}
 use native.Mathlib.Omega.{arith}
 use native.Mathlib.Decide.{decLt}
 use Rattle.rules.specs.Limits.{files}
-use Rattle.rules.specs.State.{Built, File, unbuilt, built}
-use Rattle.rules.specs.Reply.{leaves, done, unmade}
+use Rattle.rules.specs.State.{Built}
+use Rattle.rules.specs.Reply.{leaves, answering, unmade}
 use Rattle.rules.specs.Calls.{Ask, build, opens, counts, refusal, askBuilt, askUnbuilt}
-use Rattle.rules.specs.Look as looking
-use Rattle.rules.specs.Desk.{Desk, fileOf, on, answered}
-use Rattle.rules.specs.Allocation.{Alloc}
-use Rattle.memory.specs.Fine.{StandsFor}
+use Rattle.rules.specs.Counts as counting
+use Rattle.rules.specs.Desk.{on, answered}
 use Rattle.midst.specs.Outcome.{refusalOf, replyStatus, statusOf}
 use Rattle.midst.proofs.Judged.{refusal-back}
-use Rattle.judges.specs.Accessors.{wordsAt}
-use Rattle.judges.specs.Shown.{Shown}
+use Rattle.accessors.specs.Accessors.{wordsAt}
+use Rattle.accessors.specs.Shown.{Shown}
 use Rattle.judges.specs.Verdicts.{buildRefusal, openRefusal}
 use Rattle.judges.specs.Refused.{Refuses}
-use Rattle.judges.proofs.Stood.{shown}
-use Rattle.judges.proofs.Names.{words-low, words-none, words-some}
+use Rattle.accessors.proofs.Stood.{shown}
+use Rattle.accessors.proofs.Names.{words-low, is-built, not-built}
 use Rattle.judges.proofs.Verdicts.{build-comes, open-comes}
 use Rattle.judges.proofs.Judged.{number-high, number-built, number-unbuilt}
-
--- a file is built exactly when its R is not 0
-module _ {xs blocks buffers : List ℕ} {d : Desk} {s : Alloc} (S : StandsFor xs blocks buffers d s) (f w : ℕ) (e : w ≡ wordsAt xs f) where
-  pub is-built : (w ≡ 0 → ⊥) → (b : Built) × (fileOf d f ≡ built b)
-  is-built h = go (fileOf d f) refl
-    where
-      go : (x : File) → fileOf d f ≡ x → (b : Built) × (fileOf d f ≡ built b)
-      go unbuilt k = absurd (h (e ∙ words-none S f (words-low xs f w e h) k))
-      go (built b) k = (b, k)
-
-  pub not-built : f < files → w ≡ 0 → fileOf d f ≡ unbuilt
-  not-built h z = go (fileOf d f) refl
-    where
-      go : (x : File) → fileOf d f ≡ x → fileOf d f ≡ unbuilt
-      go unbuilt k = k
-      go (built b) k = let n = words-some S f h b k in absurd (omega (arith, n .0, n .1, e, z))
 
 module _ (xs : List ℕ) (f w : ℕ) (e : w ≡ wordsAt xs f) where
   -- 31: above 7 or not built
@@ -66,7 +48,7 @@ module _ (xs : List ℕ) (f w : ℕ) (e : w ≡ wordsAt xs f) where
         sym (number-built d f (build r b n x) c (words-low xs f w e h) k ∙ refusal-back (build r b n x) 31 (omega arith))
 
     pub counts-built : Refuses xs (on f counts) 0
-    unfolding askBuilt looking.counts done leaves refusalOf replyStatus statusOf
+    unfolding askBuilt counting.counts answering leaves refusalOf replyStatus statusOf
     counts-built blocks buffers d s S =
         let (c, k) = is-built S f w e h in
         sym (number-built d f counts c (words-low xs f w e h) k)

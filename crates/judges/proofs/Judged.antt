@@ -7,7 +7,7 @@ use native.Mathlib.Omega.{arith}
 use borrow.Author.Tests.{lt-ltb, le-ltb, ltb-true, ltb-false}
 use lib.Dec.{ltb}
 use Rattle.kinds.specs.declared.Control.{Control}
-use Rattle.rules.specs.Limits.{files, leastRefusal}
+use Rattle.rules.specs.Limits.{files}
 use Rattle.rules.specs.State.{Acc, Built, File, unbuilt, built}
 use Rattle.rules.specs.Requests.{accAt}
 use Rattle.rules.specs.Reply.{Out, leaves, unmade}
@@ -18,6 +18,7 @@ use Rattle.rules.specs.Close as closing
 use Rattle.rules.specs.Desk.{Desk, fileOf, on, answered}
 use Rattle.rules.specs.Allocation.{Alloc}
 use Rattle.rules.proofs.Split.{by-cases}
+use Rattle.laws.specs.Bounds.{leastRefusal}
 use Rattle.laws.specs.Runs.{OnFile}
 use Rattle.laws.specs.Outstanding.{reqOf}
 use Rattle.laws.proofs.Files.{on-file}
@@ -26,11 +27,11 @@ use Rattle.midst.specs.Outcome.{refusalOf}
 use Rattle.midst.specs.Accepted.{endOf, Ended}
 use Rattle.midst.proofs.Judged.{refusal-back}
 use Rattle.midst.proofs.Refused.{fine-ended}
-use Rattle.judges.specs.declared.outstanding.Outstanding.{Outstanding}
-use Rattle.judges.specs.Sides.{sideOf}
-use Rattle.judges.specs.Requests.{outstandingOf}
-use Rattle.judges.specs.Accessors.{accessorIn, accessorOn, accessorOf, judged}
-use Rattle.judges.specs.Verdicts.{nothingRefusal, readRefusal, writeRefusal, controlRefusal, codeRefusal, closeRefusal}
+use Rattle.accessors.specs.declared.outstanding.Outstanding.{Outstanding}
+use Rattle.accessors.specs.Sides.{sideOf}
+use Rattle.accessors.specs.Outstanding.{outstandingOf}
+use Rattle.accessors.specs.Accessors.{accessorIn, accessorOn, accessorOf}
+use Rattle.judges.specs.Verdicts.{judged, writeRefusal, controlRefusal, nothingRefusal, readRefusal, closeRefusal, codeRefusal}
 use Rattle.judges.proofs.Verdicts.{read-comes, write-comes, collect-comes, control-comes, code-comes, close-comes}
 
 -- in file f no request completed with a refusal's number, as in every file of a desk that a segment stands for

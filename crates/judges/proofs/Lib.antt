@@ -1,8 +1,5 @@
+pub mod Refused
 pub mod Turns
-pub mod Counted
-pub mod Waits
-pub mod Stood
-pub mod Names
 pub mod Verdicts
 pub mod Judged
 pub mod Said

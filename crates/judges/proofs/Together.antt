@@ -5,23 +5,23 @@ use mathlib.Core.Bool.{Bool, true, false, cond, _&&_}
 use mathlib.Core.List.{List, [], _∷_}
 use mathlib.Core.Option.{Option, none, some}
 use native.Mathlib.Omega.{arith}
-use native.Mathlib.Decide.{ℕ-discrete}
 use borrow.Author.Tests.{lt-ltb, le-leb, lt-leb, eq-eqb, ne-eqb}
 use lib.Dec.{ltb, leb, eqb}
 use lib.ListN.{length, getD}
-use Rattle.tally.specs.Count.{bit}
+use Rattle.occurrences.specs.Count.{bit}
 use Rattle.rules.specs.Limits.{places}
 use Rattle.rules.specs.Geometry.{capacity}
 use Rattle.rules.specs.State.{Acc, Built}
 use Rattle.rules.specs.Store.{used, purge}
-use Rattle.rules.specs.Requests.{countAcc, opened, writers, readers, room, withStore, say}
-use Rattle.rules.specs.Open.{shareOf, otherShare, crowded, purged, roomToOpen}
+use Rattle.rules.specs.Requests.{countAcc, opened, writers, readers, capacityOf, withStore, say}
+use Rattle.rules.specs.Open.{sharingOf, otherShare, crowded, purged, roomToOpen}
 use Rattle.segment.specs.Fields.{fileAt, fileRowOf, placeAt}
 use Rattle.memory.specs.Image.{fileWords}
-use Rattle.judges.specs.Sides.{countSide, sideOf, differs, othersFrom}
-use Rattle.judges.specs.Shown.{Shown}
+use Rattle.accessors.specs.Sides.{countSide, purgesAt, sideOf}
+use Rattle.judges.specs.Sharing.{differs, othersFrom}
+use Rattle.accessors.specs.Shown.{Shown}
 use Rattle.judges.specs.Verdicts.{forbidden}
-use Rattle.judges.proofs.Counted.{Rows, rows-rest, rows-first, side-is, share-is, file-rows, count-writers, count-readers, count-closed}
+use Rattle.accessors.proofs.Counted.{Rows, rows-rest, rows-first, side-is, share-is, file-rows, count-writers, count-readers, count-closed, purges-is}
 
 -- another share
 
@@ -29,7 +29,7 @@ differs-none : (s : List ℕ) (share i : ℕ) → placeAt s i .side ≡ 0 → di
 unfolding differs
 differs-none s share i e = rw (eq-eqb (placeAt s i .side) 0 e)
 
-differs-some : (s : List ℕ) (share i : ℕ) (a : Acc) → placeAt s i .side ≡ sideOf (some a) → placeAt s i .share ≡ a .share → differs s share i ≡ otherShare share a
+differs-some : (s : List ℕ) (share i : ℕ) (a : Acc) → placeAt s i .side ≡ sideOf (some a) → placeAt s i .share ≡ a .sharing → differs s share i ≡ otherShare share a
 unfolding differs otherShare sideOf
 differs-some s share i a e k = rw (ne-eqb (placeAt s i .side) 0 (λ u. omega (arith, e)), k)
 
@@ -73,7 +73,7 @@ module _ (xs : List ℕ) (f : ℕ) (b : Built) (S : Shown xs f b) where
   unfolding forbidden
   forbids-multi access share multi e = rw (eq-eqb multi 3 e)
 
-  module _ (access share multi s : ℕ) (d : multi ≡ 3 → ⊥) (k : s ≡ shareOf share) (t : Bool) (o : t ≡ othersFrom xs s (places * f) places) where
+  module _ (access share multi s : ℕ) (d : multi ≡ 3 → ⊥) (k : s ≡ sharingOf share) (t : Bool) (o : t ≡ othersFrom xs s (places * f) places) where
     pub forbids-other : t ≡ true → true ≡ forbidden access share multi b
     unfolding forbidden
     forbids-other e = rw (ne-eqb multi 3 d, ← k, ← others-are s, ← o, e)
@@ -82,7 +82,7 @@ module _ (xs : List ℕ) (f : ℕ) (b : Built) (S : Shown xs f b) where
     unfolding forbidden
     forbids-crowd r e c = rw (ne-eqb multi 3 d, ← k, ← others-are s, ← o, e) c
 
-  -- eight accessors open; none
+  -- eight accessors open
   pub full-is : (n : ℕ) → n ≡ countSide xs f 0 → n ≡ 0 → leb places (opened b) ≡ true
   full-is n e k = le-leb places (opened b) (omega (arith, closed-are, e))
 
@@ -92,26 +92,22 @@ module _ (xs : List ℕ) (f : ℕ) (b : Built) (S : Shown xs f b) where
       some-closed : (n : ℕ) → (n ≡ 0 → ⊥) → n + opened b ≡ places → opened b < places
       some-closed n k i = omega arith
 
-  pub purges-is : (access n : ℕ) → access ≡ 1 → n ≡ countSide xs f 0 → eqb n 8 ≡ (eqb access 1 && eqb (opened b) 0)
-  purges-is access n e k = rw (eq-eqb access 1 e) (go (ℕ-discrete (opened b) 0))
-    where
-      go : Dec (opened b ≡ 0) → eqb n 8 ≡ eqb (opened b) 0
-      go (yes z) = eq-eqb n 8 (omega (arith, closed-are, k)) ∙ sym (eq-eqb (opened b) 0 z)
-      go (no z) = ne-eqb n 8 (λ u. z (omega (arith, closed-are, k))) ∙ sym (ne-eqb (opened b) 0 z)
+  -- what is used where the open purges, and where not
+  ruled : (access : ℕ) (t : Bool) → purgesAt xs f access ≡ t → (eqb access 1 && eqb (opened b) 0) ≡ t
+  ruled access t e = sym (purges-is xs f b (S .eight) (S .rows) access) ∙ e
 
-  -- what is used then
-  pub used-purged : (access : ℕ) → (eqb access 1 && eqb (opened b) 0) ≡ true → used (purged access b .store) ≡ 0
+  pub used-purged : (access : ℕ) → purgesAt xs f access ≡ true → used (purged access b .store) ≡ 0
   unfolding used purged say withStore purge
-  used-purged access e = rw (purged, e)
+  used-purged access e = rw (purged, ruled access true e)
 
-  pub used-kept : (access : ℕ) → (eqb access 1 && eqb (opened b) 0) ≡ false → fileAt xs f .spent + fileAt xs f .held ≡ used (purged access b .store)
+  pub used-kept : (access : ℕ) → purgesAt xs f access ≡ false → fileAt xs f .spent + fileAt xs f .held ≡ used (purged access b .store)
   unfolding used purged fileAt fileRowOf fileWords
   used-kept access e =
-      rw (purged, e) (ap (λ (r : List ℕ). getD r 4 0 + getD r 5 0) (S .file))
+      rw (purged, ruled access false e) (ap (λ (r : List ℕ). getD r 4 0 + getD r 5 0) (S .file))
 
   -- and the room
-  pub room-is : fileAt xs f .factor * fileAt xs f .blocks ≡ room b
-  unfolding room capacity fileAt fileRowOf fileWords
+  pub room-is : fileAt xs f .factor * fileAt xs f .blocks ≡ capacityOf b
+  unfolding capacityOf capacity fileAt fileRowOf fileWords
   room-is = ap (λ (r : List ℕ). getD r 1 0 * getD r 2 0) (S .file)
 
   pub has-room : (access n w : ℕ) → n ≡ used (purged access b .store) → w ≡ countSide xs f 2

@@ -1,35 +1,12 @@
--- One turn of each loop over the places of a file: v is what it read of place i, and n places are left.
+-- One turn of the loop that looks for another share: n places are left, from place i on.
 use Prim.Native.Nat.{ℕ, zero, suc, _+_, _-_, _≤_, _<_}
-use mathlib.Core.Path.{_≡_, refl, sym, ap, _∙_}
+use mathlib.Core.Path.{_≡_, refl, sym, _∙_}
 use mathlib.Core.Bool.{Bool, true, false, not}
-use mathlib.Core.Logic.{_⊎_, inl, inr}
 use mathlib.Core.List.{List}
 use native.Mathlib.Omega.{arith}
-use borrow.Author.Tests.{lt-ltb, le-ltb, eq-eqb, ne-eqb, not-true, not-false}
-use lib.Dec.{ltb, eqb}
-use Rattle.tally.specs.Count.{bit}
-use Rattle.segment.specs.Fields.{placeAt}
-use Rattle.judges.specs.Sides.{sidesFrom, differs, othersFrom}
-
-side-step : (s : List ℕ) (side i n : ℕ) → 0 < n → sidesFrom s side i n ≡ bit (eqb (placeAt s i .side) side) + sidesFrom s side (i + 1) (n - 1)
-unfolding sidesFrom
-side-step s side i zero h = absurd (omega arith)
-side-step s side i (suc n) h = let m : suc n - 1 ≡ n = omega arith in let k : suc i ≡ i + 1 = omega arith in rw (m, k)
-
-module _ (s : List ℕ) (side i v : ℕ) (e : v ≡ placeAt s i .side) where
-  pub side-turn : (n w w′ : ℕ) → 0 < n → ((v ≡ side) × (w′ ≡ w + 1)) ⊎ ((v ≡ side → ⊥) × (w′ ≡ w))
-      → (w + sidesFrom s side i n ≡ w′ + sidesFrom s side (i + 1) (n - 1)) × (w′ ≤ w + 1)
-  side-turn n w w′ a (inl h) =
-      let k : bit (eqb (placeAt s i .side) side) ≡ 1 = ap bit (eq-eqb (placeAt s i .side) side (sym e ∙ h .0)) in
-      (omega (arith, side-step s side i n a), omega arith)
-  side-turn n w w′ a (inr h) =
-      let k : bit (eqb (placeAt s i .side) side) ≡ 0 = ap bit (ne-eqb (placeAt s i .side) side (λ u. h .0 (e ∙ u))) in
-      (omega (arith, side-step s side i n a), omega arith)
-
-pub side-end : (s : List ℕ) (side i n w : ℕ) → n ≤ 0 → w + sidesFrom s side i n ≡ w
-unfolding sidesFrom
-side-end s side i zero w h = omega arith
-side-end s side i (suc n) w h = absurd (omega arith)
+use borrow.Author.Tests.{lt-ltb, le-ltb, not-true, not-false}
+use lib.Dec.{ltb}
+use Rattle.judges.specs.Sharing.{differs, othersFrom}
 
 -- an accessor with another share
 

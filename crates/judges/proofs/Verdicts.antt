@@ -6,25 +6,26 @@ use mathlib.Core.List.{List, []}
 use mathlib.Core.Option.{none, some}
 use borrow.Author.Tests.{lt-ltb}
 use lib.Dec.{ltb, leb, eqb}
-use Rattle.tally.specs.Count.{bit}
+use Rattle.occurrences.specs.Count.{bit}
 use Rattle.kinds.specs.declared.Control.{Control}
 use Rattle.kinds.specs.declared.Control.the-variants.{Timeout, Verify, Abort, Extended, Typed, Keep}
-use Rattle.rules.specs.Limits.{places, leastRefusal}
+use Rattle.rules.specs.Limits.{places}
 use Rattle.rules.specs.Geometry.{dataBlocks, inRange, fitsShare}
 use Rattle.rules.specs.Count.{countBytes, readable}
 use Rattle.rules.specs.State.{Req, idle, reading, writing, readDone, writeDone, Acc, Built}
 use Rattle.rules.specs.Store.{fetch}
 use Rattle.rules.specs.Requests.{opened, writers, readers, fits, isIdle}
-use Rattle.rules.specs.Reply.{Out, leaves, done, status, unmade}
+use Rattle.rules.specs.Reply.{Out, leaves, answering, status, unmade}
 use Rattle.rules.specs.Transfer as transfer
 use Rattle.rules.specs.Controls as controls
 use Rattle.rules.specs.Close as closing
 use Rattle.rules.specs.Open as opening
 use Rattle.rules.proofs.Split.{both, opt}
+use Rattle.laws.specs.Bounds.{leastRefusal}
 use Rattle.midst.specs.Outcome.{refusalOf, replyStatus, statusOf}
 use Rattle.midst.specs.Accepted.{endOf}
-use Rattle.judges.specs.Sides.{sideOf}
-use Rattle.judges.specs.Requests.{outstandingOf}
+use Rattle.accessors.specs.Sides.{sideOf}
+use Rattle.accessors.specs.Outstanding.{outstandingOf}
 use Rattle.judges.specs.Verdicts.{free, whileFree, readRefusal, writeRefusal, switchRefusal, readerRefusal, nothingRefusal, controlRefusal, codeRefusal, closeRefusal, buildRefusal, modesInRange, forbidden, openRefusal}
 
 -- n is the refusal number of what a call comes to
@@ -57,37 +58,37 @@ side-is-writer a = go (a .writer)
 -- read, write and collect
 
 read-on : (p n : ℕ) (a : Acc) (b : Built) → Comes 0 (transfer.readOn p a n b)
-unfolding transfer.readOn leaves status done refusalOf replyStatus statusOf
+unfolding transfer.readOn leaves status answering refusalOf replyStatus statusOf
 read-on p n a b =
     opt (Comes 0) (fetch (b .geo) (a .typed) (a .keep) (b .store) .got)
     (λ _. both (Comes 0) (transfer.mayWait (writers b) a) (λ _. refl) (λ _. refl)) (λ r _. refl)
 
 write-on : (p n : ℕ) (a : Acc) (d : List ℕ) (b : Built) → Comes 0 (transfer.writeOn p a n d b)
-unfolding transfer.writeOn leaves status done refusalOf replyStatus statusOf
+unfolding transfer.writeOn leaves status answering refusalOf replyStatus statusOf
 write-on p n a d b =
     both (Comes 0) (fits b && transfer.isNil (b .wq)) (λ _. refl)
     (λ _. both (Comes 0) (transfer.mayWait (readers b) a) (λ _. refl) (λ _. refl))
 
 pub read-comes : (p n : ℕ) (a : Acc) (b : Built) → Comes (readRefusal n (sideOf (some a)) (outstandingOf (a .req))) (transfer.read p a n b)
-unfolding transfer.read readRefusal whileFree leaves status done refusalOf replyStatus statusOf
+unfolding transfer.read readRefusal whileFree leaves status answering refusalOf replyStatus statusOf
 read-comes p n a b =
     rw (free-is (a .req), side-is-writer a)
     (tested Comes (isIdle (a .req)) (tested Comes (a .writer) refl (tested Comes (readable n) (read-on p n a b) refl)) refl)
 
 pub write-comes : (p n : ℕ) (d : List ℕ) (a : Acc) (b : Built)
     → Comes (writeRefusal n (b .geo .words) (sideOf (some a)) (outstandingOf (a .req))) (transfer.write p a n d b)
-unfolding transfer.write writeRefusal whileFree leaves status done refusalOf replyStatus statusOf
+unfolding transfer.write writeRefusal whileFree leaves status answering refusalOf replyStatus statusOf
 write-comes p n d a b =
     rw (free-is (a .req), side-is-writer a)
     (tested Comes (isIdle (a .req)) (tested Comes (a .writer) (tested Comes (leb (countBytes n) (2 * b .geo .words)) (write-on p n a d b) refl) refl) refl)
 
 -- a completed request is handed over with its status, which is no refusal's number
 collected-comes : (st l : ℕ) (d : List ℕ) (p : ℕ) (b : Built) → st < leastRefusal → Comes 0 (transfer.collected st l d p b)
-unfolding transfer.collected leaves status done refusalOf replyStatus statusOf
+unfolding transfer.collected leaves status answering refusalOf replyStatus statusOf
 collected-comes st l d p b h = both (Comes 0) (eqb st 0) (λ _. refl) (λ _. rw (lt-ltb st leastRefusal h))
 
 pub collect-comes : (p : ℕ) (q : Req) (b : Built) → endOf q < leastRefusal → Comes (nothingRefusal (outstandingOf q)) (transfer.collect p q b)
-unfolding transfer.collect nothingRefusal outstandingOf free endOf leaves status done refusalOf replyStatus statusOf
+unfolding transfer.collect nothingRefusal outstandingOf free endOf leaves status answering refusalOf replyStatus statusOf
 collect-comes p idle b h = refl
 collect-comes p (reading w l k) b h = refl
 collect-comes p (writing w d) b h = refl
@@ -98,19 +99,19 @@ collect-comes p (writeDone st l) b h = collected-comes st l [] p b h
 
 module _ (a : Acc) (b : Built) where
   while-comes : (o : Out) (n : ℕ) → Comes n o → Comes (whileFree (outstandingOf (a .req)) n) (controls.whileIdle a b o)
-  unfolding controls.whileIdle whileFree leaves status done refusalOf replyStatus statusOf
+  unfolding controls.whileIdle whileFree leaves status answering refusalOf replyStatus statusOf
   while-comes o n h = rw (free-is (a .req)) (tested Comes (isIdle (a .req)) h refl)
 
   switch-comes : (p v : ℕ) (set : Bool → Acc → Acc) → Comes (switchRefusal v) (controls.switched p v set b)
-  unfolding controls.switched switchRefusal leaves status done refusalOf replyStatus statusOf
+  unfolding controls.switched switchRefusal leaves status answering refusalOf replyStatus statusOf
   switch-comes p v set = tested Comes (leb v 1) refl refl
 
   reader-comes : (p v : ℕ) (set : Bool → Acc → Acc) → Comes (readerRefusal (sideOf (some a)) v) (controls.ofReader a b (controls.switched p v set b))
-  unfolding controls.ofReader readerRefusal leaves status done refusalOf replyStatus statusOf
+  unfolding controls.ofReader readerRefusal leaves status answering refusalOf replyStatus statusOf
   reader-comes p v set = rw (side-is-writer a) (tested Comes (a .writer) refl (switch-comes p v set))
 
 abort-comes : (p : ℕ) (q : Req) (b : Built) → Comes (nothingRefusal (outstandingOf q)) (controls.abort p q b)
-unfolding controls.abort nothingRefusal outstandingOf free leaves status done refusalOf replyStatus statusOf
+unfolding controls.abort nothingRefusal outstandingOf free leaves status answering refusalOf replyStatus statusOf
 abort-comes p idle b = refl
 abort-comes p (reading w l k) b = refl
 abort-comes p (writing w d) b = refl
@@ -118,7 +119,7 @@ abort-comes p (readDone st l d) b = refl
 abort-comes p (writeDone st l) b = refl
 
 pub control-comes : (p : ℕ) (c : Control) (a : Acc) (b : Built) → Comes (controlRefusal c (sideOf (some a)) (outstandingOf (a .req))) (controls.control p a (some c) b)
-unfolding controls.control controlRefusal leaves done refusalOf replyStatus statusOf
+unfolding controls.control controlRefusal leaves answering refusalOf replyStatus statusOf
 control-comes p (Timeout v) a b = while-comes a b _ 0 refl
 control-comes p (Verify v) a b = while-comes a b _ 0 refl
 control-comes p (Abort v) a b = abort-comes p (a .req) b
@@ -127,12 +128,12 @@ control-comes p (Typed v) a b = while-comes a b _ (readerRefusal (sideOf (some a
 control-comes p (Keep v) a b = while-comes a b _ (readerRefusal (sideOf (some a)) v) (reader-comes a b p v controls.setKeep)
 
 pub code-comes : (p : ℕ) (a : Acc) (b : Built) → Comes (codeRefusal (outstandingOf (a .req))) (controls.control p a none b)
-unfolding controls.control codeRefusal leaves status done refusalOf replyStatus statusOf
+unfolding controls.control codeRefusal leaves status answering refusalOf replyStatus statusOf
 code-comes p a b = while-comes a b _ 35 refl
 
 -- close
 pub close-comes : (p : ℕ) (a : Acc) (q : Req) (b : Built) → Comes (closeRefusal (outstandingOf q)) (closing.close p a q b)
-unfolding closing.close closeRefusal outstandingOf leaves status done refusalOf replyStatus statusOf
+unfolding closing.close closeRefusal outstandingOf leaves status answering refusalOf replyStatus statusOf
 close-comes p a idle b = refl
 close-comes p a (reading w l k) b = refl
 close-comes p a (writing w d) b = refl
@@ -142,11 +143,11 @@ close-comes p a (writeDone st l) b = refl
 -- build and open
 
 pub build-comes : (r b n x : ℕ) → Comes (buildRefusal r b n x) (opening.build r b n x)
-unfolding opening.build buildRefusal leaves done unmade refusalOf replyStatus statusOf
+unfolding opening.build buildRefusal leaves answering unmade refusalOf replyStatus statusOf
 build-comes r b n x = tested Comes (inRange r b n x) (tested Comes (fitsShare r b (dataBlocks n b x)) refl refl) refl
 
-pub open-comes : (access share multi : ℕ) (b : Built) → Comes (openRefusal access share multi b) (opening.open′ access share multi b)
-unfolding opening.open′ opening.openReader opening.openWriter openRefusal modesInRange forbidden leaves status done refusalOf replyStatus statusOf
+pub open-comes : (access share multi : ℕ) (b : Built) → Comes (openRefusal access share multi b) (opening.openFile access share multi b)
+unfolding opening.openFile opening.openReader opening.openWriter openRefusal modesInRange forbidden leaves status answering refusalOf replyStatus statusOf
 open-comes access share multi b =
     tested Comes (modesInRange access share multi)
     (tested Comes (forbidden access share multi b) refl

@@ -1,6 +1,3 @@
-pub mod Sides
-pub mod Requests
-pub mod Shown
-pub mod Accessors
+pub mod Sharing
 pub mod Verdicts
 pub mod Refused

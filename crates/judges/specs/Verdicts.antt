@@ -9,9 +9,16 @@ use Rattle.rules.specs.Geometry.{dataBlocks, inRange, fitsShare}
 use Rattle.rules.specs.Count.{countBytes, readable}
 use Rattle.rules.specs.State.{Built}
 use Rattle.rules.specs.Requests.{countAcc, opened}
-use Rattle.rules.specs.Open.{shareOf, otherShare, crowded, roomToOpen}
-use Rattle.judges.specs.declared.outstanding.Outstanding.{Outstanding}
-use Rattle.judges.specs.declared.outstanding.Outstanding.the-variants.{Nothing, Waiting, Completed}
+use Rattle.rules.specs.Open.{sharingOf, otherShare, crowded, roomToOpen}
+use Rattle.accessors.specs.declared.Accessor.{Accessor}
+use Rattle.accessors.specs.declared.Accessor.the-variants.{Refused, Open}
+use Rattle.accessors.specs.declared.outstanding.Outstanding.{Outstanding}
+use Rattle.accessors.specs.declared.outstanding.Outstanding.the-variants.{Nothing, Waiting, Completed}
+
+-- a refusal, or what is said of an open accessor
+unfoldable pub judged : (ℕ → ℕ → Outstanding → ℕ) → Accessor → ℕ
+judged g (Refused n) = n
+judged g (Open words side request) = g words side request
 
 unfoldable pub free : Outstanding → Bool
 free Nothing = true
@@ -67,7 +74,7 @@ unfoldable pub modesInRange : ℕ → ℕ → ℕ → Bool
 modesInRange access share multi = leb access mostMode && leb share mostMode && leb multi mostMode
 
 unfoldable pub forbidden : ℕ → ℕ → ℕ → Built → Bool
-forbidden access share multi b = eqb multi 3 || ltb 0 (countAcc (otherShare (shareOf share)) (b .accs)) || crowded (ltb 0 access) (shareOf share) b
+forbidden access share multi b = eqb multi 3 || ltb 0 (countAcc (otherShare (sharingOf share)) (b .accs)) || crowded (ltb 0 access) (sharingOf share) b
 
 unfoldable pub openRefusal : ℕ → ℕ → ℕ → Built → ℕ
 openRefusal access share multi b =

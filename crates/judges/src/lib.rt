@@ -5,15 +5,12 @@ ghost use Rattle.kinds.specs.declared.Frame.the-variants as frame;
 ghost use Rattle.rules.specs.Desk.{frameAsks};
 ghost use Rattle.judges.specs.Refused.{Stood, Refuses};
 use kinds::Event;
+use kinds::refusals;
 
-pub mod accessors;
-pub mod controls;
-pub mod opening;
-pub mod outstanding;
-pub mod refusals;
-pub mod requests;
+pub mod control_codes;
+pub mod on_accessors;
+pub mod on_files;
 mod sharing;
-pub mod sides;
 
 // The refusal number of an event; 0 where it is not refused. Whatever the data of a write are.
 pub fn judge(segment: &[u8], event: Event) -> u8
@@ -27,24 +24,24 @@ pub fn judge(segment: &[u8], event: Event) -> u8
             factor,
             records,
             extents,
-        } => opening::judge_build(segment, file, words, factor, records, extents),
+        } => on_files::judge_build(segment, file, words, factor, records, extents),
         Event::Open {
             file,
             access,
             share,
             multi,
-        } => opening::judge_open(segment, file, access, share, multi),
-        Event::Read { file, acc, count } => requests::judge_read(segment, file, acc, count),
-        Event::Write { file, acc, count } => requests::judge_write(segment, file, acc, count),
-        Event::Control { file, acc, control } => controls::judge_control(
+        } => on_files::judge_open(segment, file, access, share, multi),
+        Event::Read { file, acc, count } => on_accessors::judge_read(segment, file, acc, count),
+        Event::Write { file, acc, count } => on_accessors::judge_write(segment, file, acc, count),
+        Event::Control { file, acc, control } => control_codes::judge_control(
             segment,
             file,
             acc,
             control,
         ),
-        Event::Collect { file, acc } => requests::judge_collect(segment, file, acc),
-        Event::Close { file, acc } => requests::judge_close(segment, file, acc),
+        Event::Collect { file, acc } => on_accessors::judge_collect(segment, file, acc),
+        Event::Close { file, acc } => on_accessors::judge_close(segment, file, acc),
         Event::Time { seconds: _ } => refusals::NONE,
-        Event::Counts { file } => opening::judge_counts(segment, file),
+        Event::Counts { file } => on_files::judge_counts(segment, file),
     }
 }

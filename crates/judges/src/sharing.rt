@@ -1,23 +1,24 @@
 // Who may be open together, and the room for an open record.
-use crate::sides::CLOSED;
-use crate::sides::READER;
-use crate::sides::WRITER;
-use crate::sides::count_side;
+use accessors::share_of;
+use accessors::sides::count_side;
+use accessors::sides::purges;
 use kinds::limits::PLACES;
+use kinds::sides::CLOSED;
+use kinds::sides::READER;
+use kinds::sides::WRITER;
 ghost use mathlib.Core.Path.{_≡_};
 ghost use Prim.Native.Nat.{_*_, _<_};
-ghost use mathlib.Core.Bool.{true, false, _&&_};
-ghost use lib.Dec.{ltb, eqb};
+ghost use mathlib.Core.Bool.{true, false};
+ghost use lib.Dec.{ltb};
 ghost use lib.ListN.{length};
 ghost use Rattle.rules.specs.Limits.{files, places};
 ghost use Rattle.rules.specs.State.{Built};
-ghost use Rattle.rules.specs.Requests.{opened};
 ghost use Rattle.rules.specs.Store.{used};
-ghost use Rattle.rules.specs.Open.{shareOf, crowded, purged, roomToOpen};
+ghost use Rattle.rules.specs.Open.{crowded, purged, roomToOpen};
 ghost use Rattle.segment.specs.Layout.{segmentBytes};
-ghost use Rattle.judges.specs.Sides.{differs, othersFrom};
+ghost use Rattle.judges.specs.Sharing.{differs, othersFrom};
 ghost use Rattle.judges.specs.Verdicts.{forbidden};
-ghost use Rattle.judges.specs.Shown.{Shown};
+ghost use Rattle.accessors.specs.Shown.{Shown};
 
 // Share 1 is one reader and one writer, share 2 one reader and many writers, share 3 many of both.
 const SINGLE: u16 = 1;
@@ -27,24 +28,8 @@ const MANY: u16 = 3;
 // Multiaccess 3 is always refused.
 const NO_MULTI: u8 = 3;
 
-// Access 1 purges if no accessor is open.
-const PURGING: u8 = 1;
-
-// As many closed places as a file has.
-const ALL_PLACES: u16 = 8;
-
 // The open record, and the close record that a place is kept for.
 const WRITERS_RECORDS: u32 = 2;
-
-// "Share 0 counts as 1."
-fn share_of(share: u8) -> u16
-    ensures { λ r. ⌜ r ≡ shareOf share ⌝ }
-{
-    if share == 0 {
-        return SINGLE;
-    }
-    share as u16
-}
 
 // Whether an accessor with another share is open at place i.
 fn differs(segment: &[u8], i: usize, share: u16) -> bool
@@ -125,18 +110,6 @@ pub fn forbids(segment: &[u8], f: usize, access: u8, share: u8, multi: u8) -> bo
         return true;
     }
     crowds(segment, f, access, s)
-}
-
-// Whether all places are closed, and the access purges then.
-fn purges(segment: &[u8], f: usize, access: u8) -> bool
-    requires { ⌜ length (now segment) ≡ segmentBytes ⌝ }
-    requires { ⌜ f < files ⌝ }
-    ensures { λ r. ⌜ ((b : Built) → Shown (now (segment .entry)) f b → r ≡ (eqb access 1 && eqb (opened b) 0)) ⌝ }
-{
-    if access != PURGING {
-        return false;
-    }
-    count_side(segment, f, CLOSED) == ALL_PLACES
 }
 
 // The records that count as used when an open of that access puts its own.

@@ -1,5 +1,11 @@
-// The types that the rules and the code share, and the limits. Document 01's numbers for the cases stand in the rules: Frames, Answers.
+// The types that the rules and the code share, and document 01's own numbers, each of which has its one home here.
+// The rules have the limits in Limits; their numbers for the cases stand in Frames, Answers and Calls.
 pub mod limits;
+pub mod operations;
+pub mod records;
+pub mod refusals;
+pub mod sides;
+pub mod statuses;
 
 // A control with its parameter, as it stands in the frame.
 pub enum Control {

@@ -16,7 +16,7 @@ use Rattle.rules.specs.Desk.{Call, Asked, on, time, bad, asked, Desk, freshDesk
 use Rattle.rules.specs.Allocation.{Held, nothing, own, timed, placeOf, Alloc, freshAlloc, heldAt, allotAll, allocTime, allocAsked, allocAfter}
 use Rattle.laws.specs.Runs.{OnFile, Proper}
 use Rattle.laws.specs.Outstanding.{waitsRead, waitsWrite, uncollected, awaits, outstanding, reqAt}
-use Rattle.tally.specs.Count.{count}
+use Rattle.occurrences.specs.Count.{count}
 use Rattle.laws.specs.Counts.{placesOf, countT}
 use Rattle.laws.specs.Timers.{Sorted, Clock}
 use Rattle.laws.specs.Entries.{entriesOf, size, Whole, sieve, accsOf, timersOf, Agrees, Calm, Agreed, HeldFor, idles, lasts, ticks, Fed}

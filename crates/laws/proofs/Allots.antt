@@ -11,12 +11,12 @@ use Rattle.rules.specs.Limits.{files, places, entries}
 use Rattle.rules.specs.State.{Timer}
 use Rattle.rules.specs.Requests.{withoutTimer}
 use Rattle.rules.specs.Allocation.{Held, nothing, own, timed, Alloc, heldAt, front, holds, withClock, takeOwn, takeTimer, freeTimer, freeOwn, endsAt, goesAt}
-use Rattle.tally.specs.Count.{bit, count}
+use Rattle.occurrences.specs.Count.{bit, count}
 use Rattle.laws.specs.Counts.{countT}
 use Rattle.laws.specs.Entries.{entriesOf, taken, size, Whole}
 use Rattle.laws.specs.Midst.{untimed, Steps}
-use Rattle.tally.proofs.Counts.{count-append, count-front}
-use Rattle.tally.proofs.Pigeons.{pigeons}
+use Rattle.occurrences.proofs.Counts.{count-append, count-front}
+use Rattle.occurrences.proofs.Pigeons.{pigeons}
 use Rattle.laws.proofs.Clock.{withoutTimer-absent}
 use Rattle.laws.proofs.Taken.{count-taken-set, length-taken-room}
 

@@ -8,7 +8,7 @@ use lib.ListN.{length}
 use borrow.Author.Tests.{le-leb}
 use Rattle.rules.specs.State.{Built}
 use Rattle.rules.specs.Store.{used}
-use Rattle.rules.specs.Requests.{writers, room, fits}
+use Rattle.rules.specs.Requests.{writers, capacityOf, fits}
 use Rattle.rules.specs.Desk.{Call, freshDesk, fileOf, after}
 use Rattle.shares.proofs.Says.{spent-empty}
 use Rattle.laws.specs.Runs.{OnFile}
@@ -22,8 +22,8 @@ use Rattle.laws.proofs.Rest.{at-rest}
 
 -- in an empty file a record fits
 fits-empty : (b : Built) → Roomy b → b .store .recs ≡ [] → fits b ≡ true
-unfolding fits used room
-fits-empty b k e = le-leb (used (b .store) + writers b + 1) (room b) (omega (arith, spent-empty (b .geo) (b .store) (k .holds) e, ap length e, k .one-more))
+unfolding fits used capacityOf
+fits-empty b k e = le-leb (used (b .store) + writers b + 1) (capacityOf b) (omega (arith, spent-empty (b .geo) (b .store) (k .holds) e, ap length e, k .one-more))
 
 rest-apart : (b : Built) → Roomy b → Rest b → Apart b
 rest-apart b k r p l e = go (b .wq) refl

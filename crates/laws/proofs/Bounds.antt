@@ -13,7 +13,7 @@ use Rattle.rules.specs.State.{Req, idle, reading, writing, readDone, writeDone,
 use Rattle.rules.specs.Requests.{accAt, alter, withAccs, withQueues, withTimers, withStore, alterAcc, say, putRec, behind, withReq, requeue, leave, finish, cancel, freed}
 use Rattle.rules.specs.Reply.{hushed}
 use Rattle.rules.specs.Open.{newFile, newAcc}
-use Rattle.rules.specs.Close.{lessen}
+use Rattle.rules.specs.Time.{lessen}
 use Rattle.rules.specs.Sheet.{loaded}
 use Rattle.rules.specs.Memories.{lies, buffer}
 use Rattle.rules.specs.Desk.{Call, freshDesk, fileOf, after}

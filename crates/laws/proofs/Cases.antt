@@ -6,13 +6,13 @@ use mathlib.Core.Option.{none, some}
 use Prim.Native.Nat.{ℕ, _<_}
 use native.Mathlib.Omega.{arith}
 use lib.ListN.{length}
-use Rattle.rules.specs.Limits.{leastRefusal}
 use Rattle.rules.specs.State.{Rec, Req, idle, reading, writing, readDone, writeDone, Acc, Built}
 use Rattle.rules.specs.Store.{fetch}
 use Rattle.rules.specs.Count.{logOf}
 use Rattle.rules.specs.Requests.{accAt, fits, putRec, behind, finish, failReq, fail}
 use Rattle.rules.specs.Settle.{handed, readResult, dataRec, Turn, still, onward, serveReader, serveWriter, atHead, turn}
 use Rattle.rules.proofs.Split.{both, opt, pick-true, pick-false}
+use Rattle.laws.specs.Bounds.{leastRefusal}
 use Rattle.laws.specs.Outstanding.{reqOf, reqAt, waitsRead, waitsWrite, awaits}
 use Rattle.laws.specs.Changes.{Ends, readEnds, writeEnds}
 

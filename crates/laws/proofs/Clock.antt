@@ -8,12 +8,12 @@ use borrow.Author.Tests.{leb-true, leb-false, le-leb, lt-leb, eq-eqb, ne-eqb}
 use Rattle.rules.specs.Limits.{files, places}
 use Rattle.rules.specs.State.{Timer}
 use Rattle.rules.specs.Requests.{armIn, without, withoutTimer}
-use Rattle.rules.specs.Close.{minus}
+use Rattle.rules.specs.Time.{minus}
 use Rattle.rules.proofs.Split.{by-cases, bothc}
-use Rattle.tally.specs.Count.{bit, count}
+use Rattle.occurrences.specs.Count.{bit, count}
 use Rattle.laws.specs.Counts.{placesOf, countT}
 use Rattle.laws.specs.Timers.{Sorted, Clock}
-use Rattle.tally.proofs.Counts.{bit-ne}
+use Rattle.occurrences.proofs.Counts.{bit-ne}
 use Rattle.laws.proofs.Counts.{at-or-else, count-without-same, count-without-other}
 
 -- one clause of `armIn` and of `withoutTimer`

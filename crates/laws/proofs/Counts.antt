@@ -1,17 +1,17 @@
 -- Counting in lists; a list that has each number below n has at least n.
 use mathlib.Core.Path.{_≡_, refl, sym, ap, subst, _∙_}
-use mathlib.Core.List.{List, [], _∷_, _++_}
+use mathlib.Core.List.{List, [], _∷_}
 use Prim.Native.Nat.{ℕ, zero, suc, _+_, _≤_, _<_}
 use native.Mathlib.Omega.{arith}
 use native.Mathlib.Decide.{ℕ-discrete}
 use lib.Dec.{ltb, eqb}
-use lib.ListN.{length, getD, drop}
-use borrow.Author.Tests.{eqb-true, eqb-false, lt-ltb, le-ltb, eq-eqb, ne-eqb}
+use lib.ListN.{length}
+use borrow.Author.Tests.{eqb-true, eqb-false, lt-ltb, le-ltb}
 use Rattle.rules.specs.Requests.{without}
 use Rattle.rules.specs.Allocation.{upFrom}
 use Rattle.rules.proofs.Split.{by-cases, bothc}
-use Rattle.tally.specs.Count.{bit, count}
-use Rattle.tally.proofs.Counts.{bit-eq, bit-ne}
+use Rattle.occurrences.specs.Count.{bit, count}
+use Rattle.occurrences.proofs.Counts.{bit-eq, bit-ne}
 
 -- a place is p, or another
 pub at-or-else : (P : ℕ → Type 0) (p x : ℕ) → P p → ((p ≡ x → ⊥) → P x) → P x

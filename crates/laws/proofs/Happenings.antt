@@ -17,7 +17,7 @@ use Rattle.laws.specs.Timers.{Clock}
 use Rattle.laws.specs.Entries.{entriesOf, size, Whole, local, sieve, Agrees}
 use Rattle.laws.specs.Midst.{Steps, Matches}
 use Rattle.laws.proofs.Accessors.{length-alter, getD-alter-other}
-use Rattle.tally.proofs.Counts.{bit-eq, bit-ne}
+use Rattle.occurrences.proofs.Counts.{bit-eq, bit-ne}
 use Rattle.laws.proofs.Counts.{at-or-else}
 use Rattle.laws.proofs.Clock.{countT-armIn, countT-withoutTimer-same, countT-withoutTimer-other, clock-withoutTimer, clock-armIn}
 use Rattle.laws.proofs.Outstanding.{outstanding-ends, reqs-same}

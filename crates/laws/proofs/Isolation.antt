@@ -9,10 +9,10 @@ use lib.Seq.{getD-set-same, getD-set-other}
 use borrow.Author.Tests.{ltb-true, eqb-true, eqb-false}
 use Rattle.rules.specs.Limits.{files}
 use Rattle.rules.specs.State.{Hap, File, unbuilt}
-use Rattle.rules.specs.Reply.{Reply, unmade}
-use Rattle.rules.specs.Close.{timePasses}
+use Rattle.rules.specs.Reply.{Reply}
 use Rattle.rules.specs.Calls.{Ask, ask, refusal}
-use Rattle.rules.specs.Desk.{Call, Asked, on, time, bad, asked, Desk, freshDesk, fileOf, fileTime, Responded, answered, respond, replies, after, happens, history}
+use Rattle.rules.specs.Desk.{Call, Asked, on, time, bad, asked, Desk, freshDesk, fileOf, Responded, answered, respond, replies, after, happens, history}
+use Rattle.rules.specs.Time.{fileTime, timeHaps}
 use Rattle.rules.proofs.Split.{both}
 use Rattle.laws.specs.Runs.{Own, call, wait, mine, only, names, theirs, Proper}
 use Rattle.laws.proofs.Lists.{getD-replicate-same}
@@ -30,7 +30,7 @@ ownHears f x (wait e) = []
 
 unfoldable pub ownHaps : ℕ → File → Own → List Hap
 ownHaps f x (call q) = ask x q .haps
-ownHaps f x (wait e) = timePasses e x .haps
+ownHaps f x (wait e) = timeHaps e x
 
 unfoldable pub ownAfter : ℕ → File → List Own → File
 ownAfter f x [] = x
@@ -66,7 +66,7 @@ unfolding answered fileOf
 answered-other d f g q h = both (λ (r : Responded). fileOf (r .desk) f ≡ fileOf d f) (ltb g files) (λ _. getD-set-other d g f _ unbuilt (λ e. eqb-false g f h (sym e))) (λ _. refl)
 
 pub answered-time : (d : Desk) (f e : ℕ) → fileOf (answered d (time e) .desk) f ≡ fileTime e (fileOf d f)
-unfolding answered fileOf fileTime timePasses unmade
+unfolding answered fileOf fileTime
 answered-time d f e = List·getD-map (fileTime e) d f unbuilt
 
 step-file : (f : ℕ) (d : Desk) (a : Asked) → length d ≡ files → fileOf (answered d a .desk) f ≡ ownAfter f (fileOf d f) (mine f a)

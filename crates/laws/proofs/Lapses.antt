@@ -6,14 +6,14 @@ use Prim.Native.Nat.{ℕ, _+_, _*_, _/_, _%_, _≤_, _<_}
 use native.Mathlib.Omega.{arith}
 use native.Mathlib.Decide.{ℕ-discrete, decLt}
 use lib.ListN.{length, List·getD-eq-default}
-use Rattle.rules.specs.Limits.{files, places, leastRefusal}
+use Rattle.rules.specs.Limits.{files, places}
 use Rattle.rules.specs.State.{Acc, Timer, ends, Built, File, unbuilt, built}
 use Rattle.rules.specs.Requests.{accAt, withAccs, withQueues, withTimers, alterAcc, say, requeue, leave, finish, fail}
-use Rattle.rules.specs.Reply.{hushed, leaves, done, unmade}
+use Rattle.rules.specs.Reply.{hushed}
 use Rattle.rules.specs.Open.{newFile}
-use Rattle.rules.specs.Close.{due, failAll, minus, lessen, lapse, timePasses}
-use Rattle.rules.specs.Desk.{fileTime}
+use Rattle.rules.specs.Time.{due, failAll, minus, lessen, lapse, fileTime, timeHaps}
 use Rattle.rules.specs.Allocation.{nothing, Alloc, placeOf, heldAt, withClock, endsAt, allot, endAll, allocTime}
+use Rattle.laws.specs.Bounds.{leastRefusal}
 use Rattle.laws.specs.Runs.{OnFile}
 use Rattle.laws.specs.Outstanding.{reqAt, outstanding}
 use Rattle.laws.specs.Changes.{Finishes}
@@ -103,19 +103,19 @@ module _ (f : ℕ) (hf : f < files) (e : ℕ) (s : Alloc) where
   bare = newFile (record { words = 0; factor = 0; blocks = 0 }) (record { block = 0; spent = 0; recs = []; share = [] })
 
   pub ages : (x : File) → Matches f s s (accsOf x) (timersOf x) → Matches f (allocTime e s) (allocTime e s) (accsOf (fileTime e x)) (timersOf (fileTime e x))
-  unfolding accsOf timersOf fileTime timePasses done leaves hushed unmade
+  unfolding accsOf timersOf fileTime hushed
   ages unbuilt M = unfold bare newFile lapse lessen withTimers due failAll in ages-built bare M
   ages (built b) M = ages-built b M
 
 pub ages-calm : (e : ℕ) (x : File) → Calm (fileTime e x)
-unfolding OnFile fileTime timePasses done leaves hushed unmade
+unfolding OnFile fileTime hushed
 ages-calm e unbuilt = tt
 ages-calm e (built b) = refl
 
 -- and nothing is taken
 
-pub ages-fed : (f e : ℕ) (s : Alloc) (x : File) → Calm x → Fed f (timePasses e x .haps) s
-unfolding OnFile timePasses done leaves unmade lapse lessen withTimers
+pub ages-fed : (f e : ℕ) (s : Alloc) (x : File) → Calm x → Fed f (timeHaps e x) s
+unfolding OnFile timeHaps lapse lessen withTimers
 ages-fed f e s unbuilt c = unfold Fed in tt
 ages-fed f e s (built b) c = fails-all (λ d. Fed f (d .past) s) more 22 (due e (b .timers)) b (rw c (unfold Fed in tt)) (omega arith)
   where

@@ -11,6 +11,7 @@ pub mod Lift
 pub mod Counts
 pub mod Clock
 pub mod Outstanding
+pub mod Ids
 pub mod Places
 pub mod Bounds
 pub mod Stores

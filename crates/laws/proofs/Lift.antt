@@ -3,14 +3,15 @@ use mathlib.Core.List.{List}
 use Prim.Native.Nat.{ℕ}
 use Rattle.rules.specs.State.{Built, File, unbuilt, built}
 use Rattle.rules.specs.Reply.{Reply, hushed, leaves, unmade}
-use Rattle.rules.specs.Close.{lapse, timePasses}
+use Rattle.rules.specs.Time.{lapse, fileTime}
 use Rattle.rules.specs.Calls.{Ask, ask}
-use Rattle.rules.specs.Desk.{Call, freshDesk, fileOf, fileTime, after}
+use Rattle.rules.specs.Desk.{Call, freshDesk, fileOf, after}
 use Rattle.laws.specs.Runs.{OnFile, Proper}
 use Rattle.laws.specs.Changes.{Walks, Settles, Starts}
 use Rattle.laws.proofs.Isolation.{always}
 use Rattle.laws.proofs.Files.{on-file}
-use Rattle.laws.proofs.Calls.{walked, aged}
+use Rattle.laws.proofs.Walk.{lapses-rest}
+use Rattle.laws.proofs.Calls.{walked}
 use Rattle.laws.proofs.Made.{made}
 
 -- R is what holds of a settled file
@@ -32,9 +33,9 @@ module _ (I R : Built → Type 0) (J : ℕ → Built → Type 0) (w : Walks I J)
   asks (built b) q k s = let h : I b × R b = unfold OnFile in s in walked I R J w st (λ o. Good (o .file)) left b q k (h .0) (h .1)
 
   pub lasts : (e : ℕ) (x : File) → Good x → Good (fileTime e x)
-  unfolding fileTime
-  lasts e unbuilt s = unfold timePasses in none-left _
-  lasts e (built b) s = let h : I b × R b = unfold OnFile in s in aged I R J w st (λ o. Good (o .file)) left e b (ages e b (h .0)) (h .1)
+  unfolding fileTime OnFile
+  lasts e unbuilt s = tt
+  lasts e (built b) s = hush (lapse e b) (ages e b (s .0)) (lapses-rest I R st e b (s .1))
 
   pub lifted-both : (f : ℕ) (cs : List Call) → OnFile (λ b. I b × R b) (fileOf (after freshDesk cs) f)
   lifted-both f cs = always Good (unfold OnFile in tt) asks lasts f cs

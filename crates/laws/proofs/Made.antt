@@ -11,18 +11,19 @@ use lib.ListN.{length, getD, drop, length-map, length-drop, drop-of-length-le}
 use borrow.Author.Tests.{leb-true, ne-eqb}
 use Rattle.words.specs.Word.{wordAt}
 use Rattle.rules.specs.Limits.{mostWords, mostFactor, shareWords, leastCapacity, mostType}
-use Rattle.rules.specs.Geometry.{upTo, dataBlocks, capacity, blockSize, within, inRange, fitsShare}
+use Rattle.rules.specs.Geometry.{dividedUp, dataBlocks, capacity, blockSize, within, inRange, fitsShare}
 use Rattle.rules.specs.State.{Geo}
-use Rattle.rules.specs.Reply.{Reply, shows, Out, leaves, done, unmade}
+use Rattle.rules.specs.Reply.{Reply, shows, Out, leaves, answering, unmade}
 use Rattle.rules.specs.Store.{emptyStore}
 use Rattle.rules.specs.Open.{geoOf, newFile, build}
-use Rattle.rules.specs.Sheet.{Sheet, goodHead, goodRec, goodRecs, recOf, framesSheet, readSheet, allLines, linesOf, loaded, load}
+use Rattle.rules.specs.Sheet.{Sheet, goodHead, goodRec, goodRecs, recOf, framesSheet, readSheet, allLines, loaded, load}
+use Rattle.rules.specs.Line.{linesOf}
 use Rattle.rules.specs.Calls.{Ask, askUnbuilt}
 use Rattle.rules.specs.Calls as calls
 use Rattle.rules.proofs.Split.{both, and-left, and-right}
 use Rattle.shares.specs.Groups.{All}
 use Rattle.shares.specs.Laid.{GoodRec}
-use Rattle.shares.proofs.Good.{upTo-most}
+use Rattle.shares.proofs.Good.{dividedUp-most}
 use Rattle.laws.specs.Changes.{GoodGeo, GoodRecs, GoodSheet}
 
 -- what build makes is a good geometry
@@ -51,10 +52,10 @@ built-good : (r b n x : ℕ) → inRange r b n x ≡ true → fitsShare r b (dat
 unfolding geoOf fitsShare dataBlocks capacity
 built-good r b n x e f =
     let i = in-range r b n x e in
-    let k : ℕ = upTo (n + 2) b in
-    let h₁ : n + 2 ≤ k * b = upTo-most (n + 2) b (i .factor-low) in
-    let h₂ : k + 1 ≤ upTo (k + 1) x * x = upTo-most (k + 1) x (i .extents-low) in
-    let h₃ : b * k ≤ b * (upTo (k + 1) x * x - 1) = mul-le-mul-left b (omega arith) in
+    let k : ℕ = dividedUp (n + 2) b in
+    let h₁ : n + 2 ≤ k * b = dividedUp-most (n + 2) b (i .factor-low) in
+    let h₂ : k + 1 ≤ dividedUp (k + 1) x * x = dividedUp-most (k + 1) x (i .extents-low) in
+    let h₃ : b * k ≤ b * (dividedUp (k + 1) x * x - 1) = mul-le-mul-left b (omega arith) in
     record {
       words-low = i .words-low;
       words-high = i .words-high;
@@ -125,7 +126,7 @@ sheet-good t s e = subst GoodRead e (read-good t)
 
 module _ (G : Out → Type 0) (none-made : (r : Reply) → G (unmade r)) (builds : (r : Reply) (g : Geo) → GoodGeo g → G (leaves r (newFile g emptyStore))) (loads : (r : Reply) (s : Sheet) → GoodSheet s → G (leaves r (loaded s))) where
   made-build : (r b n x : ℕ) → G (build r b n x)
-  unfolding build done
+  unfolding build answering
   made-build r b n x =
       both G (inRange r b n x)
       (λ e. both G (fitsShare r b (dataBlocks n b x)) (λ f. builds _ _ (built-good r b n x e f)) (λ _. none-made _))

@@ -83,7 +83,7 @@ module _ (f : ℕ) (hf : f < files) (s : Alloc) where
       (matches-goes f p hf s (so b) (b .accs) (b .timers) (m .matches) a e idle (omega (arith, outstanding-most (a .req))) (outstanding-idle idle refl))
 
   mid-free : (p : ℕ) (a : Acc) (b : Built) → accAt b p ≡ some a → uncollected (a .req) ≡ 1 → Mid f s b → Mid f s (freed p b)
-  unfolding accAt freed say requeue alterAcc withAccs withQueues takes allot reqOf
+  unfolding accAt freed say alterAcc withAccs takes allot reqOf
   mid-free p a b e w m =
       let o = outstanding-most (a .req) in
       let z : countT p (b .timers) ≡ 0 = omega (arith, m .matches .agrees .timed p, ap awaits (ap reqOf e)) in

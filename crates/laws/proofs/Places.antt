@@ -10,14 +10,16 @@ use Rattle.rules.specs.Limits.{places}
 use Rattle.rules.specs.State.{Built}
 use Rattle.rules.specs.Requests.{accAt, withAccs, withQueues, withTimers, withStore, alterAcc, say, putRec, behind, withReq, requeue, leave, finish, cancel, freed}
 use Rattle.rules.specs.Reply.{hushed}
-use Rattle.rules.specs.Open.{newFile, enter, purged}
-use Rattle.rules.specs.Close.{vacate, lessen}
+use Rattle.rules.specs.Open.{newFile, freeId, enter, purged}
+use Rattle.rules.specs.Close.{vacate}
+use Rattle.rules.specs.Time.{lessen}
 use Rattle.rules.specs.Sheet.{loaded}
 use Rattle.rules.specs.Desk.{Call, freshDesk, fileOf, after}
 use Rattle.laws.specs.Runs.{OnFile}
 use Rattle.laws.specs.Changes.{Walks, Starts}
 use Rattle.laws.specs.Places.{Eight}
 use Rattle.laws.proofs.Files.{on-file}
+use Rattle.laws.proofs.Ids.{Smallest, smallest-id}
 use Rattle.laws.proofs.Accessors.{length-alter, wait-keeps, purged-keeps}
 use Rattle.laws.proofs.Walk.{lapsed}
 use Rattle.laws.proofs.Lift.{lifted}
@@ -56,3 +58,7 @@ accAt-high b p s h = List·getD-eq-default (b .accs) none (omega (arith, s))
 
 pub no-accessor : (f : ℕ) (cs : List Call) → OnFile (λ b. (p : ℕ) → places ≤ p → accAt b p ≡ none) (fileOf (after freshDesk cs) f)
 no-accessor f cs = on-file Eight (λ b. (p : ℕ) → places ≤ p → accAt b p ≡ none) (λ b s p h. accAt-high b p s h) (fileOf (after freshDesk cs) f) (eight-places f cs)
+
+-- so the ID that a writer gets is the smallest that no writer holds
+pub smallest-ids : (f : ℕ) (cs : List Call) → OnFile (λ b. Smallest (b .accs) 1 (freeId (b .accs))) (fileOf (after freshDesk cs) f)
+smallest-ids f cs = on-file Eight (λ b. Smallest (b .accs) 1 (freeId (b .accs))) (λ b s. smallest-id (b .accs) (omega (arith, s))) (fileOf (after freshDesk cs) f) (eight-places f cs)

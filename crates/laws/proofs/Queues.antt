@@ -11,16 +11,16 @@ use Rattle.rules.specs.Store.{emptyStore}
 use Rattle.rules.specs.Requests.{accAt, withAccs, withQueues, withTimers, withStore, alterAcc, say, putRec, behind, without, withoutTimer, armIn, requeue, leave, finish, cancel, arm, wait, freed}
 use Rattle.rules.specs.Reply.{hushed}
 use Rattle.rules.specs.Open.{newFile, newAcc}
-use Rattle.rules.specs.Close.{lessen, lapse}
+use Rattle.rules.specs.Time.{lessen, lapse}
 use Rattle.rules.specs.Sheet.{loaded}
 use Rattle.rules.specs.Desk.{Call, freshDesk, fileOf, after}
 use Rattle.laws.specs.Runs.{OnFile}
 use Rattle.laws.specs.Outstanding.{reqOf, reqAt, waitsRead, waitsWrite, uncollected, awaits}
 use Rattle.laws.specs.Changes.{Finishes, Walks, Starts}
-use Rattle.tally.specs.Count.{count}
+use Rattle.occurrences.specs.Count.{count}
 use Rattle.laws.specs.Counts.{placesOf, countT}
 use Rattle.laws.specs.Queues.{Queued, Agree}
-use Rattle.tally.proofs.Counts.{bit-eq, bit-ne, count-snoc-same, count-snoc-other}
+use Rattle.occurrences.proofs.Counts.{bit-eq, bit-ne, count-snoc-same, count-snoc-other}
 use Rattle.laws.proofs.Counts.{count-without-same, count-without-other}
 use Rattle.laws.proofs.Clock.{countT-armIn, countT-withoutTimer-same, countT-withoutTimer-other, countT-minus}
 use Rattle.laws.proofs.Accessors.{arm-keeps, purged-keeps}

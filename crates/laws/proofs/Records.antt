@@ -1,24 +1,25 @@
 -- The records of a file are good, after any run from a fresh desk.
-use mathlib.Core.Path.{_≡_, refl, sym, subst}
+use mathlib.Core.Path.{_≡_, refl, subst}
 use mathlib.Core.Bool.{Bool, true, false}
 use mathlib.Core.List.{List, [], _∷_}
-use mathlib.Core.Option.{Option, some}
+use mathlib.Core.Option.{some}
 use Prim.Native.Nat.{ℕ, _+_, _*_, _≤_, _<_}
 use native.Mathlib.Omega.{arith}
 use lib.ListN.{length}
 use borrow.Author.Tests.{leb-true}
 use Rattle.rules.specs.Limits.{mostType}
 use Rattle.rules.specs.Geometry.{capacity}
-use Rattle.rules.specs.State.{Rec, Req, writing, Acc, Geo, Store, Built}
-use Rattle.rules.specs.Store.{used, emptyStore, put, purge, fetch, putAll}
-use Rattle.rules.specs.Requests.{writers, room, fits, accAt, withAccs, withQueues, withTimers, withStore, alterAcc, say, putRec, behind, requeue, leave, finish, cancel, wait, freed}
+use Rattle.rules.specs.State.{Rec, writing, Acc, Geo, Built}
+use Rattle.rules.specs.Store.{used, emptyStore, purge}
+use Rattle.rules.specs.Requests.{writers, capacityOf, fits, accAt, withAccs, withQueues, withTimers, withStore, alterAcc, say, putRec, behind, requeue, leave, finish, cancel, freed}
 use Rattle.rules.specs.Settle.{dataRec}
 use Rattle.rules.specs.Reply.{hushed}
 use Rattle.rules.specs.Open.{newFile, newAcc, openRec, enter, purged, roomToOpen}
-use Rattle.rules.specs.Close.{closeRec, vacate, lessen, lapse}
+use Rattle.rules.specs.Close.{closeRec, vacate}
+use Rattle.rules.specs.Time.{lessen, lapse}
 use Rattle.rules.specs.Sheet.{loaded}
 use Rattle.rules.specs.Desk.{Call, freshDesk, fileOf, after}
-use Rattle.shares.specs.Groups.{All, Small}
+use Rattle.shares.specs.Groups.{All}
 use Rattle.shares.specs.Laid.{GoodRec}
 use Rattle.shares.specs.Holds.{Holds}
 use Rattle.shares.specs.Back.{usedRecs}
@@ -27,9 +28,9 @@ use Rattle.shares.proofs.Holds.{holds-empty, holds-purge}
 use Rattle.shares.proofs.Used.{all-put, all-fetch, all-purge, all-putAll, all-unspent}
 use Rattle.laws.specs.Runs.{OnFile}
 use Rattle.laws.specs.Changes.{GoodGeo, GoodRecs, Walks, Starts}
-use Rattle.laws.specs.Room.{Kept, Roomy, Owing}
-use Rattle.laws.specs.Bounds.{Bounded, Bounds}
-use Rattle.laws.specs.Sides.{Fitting, Sided, Sides}
+use Rattle.laws.specs.Room.{Roomy}
+use Rattle.laws.specs.Bounds.{Bounded}
+use Rattle.laws.specs.Sides.{Fitting, Sides}
 use Rattle.laws.specs.Records.{Records}
 use Rattle.laws.proofs.Files.{on-file}
 use Rattle.laws.proofs.Accessors.{wait-keeps, purged-keeps}
@@ -61,11 +62,11 @@ unfolding Fitting
 waiting-writer p a wd d b e i s = subst (Fitting (a .writer)) i (s p a e .request)
 
 used-fits : (b : Built) → fits b ≡ true → used (b .store) < capacity (b .geo .factor) (b .geo .blocks)
-unfolding fits room
+unfolding fits capacityOf
 used-fits b e = omega (arith, leb-true (used (b .store) + writers b + 1) (capacity (b .geo .factor) (b .geo .blocks)) e)
 
 records-join : (access n k : ℕ) (b : Built) → 1 ≤ n → roomToOpen access b ≡ true → Roomy b → Records b → Records (enter (newAcc true n k) (putRec (openRec n) (purged access b)))
-unfolding roomToOpen room enter withAccs say withStore openRec
+unfolding roomToOpen capacityOf enter withAccs say withStore openRec
 records-join access n k b o e r s =
     purged-keeps (λ c. used (c .store) + writers b + 2 ≤ capacity (b .geo .factor) (b .geo .blocks) → Records (putRec (openRec n) c)) access b
     (λ hs u. records-put (openRec n) (say hs (withStore (purge (b .geo) (b .store)) b)) (r .geo) (holds-purge (b .geo) (b .store) (r .holds)) (omega arith) (omega (arith, u)) (good-bare 1 n (omega arith) o)

@@ -6,24 +6,24 @@ use mathlib.Core.Option.{Option, none, some}
 use Prim.Native.Nat.{ℕ, _≤_}
 use native.Mathlib.Omega.{arith}
 use Rattle.rules.specs.State.{Rec, Req, idle, Acc, Built}
-use Rattle.rules.specs.Requests.{isWriter, writers, accAt, room, fits, withAccs, withQueues, withTimers, withStore, alterAcc, say, behind, without, requeue, leave, finish, cancel, freed}
+use Rattle.rules.specs.Requests.{isWriter, writers, accAt, capacityOf, fits, withAccs, withQueues, withTimers, withStore, alterAcc, say, behind, without, requeue, leave, finish, cancel, freed}
 use Rattle.rules.specs.Settle.{Turn, still, onward, serveReader, serveWriter, atHead, turn, settle}
 use Rattle.rules.specs.Reply.{hushed}
 use Rattle.rules.specs.Open.{newFile}
-use Rattle.rules.specs.Close.{lessen, lapse}
+use Rattle.rules.specs.Time.{lessen, lapse}
 use Rattle.rules.specs.Sheet.{loaded}
 use Rattle.rules.specs.Desk.{Call, freshDesk, fileOf, after}
 use Rattle.rules.proofs.Split.{by-cases}
 use Rattle.laws.specs.Runs.{OnFile}
 use Rattle.laws.specs.Changes.{Mild, Settles, Starts}
 use Rattle.laws.specs.Outstanding.{reqOf, waitsRead, waitsWrite}
-use Rattle.tally.specs.Count.{count}
+use Rattle.occurrences.specs.Count.{count}
 use Rattle.laws.specs.Queues.{Agree}
 use Rattle.laws.specs.Rest.{Resting, Rest}
 use Rattle.laws.proofs.Files.{on-file}
 use Rattle.laws.proofs.Stores.{recs-fetch-none}
 use Rattle.laws.proofs.Accessors.{countAcc-alter, writers-withReq}
-use Rattle.tally.proofs.Counts.{count-head}
+use Rattle.occurrences.proofs.Counts.{count-head}
 use Rattle.laws.proofs.Queues.{agree-walks, agree-starts, agree-lapse, agree-hushed}
 use Rattle.laws.proofs.Cases.{reader-cases, writer-cases, head-cases, atHead-some, turn-reader, turn-writer, turn-still}
 use Rattle.laws.proofs.Settled.{reader-empty, writer-head, settled, settleFor-still}
@@ -92,11 +92,11 @@ still-rest b s t = record {
 -- a change of an accessor on its side, and a request that leaves its queue, leave the file at rest
 
 rest-mild : (p : ℕ) (f : Acc → Acc) (b : Built) → Mild f → Rest b → Rest (alterAcc p f b)
-unfolding Mild alterAcc withAccs fits writers room
+unfolding Mild alterAcc withAccs fits writers capacityOf
 rest-mild p f b h r = rw (countAcc-alter isWriter f (λ a. h a .0) (b .accs) p) r
 
 rest-freed : (p : ℕ) (b : Built) → Rest b → Rest (freed p b)
-unfolding freed say requeue alterAcc withAccs withQueues fits writers room
+unfolding freed say alterAcc withAccs fits writers capacityOf
 rest-freed p b r = rw (writers-withReq idle b p) r
 
 before : (p x : ℕ) (l m : List ℕ) → without p l ≡ x ∷ m → (y : ℕ) × (k : List ℕ) × (l ≡ y ∷ k)
@@ -105,18 +105,18 @@ before p x [] m e = absurd (nil≢cons e)
 before p x (y ∷ k) m e = (y, k, refl)
 
 rest-leave : (p : ℕ) (q : Req) (b : Built) → Rest b → Rest (leave p q b)
-unfolding leave withTimers requeue alterAcc withAccs withQueues fits writers room
+unfolding leave withTimers requeue alterAcc withAccs withQueues fits writers capacityOf
 rest-leave p q b r = record {
   reads = λ x l e. let y = before p x (b .rq) l e in r .reads (y .0) (y .1) (y .2);
   writes = λ x l e. let y = before p x (b .wq) l e in rw (writers-withReq q b p) (r .writes (y .0) (y .1) (y .2));
 }
 
 rest-lessen : (e : ℕ) (b : Built) → Rest b → Rest (lessen e b)
-unfolding lessen withTimers fits writers room
+unfolding lessen withTimers fits writers capacityOf
 rest-lessen e b r = r
 
 rest-settles : Settles Agree Rest
-unfolding finish cancel say fits writers room
+unfolding finish cancel say fits writers capacityOf
 rest-settles = record {
   rests = λ b s. still-rest (settle b) s (settled b);
   milds = rest-mild;
@@ -136,7 +136,7 @@ unfolding newFile loaded say
 rest-starts = record { built = λ g _. nobody _ _; loads = λ s _. nobody _ _ }
 
 rest-hushed : (b : Built) → Rest b → Rest (hushed b)
-unfolding hushed fits writers room
+unfolding hushed fits writers capacityOf
 rest-hushed b r = r
 
 -- after any run

@@ -11,10 +11,11 @@ use Rattle.rules.specs.Geometry.{capacity}
 use Rattle.rules.specs.State.{Rec, Req, idle, writing, Acc, Geo, Store, Built}
 use Rattle.rules.specs.Store.{used, put, fetch, purge}
 use Rattle.rules.specs.Settle.{dataRec}
-use Rattle.rules.specs.Requests.{countAcc, isWriter, writers, accAt, room, fits, withAccs, withQueues, withTimers, withStore, alterAcc, say, putRec, behind, requeue, leave, finish, cancel, wait, freed}
+use Rattle.rules.specs.Requests.{countAcc, isWriter, writers, accAt, capacityOf, fits, withAccs, withQueues, withTimers, withStore, alterAcc, say, putRec, behind, requeue, leave, finish, cancel, wait, freed}
 use Rattle.rules.specs.Reply.{hushed}
 use Rattle.rules.specs.Open.{newFile, newAcc, openRec, enter, purged, roomToOpen}
-use Rattle.rules.specs.Close.{closeRec, vacate, lessen}
+use Rattle.rules.specs.Close.{closeRec, vacate}
+use Rattle.rules.specs.Time.{lessen}
 use Rattle.rules.specs.Sheet.{loaded}
 use Rattle.rules.specs.Desk.{Call, freshDesk, fileOf, after}
 use Rattle.shares.specs.Groups.{All, Small}
@@ -69,7 +70,7 @@ kept-put g r s w k h l u = record {
 
 room-data : (a : Acc) (d : List ℕ) (b : Built) → length d ≤ 2 * b .geo .words → fits b ≡ true → Roomy b → Roomy (putRec (dataRec a d) b)
 unfolding putRec say withStore writers
-room-data a d b l e k = kept-put (b .geo) (dataRec a d) (b .store) (writers b) (k .geo) (k .holds) (unfold dataRec in l) (unfold fits room in leb-true _ _ e)
+room-data a d b l e k = kept-put (b .geo) (dataRec a d) (b .store) (writers b) (k .geo) (k .holds) (unfold dataRec in l) (unfold fits capacityOf in leb-true _ _ e)
 
 room-close : (n : ℕ) (b : Built) → Owing n b → Roomy (putRec (closeRec n) b)
 unfolding putRec say withStore writers
@@ -83,16 +84,16 @@ room-enter s b k =
     let h = countAcc-enter isWriter (newAcc false 0 s) (b .accs) in
     record { geo = k .geo; holds = k .holds; places = omega (arith, k .places); one-more = omega (arith, k .one-more) }
 
-room-seat : (n s : ℕ) (b : Built) → GoodGeo (b .geo) → Holds (b .geo) (b .store) → used (b .store) + writers b + 2 ≤ room b → Roomy (enter (newAcc true n s) (putRec (openRec n) b))
-unfolding enter putRec say withStore withAccs newAcc isWriter room writers
+room-seat : (n s : ℕ) (b : Built) → GoodGeo (b .geo) → Holds (b .geo) (b .store) → used (b .store) + writers b + 2 ≤ capacityOf b → Roomy (enter (newAcc true n s) (putRec (openRec n) b))
+unfolding enter putRec say withStore withAccs newAcc isWriter capacityOf writers
 room-seat n s b k r u =
     let h = countAcc-enter isWriter (newAcc true n s) (b .accs) in
     kept-put (b .geo) (openRec n) (b .store) _ k r (unfold openRec in omega arith) (omega (arith, u))
 
 room-join : (access n s : ℕ) (b : Built) → roomToOpen access b ≡ true → Roomy b → Roomy (enter (newAcc true n s) (putRec (openRec n) (purged access b)))
-unfolding roomToOpen say withStore writers room
+unfolding roomToOpen say withStore writers capacityOf
 room-join access n s b e k =
-    purged-keeps (λ c. used (c .store) + writers b + 2 ≤ room b → Roomy (enter (newAcc true n s) (putRec (openRec n) c))) access b
+    purged-keeps (λ c. used (c .store) + writers b + 2 ≤ capacityOf b → Roomy (enter (newAcc true n s) (putRec (openRec n) c))) access b
     (λ hs u. room-seat n s (say hs (withStore (purge (b .geo) (b .store)) b)) (k .geo) (holds-purge (b .geo) (b .store) (k .holds)) u)
     (λ u. room-seat n s b (k .geo) (k .holds) u)
     (leb-true _ _ e)
@@ -160,5 +161,5 @@ roomy f cs =
     (λ b s. (bounds-hushed b (s .0), unfold hushed writers in s .1)) f cs)
 
 -- so a close record always has its place
-pub close-fits : (f : ℕ) (cs : List Call) → OnFile (λ b. used (b .store) + writers b ≤ room b) (fileOf (after freshDesk cs) f)
-close-fits f cs = on-file Roomy (λ b. used (b .store) + writers b ≤ room b) (λ b k. unfold room in k .places) (fileOf (after freshDesk cs) f) (roomy f cs)
+pub close-fits : (f : ℕ) (cs : List Call) → OnFile (λ b. used (b .store) + writers b ≤ capacityOf b) (fileOf (after freshDesk cs) f)
+close-fits f cs = on-file Roomy (λ b. used (b .store) + writers b ≤ capacityOf b) (λ b k. unfold capacityOf in k .places) (fileOf (after freshDesk cs) f) (roomy f cs)

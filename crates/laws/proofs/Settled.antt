@@ -12,9 +12,9 @@ use Rattle.rules.specs.Store.{Found}
 use Rattle.rules.specs.Requests.{accAt, withStore, withAccs, withTimers, withQueues, alterAcc, say, putRec, behind, without, requeue, leave, finish}
 use Rattle.rules.specs.Settle.{Turn, still, onward, serveReader, serveWriter, atHead, turn, settleFor, settle}
 use Rattle.rules.proofs.Split.{by-cases, both, pick-true, pick-false}
-use Rattle.tally.specs.Count.{count}
+use Rattle.occurrences.specs.Count.{count}
 use Rattle.laws.proofs.Stores.{fetch-empty, recs-fetch-none}
-use Rattle.tally.proofs.Counts.{count-head}
+use Rattle.occurrences.proofs.Counts.{count-head}
 use Rattle.laws.proofs.Counts.{length-without}
 use Rattle.laws.proofs.Cases.{reader-cases, writer-cases, head-cases, atHead-some, turn-reader, turn-writer, turn-still}
 

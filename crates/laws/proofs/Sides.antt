@@ -10,7 +10,8 @@ use Rattle.rules.specs.State.{Req, idle, reading, writing, Acc, Built}
 use Rattle.rules.specs.Requests.{isWriter, accAt, alter, withAccs, withQueues, withTimers, withStore, alterAcc, say, putRec, behind, withReq, requeue, leave, finish, cancel, freed}
 use Rattle.rules.specs.Reply.{hushed}
 use Rattle.rules.specs.Open.{newFile, newAcc, enter}
-use Rattle.rules.specs.Close.{vacate, lessen}
+use Rattle.rules.specs.Close.{vacate}
+use Rattle.rules.specs.Time.{lessen}
 use Rattle.rules.specs.Sheet.{loaded}
 use Rattle.rules.specs.Desk.{Call, freshDesk, fileOf, after}
 use Rattle.laws.specs.Runs.{OnFile}

@@ -8,14 +8,14 @@ use borrow.Author.Tests.{le-leb, lt-leb, eq-eqb, ne-eqb}
 use Rattle.rules.specs.Limits.{places}
 use Rattle.rules.specs.State.{Timer}
 use Rattle.rules.specs.Requests.{armIn, withoutTimer}
-use Rattle.rules.specs.Close.{minus, due}
+use Rattle.rules.specs.Time.{minus, due}
 use Rattle.rules.specs.Allocation.{placeOf}
-use Rattle.tally.specs.Count.{count}
+use Rattle.occurrences.specs.Count.{count}
 use Rattle.laws.specs.Counts.{placesOf, countT}
 use Rattle.laws.specs.Timers.{Sorted}
 use Rattle.laws.specs.Entries.{local, sieve}
 use Rattle.laws.specs.Midst.{here}
-use Rattle.tally.proofs.Counts.{bit-eq, bit-ne}
+use Rattle.occurrences.proofs.Counts.{bit-eq, bit-ne}
 use Rattle.laws.proofs.Clock.{armIn-past, armIn-here, withoutTimer-in, withoutTimer-out, sorted-lower}
 
 -- one clause of `sieve`

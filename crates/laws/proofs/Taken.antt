@@ -5,10 +5,10 @@ use Prim.Native.Nat.{ℕ, zero, suc, _+_, _*_, _≤_, _<_}
 use native.Mathlib.Omega.{arith}
 use lib.ListN.{length, getD, set, replicate, length-append}
 use Rattle.rules.specs.Allocation.{Held, nothing, own, timed, ownEntry}
-use Rattle.tally.specs.Count.{count}
+use Rattle.occurrences.specs.Count.{count}
 use Rattle.laws.specs.Entries.{entriesOf, taken, size}
 use Rattle.laws.specs.Midst.{untimed}
-use Rattle.tally.proofs.Counts.{count-append}
+use Rattle.occurrences.proofs.Counts.{count-append}
 
 -- what a place holds, by its size
 pub is-nothing : (h : Held) → size h ≡ 0 → h ≡ nothing

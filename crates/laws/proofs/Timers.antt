@@ -6,23 +6,24 @@ use Prim.Native.Nat.{ℕ, _+_, _-_, _≤_, _<_}
 use native.Mathlib.Omega.{arith}
 use lib.Dec.{leb, eqb}
 use borrow.Author.Tests.{leb-false, eqb-false}
-use Rattle.rules.specs.Limits.{leastRefusal}
 use Rattle.rules.specs.State.{Req, Timer, Built}
 use Rattle.rules.specs.Requests.{withAccs, withQueues, withTimers, withStore, alterAcc, say, putRec, behind, without, withoutTimer, requeue, leave, finish, cancel, fail, arm, wait, freed}
 use Rattle.rules.specs.Reply.{hushed}
 use Rattle.rules.specs.Open.{newFile, enter}
-use Rattle.rules.specs.Close.{vacate, due, failAll, lessen, lapse}
+use Rattle.rules.specs.Close.{vacate}
+use Rattle.rules.specs.Time.{due, failAll, lessen, lapse}
 use Rattle.rules.specs.Sheet.{loaded}
 use Rattle.rules.specs.Desk.{Call, freshDesk, fileOf, after}
 use Rattle.rules.proofs.Split.{by-cases, both}
 use Rattle.laws.specs.Runs.{OnFile}
 use Rattle.laws.specs.Changes.{Walks, Starts}
-use Rattle.tally.specs.Count.{count}
+use Rattle.occurrences.specs.Count.{count}
 use Rattle.laws.specs.Queues.{Agree}
 use Rattle.laws.specs.Timers.{Sorted, Ticking}
 use Rattle.laws.proofs.Files.{on-file}
 use Rattle.laws.proofs.Accessors.{purged-keeps}
-use Rattle.tally.proofs.Counts.{count-head, bit-ne}
+use Rattle.occurrences.proofs.Counts.{count-head, bit-ne}
+use Rattle.laws.specs.Bounds.{leastRefusal}
 use Rattle.laws.proofs.Counts.{at-or-else, count-without-same, count-without-other}
 use Rattle.laws.proofs.Clock.{withoutTimer-absent, sorted-lower, sorted-withoutTimer, sorted-armIn, sorted-minus}
 use Rattle.laws.proofs.Cases.{fail-cases}

@@ -8,13 +8,14 @@ use native.Mathlib.Omega.{arith}
 use lib.Dec.{eqb}
 use lib.ListN.{length, length-take}
 use Rattle.words.specs.Word.{word}
-use Rattle.rules.specs.Limits.{leastRefusal}
 use Rattle.rules.specs.State.{Rec, Req, idle, Acc, Built}
 use Rattle.rules.specs.Store.{Found}
 use Rattle.rules.specs.Requests.{writers, accAt, withStore, say, putRec, behind, fail}
 use Rattle.rules.specs.Settle.{handed, readResult, Turn, still, onward, serveReader, serveWriter, atHead, turn, settleFor, settle}
-use Rattle.rules.specs.Close.{endReaders, lastGone, closed, due, failAll, lessen, lapse}
+use Rattle.rules.specs.Close.{endReaders, lastGone, closed}
+use Rattle.rules.specs.Time.{due, failAll, lessen, lapse}
 use Rattle.rules.proofs.Split.{both, opt}
+use Rattle.laws.specs.Bounds.{leastRefusal}
 use Rattle.laws.specs.Changes.{readEnds, writeEnds, Finishes, Walks, Settles}
 use Rattle.laws.proofs.Cases.{reader-cases, writer-cases, head-cases, fail-cases}
 

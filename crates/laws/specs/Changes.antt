@@ -5,17 +5,19 @@ use mathlib.Core.List.{List}
 use mathlib.Core.Option.{some}
 use Prim.Native.Nat.{ℕ, _*_, _≤_, _<_}
 use lib.ListN.{length}
-use Rattle.rules.specs.Limits.{mostWords, mostFactor, shareWords, mostReadBytes, leastCapacity, leastRefusal}
+use Rattle.rules.specs.Limits.{mostWords, mostFactor, shareWords, mostReadBytes, leastCapacity}
 use Rattle.rules.specs.Geometry.{capacity, blockSize}
 use Rattle.rules.specs.State.{Rec, Req, idle, reading, writing, readDone, writeDone, Acc, Geo, Built}
 use Rattle.rules.specs.Store.{emptyStore, fetch}
 use Rattle.rules.specs.Requests.{isWriter, fits, accAt, alterAcc, putRec, behind, finish, cancel, wait, freed}
 use Rattle.rules.specs.Settle.{dataRec, settle}
 use Rattle.rules.specs.Open.{newFile, newAcc, openRec, enter, purged, roomToOpen}
-use Rattle.rules.specs.Close.{closeRec, vacate, lessen}
+use Rattle.rules.specs.Close.{closeRec, vacate}
+use Rattle.rules.specs.Time.{lessen}
 use Rattle.rules.specs.Sheet.{Sheet, loaded}
 use Rattle.shares.specs.Groups.{All}
 use Rattle.shares.specs.Laid.{GoodRec}
+use Rattle.laws.specs.Bounds.{leastRefusal}
 use Rattle.laws.specs.Outstanding.{awaits, uncollected}
 
 -- a geometry that build or load makes
@@ -38,7 +40,7 @@ pub record GoodSheet (s : Sheet) : Type 0 where
 
 -- a change of an accessor that leaves its side and its request as they are
 unfoldable pub Mild : (Acc → Acc) → Type 0
-Mild f = (a : Acc) → (isWriter (f a) ≡ isWriter a) × (f a .ident ≡ a .ident) × (f a .share ≡ a .share) × (f a .req ≡ a .req)
+Mild f = (a : Acc) → (isWriter (f a) ≡ isWriter a) × (f a .ident ≡ a .ident) × (f a .sharing ≡ a .sharing) × (f a .req ≡ a .req)
 
 -- a waiting request, and what it may complete as, with a status, which is no refusal's number
 pub data Ends (st : ℕ) : Req → Req → Type 0 where

@@ -2,7 +2,7 @@
 use mathlib.Core.List.{List, map}
 use Prim.Native.Nat.{ℕ}
 use Rattle.rules.specs.State.{Timer}
-use Rattle.tally.specs.Count.{count}
+use Rattle.occurrences.specs.Count.{count}
 
 unfoldable pub placesOf : List Timer → List ℕ
 placesOf ts = map (λ t. t .place) ts

@@ -13,7 +13,7 @@ use Rattle.rules.specs.Desk.{Desk, fileOf}
 use Rattle.rules.specs.Allocation.{Held, nothing, own, timed, Alloc, placeOf, heldAt, allot}
 use Rattle.laws.specs.Runs.{OnFile}
 use Rattle.laws.specs.Outstanding.{reqAt, awaits, outstanding}
-use Rattle.tally.specs.Count.{bit, count}
+use Rattle.occurrences.specs.Count.{bit, count}
 use Rattle.laws.specs.Counts.{countT}
 use Rattle.laws.specs.Timers.{Clock}
 

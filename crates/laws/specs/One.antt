@@ -1,7 +1,7 @@
 -- "One outstanding request per accessor, until collected."
 use Prim.Native.Nat.{ℕ, _+_, _≤_}
 use Rattle.rules.specs.State.{Built}
-use Rattle.tally.specs.Count.{count}
+use Rattle.occurrences.specs.Count.{count}
 use Rattle.laws.specs.Counts.{countT}
 use Rattle.laws.specs.Outstanding.{reqAt, uncollected}
 

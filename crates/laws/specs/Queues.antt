@@ -3,7 +3,7 @@ use mathlib.Core.Path.{_≡_}
 use mathlib.Core.List.{List}
 use Prim.Native.Nat.{ℕ, _≤_}
 use Rattle.rules.specs.State.{Req, Timer, Built}
-use Rattle.tally.specs.Count.{count}
+use Rattle.occurrences.specs.Count.{count}
 use Rattle.laws.specs.Counts.{countT}
 use Rattle.laws.specs.Outstanding.{reqAt, waitsRead, waitsWrite, awaits}
 

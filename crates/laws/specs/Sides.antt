@@ -14,7 +14,7 @@ Fitting writer (writing w d) = writer ≡ true
 Fitting writer (readDone st l d) = writer ≡ false
 Fitting writer (writeDone st l) = writer ≡ true
 
--- "the writer's ID, from 1": a reader's is 0
+-- a writer's ID is 1 or more; a reader's is 0
 pub record Sided (a : Acc) : Type 0 where
   pub request : Fitting (a .writer) (a .req)
   pub reader : a .writer ≡ false → a .ident ≡ 0

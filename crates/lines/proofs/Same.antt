@@ -4,10 +4,9 @@ use mathlib.Core.Path.{_≡_, ap, sym, _∙_}
 use mathlib.Core.List.{List}
 use lib.ListN.{take}
 use lib.Seq.{sets}
-use Rattle.words.specs.Word.{zeros}
+use Rattle.words.specs.Word.{zeros, Bytes}
 use Rattle.rules.specs.Limits.{answerRoom}
 use Rattle.rules.specs.Line.{lineFrame, lineOf}
-use Rattle.memory.specs.Stands.{Bytes}
 use Rattle.promises.specs.Promise.{Memories, Given, event, answer, givenSize, givenMemory}
 use Rattle.promises.proofs.Same.{promise-same}
 use Rattle.lines.specs.Asked.{Asked}

@@ -2,6 +2,8 @@
 ghost use Prim.Native.Nat.{_+_, _≤_, _<_};
 ghost use lib.ListN.{length};
 ghost use Rattle.lines.specs.Asked.{mostAnswer, Asked};
+use kinds::limits::ANSWER_ROOM;
+use kinds::limits::LINE_BYTES;
 
 // The answer to a line, which is here without its LF, as a line at `used` of the output; where that ends.
 pub fn answer_line(
@@ -16,8 +18,8 @@ pub fn answer_line(
     ensures bound { λ r. ⌜ (used < r) × (r ≤ used + mostAnswer) ⌝ }
     ensures asked { λ r. ⌜ Asked (now (segment .entry)) (now (blocks .entry)) (now (buffers .entry)) (now (line .entry)) (now (out .entry)) (now (segment .exit)) (now (blocks .exit)) (now (buffers .exit)) (now (out .exit)) used r ⌝ }
 {
-    let mut frame = [0u8; 261];
-    let mut answer = [0u8; 264];
+    let mut frame = [0u8; LINE_BYTES];
+    let mut answer = [0u8; ANSWER_ROOM];
     let n = hex::decode(line, &mut frame);
     let size = desk::event(segment, blocks, buffers, &mut answer, &frame[0..n]);
     hex::line(&answer[0..size], out, used)

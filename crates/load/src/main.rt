@@ -2,12 +2,15 @@
 // them.
 use arguments::NO_FILE;
 use arguments::refused;
+use kinds::limits::BLOCKS_BYTES;
+use kinds::limits::BUFFERS_BYTES;
 use libc::STDERR_FILENO;
+use segment::layout::SEGMENT_BYTES;
 
 fn main() {
-    let mut segment = [0u8; 3876];
-    let mut blocks = [0u8; 32768];
-    let mut buffers = [0u8; 16640];
+    let mut segment = [0u8; SEGMENT_BYTES];
+    let mut blocks = [0u8; BLOCKS_BYTES];
+    let mut buffers = [0u8; BUFFERS_BYTES];
     let mut text = [0u8; 65536];
     let named = arguments::arguments(&mut text);
     if named.file == NO_FILE {

@@ -9,11 +9,11 @@ use native.Mathlib.Omega.{arith}
 use lib.Dec.{ltb}
 use lib.ListN.{length}
 use lib.Seq.{sets}
-use borrow.Author.Tests.{le-ltb, ne-eqb}
-use Rattle.words.specs.Word.{zeros}
-use Rattle.segment.specs.Layout.{segmentBytes, rowAt, fileRow}
+use borrow.Author.Tests.{le-ltb}
+use Rattle.words.specs.Word.{zeros, Bytes}
+use Rattle.segment.specs.Layout.{segmentBytes, fileRowAt}
 use Rattle.segment.specs.Table.{fill}
-use Rattle.rules.specs.Limits.{files, places, shareBytes, bufferBytes, leastRefusal}
+use Rattle.rules.specs.Limits.{files, places, shareBytes, bufferBytes}
 use Rattle.rules.specs.State.{puts, Store, File, unbuilt}
 use Rattle.rules.specs.Store.{emptyStore, putAll}
 use Rattle.rules.specs.Requests.{say}
@@ -26,20 +26,20 @@ use Rattle.rules.specs.Calls as calls
 use Rattle.rules.specs.Desk.{Desk, load, asked, fileOf, respond}
 use Rattle.rules.specs.Allocation.{Alloc, allotAll}
 use Rattle.shares.proofs.PutAll.{holds-loaded}
+use Rattle.laws.specs.Bounds.{leastRefusal}
 use Rattle.laws.proofs.Made.{sheet-good}
 use Rattle.laws.proofs.Midst.{allotAll-quiet}
 use Rattle.laws.proofs.Comes.{puts-quiet}
 use Rattle.laws.proofs.Room.{good-sized, small}
 use Rattle.blocks.specs.Memory.{blocksBytes}
 use Rattle.memory.specs.Image.{fileWords}
-use Rattle.memory.specs.Stands.{Bytes}
 use Rattle.memory.specs.Fine.{StandsFor}
 use Rattle.midst.specs.declared.File as hand
 use Rattle.midst.specs.File.{fileRowWords, inHand}
 use Rattle.midst.specs.Outcome.{replyStatus, refusalOf, Outcome, Stays}
 use Rattle.midst.proofs.Refused.{stands-refused}
 use Rattle.midst.proofs.New.{made}
-use Rattle.midst.proofs.Stayed.{Built′, outcome-stays, still-stays}
+use Rattle.midst.proofs.StandsBehind.{Built′, outcome-stays, still-stays}
 use Rattle.promises.specs.Promise.{Memories, status, Standing, Seen, unsound, stands, replyOf, said, Behind, Promise}
 use Rattle.promises.specs.Promise as host
 use Rattle.promises.proofs.Seen.{sees}
@@ -50,7 +50,7 @@ abbrev lent : List ℕ → List ℕ → List ℕ → Memories
 lent xs blocks buffers = record { segment = xs; blocks = blocks; buffers = buffers }
 
 -- the file's row, share and buffers are written
-pub lays : (f : ℕ) (s : Sheet) (xs blocks buffers xs′ blocks′ buffers′ : List ℕ) (x : hand.File) → x ≡ inHand (loaded s) → xs′ ≡ fill xs (rowAt (fileRow f)) (fileRowWords x)
+pub lays : (f : ℕ) (s : Sheet) (xs blocks buffers xs′ blocks′ buffers′ : List ℕ) (x : hand.File) → x ≡ inHand (loaded s) → xs′ ≡ fill xs (fileRowAt f) (fileRowWords x)
     → blocks′ ≡ sets blocks (shareBytes * f) (loaded s .store .share) → buffers′ ≡ sets buffers (places * bufferBytes * f) (zeros (places * bufferBytes))
     → lent xs′ blocks′ buffers′ ≡ laidOut f (loaded s) (lent xs blocks buffers)
 unfolding laidOut fileRowWords fileWords

@@ -10,7 +10,7 @@ use native.Mathlib.Decide.{decLt}
 use lib.ListN.{length}
 use borrow.Author.Tests.{lt-ltb, le-ltb, eqb-true}
 use Rattle.segment.specs.Layout.{segmentBytes}
-use Rattle.rules.specs.Limits.{files, leastRefusal}
+use Rattle.rules.specs.Limits.{files}
 use Rattle.rules.specs.State.{Built, File, unbuilt, built}
 use Rattle.rules.specs.Reply.{leaves, unmade}
 use Rattle.rules.specs.Sheet.{Sheet, readSheet}
@@ -20,11 +20,12 @@ use Rattle.rules.specs.Calls as calls
 use Rattle.rules.specs.Desk.{Desk, load, asked, fileOf, answered, respond}
 use Rattle.rules.specs.Allocation.{Alloc}
 use Rattle.rules.proofs.Split.{and-true}
+use Rattle.laws.specs.Bounds.{leastRefusal}
 use Rattle.memory.specs.Fine.{StandsFor}
 use Rattle.sound.specs.Sound.{soundly}
 use Rattle.midst.specs.Outcome.{replyStatus}
-use Rattle.judges.specs.Accessors.{wordsAt}
-use Rattle.judges.proofs.Files.{is-built, not-built}
+use Rattle.accessors.specs.Accessors.{wordsAt}
+use Rattle.accessors.proofs.Names.{is-built, not-built}
 use Rattle.promises.specs.Promise.{Standing, Seen, replyOf}
 use Rattle.promises.proofs.Seen.{seen-none, seen-some}
 use Rattle.reader.specs.Sheets.{isSome}

@@ -1,3 +1,4 @@
+pub mod Again
 pub mod Packs
 pub mod Packed
 pub mod Judged

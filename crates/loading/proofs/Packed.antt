@@ -15,24 +15,22 @@ use Rattle.rules.specs.Open.{newFile}
 use Rattle.rules.specs.Sheet.{Sheet, readSheet, loaded}
 use Rattle.laws.specs.Changes.{GoodGeo}
 use Rattle.laws.proofs.Made.{sheet-good}
-use Rattle.blocks.specs.declared.ring.Ring.{Ring}
-use Rattle.blocks.specs.Ring.{geo, ringOf}
+use Rattle.ring.specs.declared.Ring.{Ring}
+use Rattle.ring.specs.Ring.{geo, ringOf}
 use Rattle.blocks.specs.Memory.{blocksBytes}
 use Rattle.reader.specs.declared.Head.{Head}
+use Rattle.reader.specs.Frames.{nextAt}
 use Rattle.reader.specs.Sheets.{headOf, goodFrom}
 use Rattle.reader.proofs.Sheets.{sheet-reads}
 use Rattle.midst.specs.declared.File.{File}
 use Rattle.midst.specs.File.{inHand}
+use Rattle.loading.specs.LaidOut.{ringOfHead}
 use Rattle.loading.proofs.Packs.{Packs, packs-ring, packs-whole, packs-blocks, wholeOf, cleared-sets, packs-begin}
 
 abbrev hand : ℕ → Ring → File
 hand w r = record { words = w; ring = r }
 
--- the empty ring of a sheet's head
-abbrev pub ringOfHead : Head → Ring
-ringOfHead h = record { factor = h .factor; blocks = h .blocks; block = 0; spent = 0; held = 0 }
-
-abbrev geoOfHead : Head → Geo
+abbrev pub geoOfHead : Head → Geo
 geoOfHead h = geo (h .words) (ringOfHead h)
 
 module _ (t : List ℕ) (h : Head) (eh : h ≡ headOf t) (s : Sheet) (e : readSheet t ≡ some s) where
@@ -55,10 +53,17 @@ module _ (t : List ℕ) (h : Head) (eh : h ≡ headOf t) (s : Sheet) (e : readSh
       (subst (λ (g : Geo). length (s .recs) ≤ capacity (g .factor) (g .blocks)) geo-is (sheet-good t s e .few))
 
   module _ (blocks cleared : List ℕ) (f : ℕ) (low : f < files) (l : length blocks ≡ blocksBytes) (z : cleared ≡ sets blocks (shareBytes * f) (zeros shareBytes)) where
-    pub pack-begins : Packs (geoOfHead h) (wholeOf (geoOfHead h) t (h .at) (h .held)) f cleared t (h .at) (h .held) (ringOfHead h) cleared
+    pack-begins : Packs (geoOfHead h) (wholeOf (geoOfHead h) t (h .at) (h .held)) f cleared t (h .at) (h .held) (ringOfHead h) cleared
     unfolding emptyStore
     pack-begins = packs-begin blocks cleared f low l z (geoOfHead h) t (h .at) (h .held) head-good head-few
         (ap (λ (x : Head). goodFrom (x .words) t (x .at) (x .held)) eh ∙ sheet-reads t s e .good)
+
+    -- where the reader has handed out the head's frame
+    pub pack-starts : (at : ℕ) (r : Ring) → at ≡ nextAt t 0 → r ≡ ringOfHead h → Packs (geoOfHead h) (wholeOf (geoOfHead h) t (h .at) (h .held)) f cleared t at (h .held) r cleared
+    pack-starts at r ea er =
+        let k : h .at ≡ at = ap (λ (x : Head). x .at) eh ∙ sheet-reads t s e .next ∙ sym ea in
+        subst (λ (a : ℕ). Packs (geoOfHead h) (wholeOf (geoOfHead h) t (h .at) (h .held)) f cleared t a (h .held) r cleared) k
+        (subst (λ (x : Ring). Packs (geoOfHead h) (wholeOf (geoOfHead h) t (h .at) (h .held)) f cleared t (h .at) (h .held) x cleared) (sym er) pack-begins)
 
     module _ (at left : ℕ) (r : Ring) (blocks′ : List ℕ) (P : Packs (geoOfHead h) (wholeOf (geoOfHead h) t (h .at) (h .held)) f cleared t at left r blocks′) (o : left ≤ 0) where
       pub pack-file : record { words = h .words; ring = r } ≡ inHand (loaded s)

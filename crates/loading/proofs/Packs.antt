@@ -6,10 +6,10 @@ use mathlib.Core.List.{List}
 use native.Mathlib.Omega.{arith}
 use lib.ListN.{length, drop, length-take}
 use lib.Seq.{sets, length-sets}
-use Rattle.words.specs.Word.{wordAt, zeros}
+use Rattle.words.specs.Word.{zeros}
 use Rattle.words.proofs.Parts.{part-own, sets-again}
 use Rattle.words.proofs.Runs.{length-zeros}
-use Rattle.rules.specs.Limits.{files, shareBytes, lineBytes}
+use Rattle.rules.specs.Limits.{files, shareBytes, sheetLineBytes}
 use Rattle.rules.specs.State.{Rec, Geo, Store}
 use Rattle.rules.specs.Geometry.{capacity}
 use Rattle.rules.specs.Store.{used, recordWords, emptyStore, put, putAll}
@@ -20,19 +20,18 @@ use Rattle.shares.proofs.Put.{holds-put}
 use Rattle.shares.proofs.PutAll.{used-put}
 use Rattle.laws.specs.Changes.{GoodGeo}
 use Rattle.laws.proofs.Room.{good-sized}
-use Rattle.blocks.specs.declared.ring.Ring.{Ring}
-use Rattle.blocks.specs.Ring as ring
-use Rattle.blocks.specs.Ring.{ringOf}
+use Rattle.ring.specs.declared.Ring.{Ring}
+use Rattle.ring.specs.Ring as ring
+use Rattle.ring.specs.Ring.{ringOf}
 use Rattle.blocks.specs.Writing.{Ready, inscribed}
-use Rattle.blocks.specs.Writing as writing
 use Rattle.blocks.specs.Memory.{blocksBytes, shareAt}
-use Rattle.blocks.proofs.ring.Stores.{ring-put}
+use Rattle.ring.proofs.Stores.{ring-put}
 use Rattle.blocks.proofs.writing.Stores.{ready, inscribed-put}
 use Rattle.reader.specs.declared.Next.{Next}
-use Rattle.reader.specs.Frames.{frameAt, nextOf}
+use Rattle.reader.specs.Frames.{frameAt, nextOf, recIn}
 use Rattle.reader.specs.Sheets.{recsFrom, goodFrom}
 use Rattle.reader.proofs.Records.{recs-end}
-use Rattle.reader.proofs.Rounds.{recIn, Handed, handed}
+use Rattle.reader.proofs.Rounds.{Handed, handed}
 
 pub record Packs (g : Geo) (whole : Store) (f : ℕ) (start t : List ℕ) (at left : ℕ) (r : Ring) (blocks : List ℕ) : Type 0 where
   pub geo : GoodGeo g
@@ -58,7 +57,7 @@ module _ {g : Geo} {whole : Store} {f : ℕ} {start t : List ℕ} {at left : ℕ
   packs-share = ap (shareAt f) (P .share) ∙ part-own start (P .store .share) shareBytes files f (P .long) (P .low) (P .holds .long)
 
   -- a frame is handed out
-  pub packs-handed : (zs frame : List ℕ) (n : Next) → 0 < left → n ≡ nextOf t at → frame ≡ sets zs 0 (frameAt t at) → n .size ≤ lineBytes → lineBytes ≤ length zs
+  pub packs-handed : (zs frame : List ℕ) (n : Next) → 0 < left → n ≡ nextOf t at → frame ≡ sets zs 0 (frameAt t at) → n .size ≤ sheetLineBytes → sheetLineBytes ≤ length zs
       → Handed (g .words) t frame at left n
   packs-handed zs frame n more e z k l = handed (g .words) t zs frame at left n more e z (omega arith) (P .good)
 
@@ -74,9 +73,9 @@ module _ {g : Geo} {whole : Store} {f : ℕ} {start t : List ℕ} {at left : ℕ
     packs-ready =
         rw (packs-share, P .ring) (ready g (P .store) rec (good-sized g (P .geo)) (P .geo .words-high) (P .geo .factor-high) fits (P .holds))
 
-    put-on : (r′ : Ring) (blocks′ : List ℕ) → r′ ≡ ring.put r → blocks′ ≡ sets blocks (shareBytes * f) (inscribed (g .words) r rec (shareAt f blocks))
+    pub packs-put : (r′ : Ring) (blocks′ : List ℕ) → r′ ≡ ring.put r → blocks′ ≡ sets blocks (shareBytes * f) (inscribed (g .words) r rec (shareAt f blocks))
         → Packs g whole f start t (n .at) (left - 1) r′ blocks′
-    put-on r′ blocks′ er eb =
+    packs-put r′ blocks′ er eb =
         let s : Store = P .store in
         let e : inscribed (g .words) r rec (shareAt f blocks) ≡ put g rec s .share = rw (packs-share, P .ring) (inscribed-put g s rec (good-sized g (P .geo)) (P .holds)) in
         let h : Holds g (put g rec s) = holds-put g rec s (good-sized g (P .geo)) fits (omega (arith, P .room)) (P .holds) in
@@ -92,13 +91,6 @@ module _ {g : Geo} {whole : Store} {f : ℕ} {start t : List ℕ} {at left : ℕ
           room = omega (arith, P .room, used-put g rec s);
           good = H .good;
         }
-
-    pub packs-put : (typ id : ℕ) (r′ : Ring) (blocks′ : List ℕ) → typ ≡ wordAt frame 0 → id ≡ wordAt frame 2 → r′ ≡ ring.put r
-        → blocks′ ≡ sets blocks (shareBytes * f) (inscribed (g .words) r (writing.recOf typ id (rec .body)) (shareAt f blocks)) → Packs g whole f start t (n .at) (left - 1) r′ blocks′
-    packs-put typ id r′ blocks′ et ei er eb =
-        put-on r′ blocks′ er
-        (eb ∙ ap (λ (k : ℕ). sets blocks (shareBytes * f) (inscribed (g .words) r (writing.recOf k id (rec .body)) (shareAt f blocks))) et
-        ∙ ap (λ (k : ℕ). sets blocks (shareBytes * f) (inscribed (g .words) r (writing.recOf (wordAt frame 0) k (rec .body)) (shareAt f blocks))) ei)
 
   -- no frame is left
   packs-all : left ≤ 0 → P .store ≡ whole

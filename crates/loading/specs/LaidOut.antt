@@ -4,16 +4,22 @@ use lib.Seq.{sets}
 use Rattle.words.specs.Word.{zeros}
 use Rattle.rules.specs.Limits.{places, shareBytes, bufferBytes}
 use Rattle.rules.specs.State.{Built, built}
-use Rattle.segment.specs.Layout.{rowAt, fileRow}
+use Rattle.ring.specs.declared.Ring.{Ring}
+use Rattle.reader.specs.declared.Head.{Head}
+use Rattle.segment.specs.Layout.{fileRowAt}
 use Rattle.segment.specs.Table.{fill}
 use Rattle.memory.specs.Image.{fileWords}
 use Rattle.promises.specs.Promise.{Memories}
+
+-- the empty ring of a sheet's head
+abbrev pub ringOfHead : Head → Ring
+ringOfHead h = record { factor = h .factor; blocks = h .blocks; block = 0; spent = 0; held = 0 }
 
 -- file f's row, share and record buffers are those of b, which has no accessor
 unfoldable pub laidOut : ℕ → Built → Memories → Memories
 laidOut f b m =
     record {
-      segment = fill (m .segment) (rowAt (fileRow f)) (fileWords (built b));
+      segment = fill (m .segment) (fileRowAt f) (fileWords (built b));
       blocks = sets (m .blocks) (shareBytes * f) (b .store .share);
       buffers = sets (m .buffers) (places * bufferBytes * f) (zeros (places * bufferBytes));
     }

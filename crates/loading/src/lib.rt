@@ -6,22 +6,19 @@ ghost use lib.ListN.{length};
 ghost use Rattle.segment.specs.Layout.{segmentBytes};
 ghost use Rattle.rules.specs.Limits.{files, places, bufferBytes};
 ghost use Rattle.rules.specs.Sheet.{Sheet, readSheet, loaded};
-ghost use Rattle.rules.specs.Desk.{Desk};
 ghost use Rattle.rules.specs.Desk as rules;
-ghost use Rattle.rules.specs.Allocation.{Alloc};
 ghost use Rattle.blocks.specs.Memory.{blocksBytes};
-ghost use Rattle.memory.specs.Fine.{StandsFor};
-ghost use Rattle.midst.specs.Outcome.{replyStatus, Stays};
+ghost use Rattle.midst.specs.Outcome.{replyStatus};
 ghost use Rattle.promises.specs.Promise.{status, Standing, Seen, replyOf, Promise};
 ghost use Rattle.promises.specs.Promise as host;
 ghost use Rattle.loading.specs.LaidOut.{laidOut};
 
 mod packing;
 
-use judges::accessors::words_of;
-use judges::refusals;
+use accessors::words_of;
 use kinds::limits::FILES;
-use kinds::limits::LINE_BYTES;
+use kinds::limits::SHEET_LINE_BYTES;
+use kinds::refusals;
 use midst::put_file;
 use opening::FILE_BUFFERS;
 use packing::pack;
@@ -53,7 +50,7 @@ fn lay_out(segment: &mut [u8], blocks: &mut [u8], buffers: &mut [u8], f: usize, 
     requires { ⌜ ((s : Sheet) × (readSheet (now «text») ≡ some s)) ⌝ }
     ensures { λ _. ⌜ ((s : Sheet) → readSheet (now («text» .entry)) ≡ some s → record { segment = now (segment .exit); blocks = now (blocks .exit); buffers = now (buffers .exit) } ≡ laidOut f (loaded s) (record { segment = now (segment .entry); blocks = now (blocks .entry); buffers = now (buffers .entry) })) ⌝ }
 {
-    let mut frame = [0u8; LINE_BYTES];
+    let mut frame = [0u8; SHEET_LINE_BYTES];
     let file = pack(blocks, f, text, &mut frame);
     words::zero(buffers, FILE_BUFFERS * f, FILE_BUFFERS);
     put_file(segment, f, file);

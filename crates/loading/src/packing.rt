@@ -1,50 +1,71 @@
 // "Load packs the records from the share's first block, with no accessor."
 use blocks::memory::clear;
 use blocks::memory::put_at;
-use blocks::ring::Ring;
 use midst::File;
+use reader::Head;
 use reader::ID;
 use reader::RECORD_HEAD;
 use reader::TYPE;
-use reader::next_frame;
+use reader::hand_out;
+use reader::open;
 use reader::read_head;
+use ring::Ring;
 ghost use mathlib.Core.Path.{_≡_};
 ghost use mathlib.Core.Option.{some};
 ghost use Prim.Native.Nat.{_*_, _≤_, _<_};
 ghost use lib.ListN.{length};
 ghost use lib.Seq.{sets};
-ghost use Rattle.rules.specs.Limits.{files, shareBytes, lineBytes};
+ghost use Rattle.words.specs.Word.{zeros};
+ghost use Rattle.rules.specs.Limits.{files, shareBytes, sheetLineBytes};
 ghost use Rattle.rules.specs.Sheet.{Sheet, readSheet, loaded};
-ghost use Rattle.blocks.specs.Memory.{blocksBytes};
+ghost use Rattle.ring.specs.Ring as spec;
+ghost use Rattle.blocks.specs.Writing.{Ready, inscribed};
+ghost use Rattle.blocks.specs.Memory.{blocksBytes, shareAt};
+ghost use Rattle.reader.specs.Frames.{recIn};
 ghost use Rattle.midst.specs.File.{inHand};
+ghost use Rattle.loading.specs.LaidOut.{ringOfHead};
 
-// All records of a sheet, packed into file f's share, and the file in hand. `frame` takes one frame after another.
-pub fn pack(blocks: &mut [u8], f: usize, text: &[u8], frame: &mut [u8]) -> File
-    requires { ⌜ (length (now blocks) ≡ blocksBytes) × (f < files) × (lineBytes ≤ length (now frame)) ⌝ }
-    requires { ⌜ ((s : Sheet) × (readSheet (now text) ≡ some s)) ⌝ }
-    ensures file { λ r. ⌜ ((s : Sheet) → readSheet (now («text» .entry)) ≡ some s → r ≡ inHand (loaded s)) ⌝ }
-    ensures blocks { λ _. ⌜ ((s : Sheet) → readSheet (now («text» .entry)) ≡ some s → now (blocks .exit) ≡ sets (now (blocks .entry)) (shareBytes * f) (loaded s .store .share)) ⌝ }
+// The empty ring of a sheet's head; file f's share is zeroed.
+fn begin(blocks: &mut [u8], f: usize, head: Head) -> Ring
+    requires { ⌜ (length (now blocks) ≡ blocksBytes) × (f < files) ⌝ }
+    ensures { λ r. ⌜ (r ≡ ringOfHead head) × (now (blocks .exit) ≡ sets (now (blocks .entry)) (shareBytes * f) (zeros shareBytes)) ⌝ }
 {
-    let head = read_head(text);
-    let words = head.words;
-    let mut ring = Ring {
+    clear(blocks, f);
+    Ring {
         factor: head.factor as u16,
         blocks: head.blocks,
         block: 0,
         spent: 0,
         held: 0,
-    };
-    let mut at = head.at;
+    }
+}
+
+// The record in the first bytes of `frame` is put behind the others of file f.
+fn put_frame(blocks: &mut [u8], f: usize, words: u16, ring: Ring, frame: &[u8], size: usize) -> Ring
+    requires { ⌜ (length (now blocks) ≡ blocksBytes) × (f < files) × (4 ≤ size) × (size ≤ length (now frame)) × Ready words ring (shareAt f (now blocks)) (length (recIn (now frame) size .body)) ⌝ }
+    ensures { λ r. ⌜ (r ≡ spec.put ring) × (now (blocks .exit) ≡ sets (now (blocks .entry)) (shareBytes * f) (inscribed words ring (recIn (now (frame .entry)) size) (shareAt f (now (blocks .entry))))) ⌝ }
+{
+    let typ = words::get(frame, TYPE);
+    let id = words::get(frame, ID);
+    put_at(blocks, f, ring, words, typ, id, &frame[RECORD_HEAD..size])
+}
+
+// All records of a sheet, packed into file f's share, and the file in hand. `frame` takes one frame after another: the head's first.
+pub fn pack(blocks: &mut [u8], f: usize, text: &[u8], frame: &mut [u8]) -> File
+    requires { ⌜ (length (now blocks) ≡ blocksBytes) × (f < files) × (sheetLineBytes ≤ length (now frame)) × ((s : Sheet) × (readSheet (now text) ≡ some s)) ⌝ }
+    ensures { λ r. ⌜ ((s : Sheet) → readSheet (now («text» .entry)) ≡ some s → (r ≡ inHand (loaded s)) × (now (blocks .exit) ≡ sets (now (blocks .entry)) (shareBytes * f) (loaded s .store .share))) ⌝ }
+{
+    let head = read_head(text);
+    let mut ring = begin(blocks, f, head);
     let mut left = head.held;
-    clear(blocks, f);
+    let mut reader = hand_out(open(text), frame);
     while left > 0 {
-        let next = next_frame(text, at, frame);
-        let size = next.size;
-        let typ = words::get(frame, TYPE);
-        let id = words::get(frame, ID);
-        ring = put_at(blocks, f, ring, words, typ, id, &frame[RECORD_HEAD..size]);
-        at = next.at;
+        reader = hand_out(reader, frame);
+        ring = put_frame(blocks, f, head.words, ring, frame, reader.size);
         left -= 1;
     }
-    File { words, ring }
+    File {
+        words: head.words,
+        ring,
+    }
 }

@@ -2,12 +2,11 @@
 use Prim.Native.Nat.{ℕ, _+_, _-_, _*_, _≤_, _<_}
 use mathlib.Core.Path.{_≡_, sym, ap, _∙_}
 use mathlib.Core.List.{List}
-use mathlib.Core.Option.{none, some}
+use mathlib.Core.Option.{some}
 use native.Mathlib.Omega.{arith}
 use lib.ListN.{length, drop, length-drop}
 use lib.Seq.{length-take-le}
 use Rattle.words.specs.Word.{wordAt}
-use Rattle.words.proofs.Parts.{length-part}
 use Rattle.rules.specs.Limits.{files, shareBytes}
 use Rattle.rules.specs.State.{Built, built}
 use Rattle.rules.specs.Reply.{leaves}
@@ -18,21 +17,23 @@ use Rattle.shares.specs.Back.{recAt}
 use Rattle.shares.specs.Places.{placeOf}
 use Rattle.laws.proofs.Room.{good-sized}
 use Rattle.segment.specs.Fields.{fileAt}
-use Rattle.blocks.specs.declared.reading.Record.{Record}
-use Rattle.blocks.specs.declared.reading.Found.{Found}
-use Rattle.blocks.specs.declared.reading.Found.the-variants.{At, Nothing}
-use Rattle.blocks.specs.Ring.{geo, Fitted, Ranged}
-use Rattle.blocks.specs.Reading.{Readable, Legible, headerOf, oldestOf}
+use Rattle.records.specs.declared.reading.Record.{Record}
+use Rattle.records.specs.declared.reading.Found.{Found}
+use Rattle.records.specs.declared.reading.Found.the-variants.{At, Nothing}
+use Rattle.ring.specs.Ring.{geo}
+use Rattle.ring.specs.Held.{Held}
+use Rattle.records.specs.Reading.{Readable, headerOf}
+use Rattle.records.specs.Fetch.{oldestOf}
 use Rattle.blocks.specs.Memory as memory
-use Rattle.blocks.proofs.Held.{held-ranged, held-legible}
+use Rattle.ring.proofs.Held.{held-long}
 use Rattle.memory.specs.Stands.{shareAt}
 use Rattle.memory.specs.Fine.{StandsFor}
 use Rattle.midst.specs.declared.File as hand
 use Rattle.midst.specs.File.{fileOfRow}
 use Rattle.midst.specs.Outcome.{replyStatus}
 use Rattle.midst.proofs.Begins.{mid-begin}
-use Rattle.tallies.specs.Tallies.{FileStands}
-use Rattle.tallies.proofs.Counted.{held-file}
+use Rattle.midst.specs.FileStands.{FileStands}
+use Rattle.midst.proofs.FileStands.{held-file}
 use Rattle.promises.specs.Parts.{nothing, ofBlocks, before, ofFile}
 use Rattle.looking.specs.declared.finding.Shown.the-variants.{Refused, Block}
 use Rattle.looking.specs.Shown.{partShown, statusShown, Inside, OfFile, Finds}
@@ -40,18 +41,15 @@ use Rattle.looking.proofs.Oldest.{oldest-place, oldest-some, oldest-non
 
 module _ (xs blocks : List ℕ) (f : ℕ) (x : hand.File) (ys : List ℕ) (row : x ≡ fileOfRow (fileAt xs f)) (own : ys ≡ memory.shareAt f blocks) where
   -- what the search asks
-  pub file-asks : FileStands xs blocks f
-      → ((length ys ≡ shareBytes) × Ranged (x .ring) × Fitted (x .words) (x .ring)) × Legible (geo (x .words) (x .ring)) ys (x .ring)
-  file-asks P =
-      let H = held-file (P .stands) f (P .file) (P .b) (P .is) x ys row own in
-      ((ap length own ∙ length-part blocks shareBytes files f (P .stands .stands .bodies .blocks-size) (P .file), held-ranged _ _ _ H, H .fitted), held-legible _ _ _ H)
+  pub file-asks : FileStands xs blocks f → Held (x .words) (x .ring) ys
+  file-asks P = held-file (P .stands) f (P .file) (P .b) (P .is) x ys row own
 
   -- the bytes of a record are within the share
   pub body-inside : FileStands xs blocks f → (q : ℕ) → Readable ys q → q + 6 + length (recAt ys q .body) ≤ shareBytes
   unfolding recAt
   body-inside P q k =
       let n = length-take-le (wordAt ys q - 4) (drop (q + 6) ys) (rw length-drop (omega (arith, k .low, k .inside))) in
-      omega (arith, n, k .low, k .inside, file-asks P .0 .0)
+      omega (arith, n, k .low, k .inside, held-long _ _ _ (file-asks P))
 
   module _ {buffers : List ℕ} {d : Desk} {s : Alloc} (S : StandsFor xs blocks buffers d s) (h : f < files) (b : Built) (is : fileOf d f ≡ built b) where
     -- it was made in the file's own store

@@ -24,8 +24,8 @@ use Rattle.memory.specs.Stands.{shareAt}
 use Rattle.memory.specs.Fine.{StandsFor}
 use Rattle.midst.proofs.Begins.{mid-begin}
 use Rattle.transfers.proofs.Ports.{taken}
-use Rattle.judges.specs.declared.accessors.Accessor.{Accessor}
-use Rattle.judges.specs.Accessors.{accessorOf}
+use Rattle.accessors.specs.declared.Accessor.{Accessor}
+use Rattle.accessors.specs.Accessors.{accessorOf}
 use Rattle.promises.specs.Promise.{Standing, Seen, unsound, stands, replyOf}
 use Rattle.promises.specs.Parts.{bytesOf, before, ofFile, ofReq, partOn, partOf}
 use Rattle.looking.proofs.Oldest.{oldest-body}

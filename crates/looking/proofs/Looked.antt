@@ -12,17 +12,17 @@ use Rattle.rules.specs.Requests.{accAt}
 use Rattle.rules.specs.Reply.{shows, leaves, unmade}
 use Rattle.rules.specs.Look as looking
 use Rattle.rules.specs.Look.{lookReq}
-use Rattle.rules.specs.Calls.{refusal, askBuilt, askUnbuilt, ask}
+use Rattle.rules.specs.Calls.{refusal, askBuilt, askUnbuilt, ask, onAcc}
 use Rattle.rules.specs.Calls as calls
 use Rattle.rules.specs.Desk.{Desk, look, asked, fileOf, answered, respond}
 use Rattle.rules.proofs.Split.{by-cases}
-use Rattle.judges.specs.declared.outstanding.Outstanding.{Outstanding}
-use Rattle.judges.specs.declared.accessors.Accessor.{Accessor}
-use Rattle.judges.specs.declared.accessors.Accessor.the-variants.{Refused, Open}
-use Rattle.judges.specs.Requests.{outstandingOf}
-use Rattle.judges.specs.Sides.{sideOf}
-use Rattle.judges.specs.Accessors.{accessorIn, accessorOn, accessorOf}
-use Rattle.tally.specs.Count.{bit}
+use Rattle.accessors.specs.declared.outstanding.Outstanding.{Outstanding}
+use Rattle.accessors.specs.declared.Accessor.{Accessor}
+use Rattle.accessors.specs.declared.Accessor.the-variants.{Refused, Open}
+use Rattle.accessors.specs.Outstanding.{outstandingOf}
+use Rattle.accessors.specs.Sides.{sideOf}
+use Rattle.accessors.specs.Accessors.{accessorIn, accessorOn, accessorOf}
+use Rattle.occurrences.specs.Count.{bit}
 use Rattle.promises.specs.Parts.{nothing, ofReq, ofReader, partOn}
 
 -- refused with n
@@ -49,14 +49,14 @@ pub data Looked (d : Desk) (f p : ℕ) : Accessor → Type 0 where
   reader : (w : ℕ) (q : Outstanding) → Reads d f p q → Looked d f p (Open w 1 q)
 
 module _ (d : Desk) (f p : ℕ) where
-  by-place : f < files → (b : Built) → fileOf d f ≡ built b → partOn d f p ≡ ofReader f p (built b) → respond d (look f p) .reply ≡ looking.look p b .reply
+  by-place : f < files → (b : Built) → fileOf d f ≡ built b → partOn d f p ≡ ofReader f p (built b) → respond d (look f p) .reply ≡ onAcc (calls.look p) p (λ a. looking.look a b) b .reply
       → (o : Option Acc) → accAt b p ≡ o → Looked d f p (accessorIn (b .geo .words) o)
-  unfolding ofReader looking.look leaves accessorIn sideOf
-  by-place h b is e k none i = refused 32 (record { part = e ∙ rw (ofReader, i); reply = k ∙ rw (looking.look, i) })
+  unfolding ofReader onAcc looking.look refusal leaves accessorIn sideOf
+  by-place h b is e k none i = refused 32 (record { part = e ∙ rw (ofReader, i); reply = k ∙ rw (onAcc, i) })
   by-place h b is e k (some a) i = go (a .writer) refl
     where
       go : (w : Bool) → a .writer ≡ w → Looked d f p (Open (b .geo .words) (1 + bit (a .writer)) (outstandingOf (a .req)))
-      go true j = rw j (writer (b .geo .words) (outstandingOf (a .req)) (record { part = e ∙ rw (ofReader, i, j); reply = k ∙ rw (looking.look, i, j) }))
+      go true j = rw j (writer (b .geo .words) (outstandingOf (a .req)) (record { part = e ∙ rw (ofReader, i, j); reply = k ∙ rw (onAcc, i, looking.look, j) }))
       go false j =
           rw j (reader (b .geo .words) (outstandingOf (a .req)) (record {
             file = h;
@@ -67,7 +67,7 @@ module _ (d : Desk) (f p : ℕ) where
             side = j;
             request = refl;
             part = e ∙ rw (ofReader, i, j);
-            reply = k ∙ rw (looking.look, i, j);
+            reply = k ∙ rw (onAcc, i, looking.look, j);
           }))
 
   by-file : f < files → partOn d f p ≡ ofReader f p (fileOf d f) → respond d (look f p) .reply ≡ ask (fileOf d f) (calls.look p) .reply

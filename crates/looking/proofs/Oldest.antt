@@ -1,7 +1,7 @@
 -- Where the oldest data record stands in the share.
 use Prim.Native.Nat.{ℕ, suc, _+_, _-_, _≤_, _<_}
 use mathlib.Core.Path.{_≡_, refl, sym, ap, _∙_}
-use mathlib.Core.Bool.{true, false, false≢true}
+use mathlib.Core.Bool.{false≢true}
 use mathlib.Core.List.{List, [], _∷_}
 use mathlib.Core.Option.{none, some}
 use native.Mathlib.Omega.{arith}
@@ -17,11 +17,12 @@ use Rattle.shares.specs.Holds.{Sized, Holds}
 use Rattle.shares.specs.Back.{recAt}
 use Rattle.shares.specs.Places.{placeOf}
 use Rattle.shares.proofs.Places.{placeOf-held}
-use Rattle.blocks.specs.declared.reading.Found.{Found}
-use Rattle.blocks.specs.declared.reading.Found.the-variants.{At, Nothing}
-use Rattle.blocks.specs.Reading.{Readable, Legible, oldestOf, found}
-use Rattle.blocks.proofs.reading.Stores.{legible, found-oldest}
-use Rattle.blocks.proofs.reading.Walk.{at-same, at-none}
+use Rattle.records.specs.declared.reading.Found.{Found}
+use Rattle.records.specs.declared.reading.Found.the-variants.{At, Nothing}
+use Rattle.records.specs.Reading.{Readable}
+use Rattle.records.specs.Fetch.{oldestOf, found}
+use Rattle.records.proofs.reading.Stores.{legible, found-oldest}
+use Rattle.records.proofs.fetch.Search.{at-same, at-none}
 use Rattle.promises.specs.Parts.{before}
 
 -- it is one of the records
@@ -87,7 +88,7 @@ module _ (g : Geo) (s : Store) (o : Sized g) (h : Holds g s) where
   -- with its data behind three words
   pub oldest-body : (r : Rec) → oldest (s .recs) ≡ some r → let q : ℕ = placeOf g (s .share) (s .block) (s .spent + before (s .recs)) in
       (q + 6 + length (r .body) ≤ shareBytes) × (take (length (r .body)) (drop (q + 6) (s .share)) ≡ r .body)
-  unfolding Legible recAt
+  unfolding recAt
   oldest-body r e =
       let q : ℕ = placeOf g xs (s .block) (s .spent + before (s .recs)) in
       let k : Readable xs q = legible g s o h (before (s .recs)) (before-low (s .recs) r e) in

@@ -1,15 +1,15 @@
 -- From what is found to the part that look shows, and to its status.
 use Prim.Native.Nat.{ℕ, _+_, _-_, _≤_}
-use mathlib.Core.Path.{_≡_, refl, sym, ap, _∙_}
+use mathlib.Core.Path.{_≡_, refl, ap, _∙_}
 use mathlib.Core.Bool.{true, false}
 use mathlib.Core.List.{List, []}
 use mathlib.Core.Option.{Option}
 use lib.ListN.{length, take, drop}
-use Rattle.rules.specs.Desk.{Desk, look, replyBytes}
-use Rattle.memory.specs.Stands.{Bytes}
+use Rattle.rules.specs.Desk.{look, replyBytes}
+use Rattle.words.specs.Word.{Bytes}
 use Rattle.midst.specs.Outcome.{replyStatus}
 use Rattle.sound.specs.Sound.{soundly}
-use Rattle.sound.proofs.desk.Both.{sound-stands}
+use Rattle.decision.proofs.desk.Both.{sound-stands}
 use Rattle.promises.specs.Promise.{Standing, Seen, replyOf}
 use Rattle.promises.specs.Parts.{Part, bytesOf, partOf}
 use Rattle.promises.proofs.Seen.{seen-none, seen-some}
@@ -50,43 +50,29 @@ pub buffer-inside : (m n : ℕ) (x : Shown) → Inside m n x → (at size : ℕ)
 unfolding Inside
 buffer-inside m n x i at size e = let k : Inside m n (Buffer at size) = rw e at i in k
 
-module _ (xs blocks buffers : List ℕ) (f p : ℕ) (x : Shown) (F : Shows xs blocks buffers f p x) where
-  -- the bytes of the part are what look promises
-  abbrev Given : List ℕ → Type 0
-  Given ys =
-      ((v : Option Standing) → Seen xs blocks buffers v → ys ≡ bytesOf (partOf v f p) blocks buffers)
-      × ((v : Option Standing) → Seen xs blocks buffers v → ys ≡ replyBytes (replyOf v (look f p)))
+-- the bytes of the part
+module _ (blocks buffers : List ℕ) (x : Shown) where
+  pub refused-part : (n : ℕ) → x ≡ Refused n → [] ≡ bytesOf (partShown x) blocks buffers
+  unfolding partShown bytesOf
+  refused-part n e = rw e
 
-  given : (ys : List ℕ) → ys ≡ bytesOf (partShown x) blocks buffers → Given ys
+  pub block-part : (at size : ℕ) → x ≡ Block at size → take (at + size - at) (drop at blocks) ≡ bytesOf (partShown x) blocks buffers
+  unfolding partShown bytesOf
+  block-part at size e = rw (e, span at size)
+
+  pub buffer-part : (at size : ℕ) → x ≡ Buffer at size → take (at + size - at) (drop at buffers) ≡ bytesOf (partShown x) blocks buffers
+  unfolding partShown bytesOf
+  buffer-part at size e = rw (e, span at size)
+
+-- they are what look promises, and so is the status
+module _ (xs blocks buffers : List ℕ) (f p : ℕ) (x : Shown) (F : Shows xs blocks buffers f p x) where
+  pub given : (ys : List ℕ) → ys ≡ bytesOf (partShown x) blocks buffers
+      → ((v : Option Standing) → Seen xs blocks buffers v → ys ≡ bytesOf (partOf v f p) blocks buffers)
+      × ((v : Option Standing) → Seen xs blocks buffers v → ys ≡ replyBytes (replyOf v (look f p)))
   given ys e = (part, λ v k. part v k ∙ seen-fits xs blocks buffers v k f p)
     where
       part : (v : Option Standing) → Seen xs blocks buffers v → ys ≡ bytesOf (partOf v f p) blocks buffers
       part v k = e ∙ ap (λ (q : Part). bytesOf q blocks buffers) (F v k .shows)
 
-  pub refused-given : (n : ℕ) → x ≡ Refused n → Given []
-  unfolding partShown bytesOf
-  refused-given n e = given [] (rw e)
-
-  pub block-given : (at size : ℕ) → x ≡ Block at size → Given (take (at + size - at) (drop at blocks))
-  unfolding partShown bytesOf
-  block-given at size e = given (take (at + size - at) (drop at blocks)) (rw (e, span at size))
-
-  pub buffer-given : (at size : ℕ) → x ≡ Buffer at size → Given (take (at + size - at) (drop at buffers))
-  unfolding partShown bytesOf
-  buffer-given at size e = given (take (at + size - at) (drop at buffers)) (rw (e, span at size))
-
-  -- and so is the status
-  abbrev Said : ℕ → Type 0
-  Said n = (v : Option Standing) → Seen xs blocks buffers v → n ≡ replyStatus (replyOf v (look f p))
-
-  pub refused-said : (n : ℕ) → x ≡ Refused n → Said n
-  unfolding statusShown
-  refused-said n e v k = let i : statusShown x ≡ n = rw e in sym i ∙ F v k .status
-
-  pub block-said : (at size : ℕ) → x ≡ Block at size → Said 0
-  unfolding statusShown
-  block-said at size e v k = let i : statusShown x ≡ 0 = rw e in sym i ∙ F v k .status
-
-  pub buffer-said : (at size : ℕ) → x ≡ Buffer at size → Said 0
-  unfolding statusShown
-  buffer-said at size e v k = let i : statusShown x ≡ 0 = rw e in sym i ∙ F v k .status
+  pub said : (n : ℕ) → n ≡ statusShown x → (v : Option Standing) → Seen xs blocks buffers v → n ≡ replyStatus (replyOf v (look f p))
+  said n e v k = e ∙ F v k .status

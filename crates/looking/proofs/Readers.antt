@@ -1,7 +1,7 @@
 -- What is found for a reader is what each desk shows that the memories stand for.
 use Prim.Native.Nat.{ℕ, _*_, _≤_, _<_}
 use mathlib.Core.Path.{_≡_, refl, sym, ap, _∙_, subst}
-use mathlib.Core.Bool.{Bool, true, false, false≢true}
+use mathlib.Core.Bool.{Bool, false, false≢true}
 use mathlib.Core.List.{List}
 use native.Mathlib.Omega.{arith}
 use borrow.Author.Tests.{eq-eqb, ne-eqb}
@@ -24,17 +24,17 @@ use Rattle.memory.specs.Image.{reqWords}
 use Rattle.memory.specs.Fine.{StandsFor}
 use Rattle.midst.specs.Outcome.{replyStatus}
 use Rattle.midst.proofs.Lists.{place-under}
-use Rattle.judges.specs.declared.outstanding.Outstanding.{Outstanding}
-use Rattle.judges.specs.declared.outstanding.Outstanding.the-variants.{Completed}
-use Rattle.judges.specs.declared.accessors.Accessor.{Accessor}
-use Rattle.judges.specs.declared.accessors.Accessor.the-variants.{Refused, Open}
-use Rattle.judges.specs.Requests.{outstandingOf}
-use Rattle.judges.specs.Accessors.{accessorAt, accessorOf}
-use Rattle.judges.proofs.Names.{accessor-is}
-use Rattle.judges.proofs.Waits.{fine-at}
+use Rattle.accessors.specs.declared.outstanding.Outstanding.{Outstanding}
+use Rattle.accessors.specs.declared.outstanding.Outstanding.the-variants.{Completed}
+use Rattle.accessors.specs.declared.Accessor.{Accessor}
+use Rattle.accessors.specs.declared.Accessor.the-variants.{Refused, Open}
+use Rattle.accessors.specs.Outstanding.{outstandingOf}
+use Rattle.accessors.specs.Accessors.{accessorAt, accessorOf}
+use Rattle.accessors.proofs.Names.{accessor-is}
+use Rattle.accessors.proofs.Waits.{fine-at}
 use Rattle.transfers.proofs.Fits.{Fit, fit}
 use Rattle.transfers.proofs.Ports.{port-full, port-entry}
-use Rattle.tallies.specs.Tallies.{FileStands}
+use Rattle.midst.specs.FileStands.{FileStands}
 use Rattle.promises.specs.Parts.{ofBuffers, ofFile, ofReq}
 use Rattle.looking.specs.declared.finding.Shown.{Shown}
 use Rattle.looking.specs.declared.finding.Shown.the-variants as shown

@@ -7,7 +7,7 @@ use native.Mathlib.Omega.{arith}
 use lib.ListN.{length}
 use Rattle.rules.specs.Limits.{bufferBytes}
 use Rattle.rules.specs.Desk.{look, replyBytes}
-use Rattle.memory.specs.Stands.{Bytes}
+use Rattle.words.specs.Word.{Bytes}
 use Rattle.promises.specs.Promise.{Standing, Seen, unsound, stands, replyOf}
 use Rattle.promises.proofs.Seen.{sees}
 use Rattle.promises.proofs.Fits.{look-fits}

@@ -2,7 +2,6 @@
 use Prim.Native.Nat.{ℕ, _+_, _≤_}
 use mathlib.Core.Path.{_≡_}
 use mathlib.Core.List.{List}
-use mathlib.Core.Option.{some}
 use Rattle.rules.specs.State.{Built, built}
 use Rattle.rules.specs.Reply.{Reply}
 use Rattle.rules.specs.Look.{lookFile}
@@ -12,9 +11,9 @@ use Rattle.blocks.specs.Memory.{blocksBytes}
 use Rattle.buffers.specs.Buffer.{buffersBytes}
 use Rattle.memory.specs.Fine.{StandsFor}
 use Rattle.midst.specs.Outcome.{replyStatus, Sound}
-use Rattle.judges.specs.declared.outstanding.Outstanding.{Outstanding}
-use Rattle.judges.specs.declared.accessors.Accessor.the-variants.{Open}
-use Rattle.judges.specs.Accessors.{accessorAt}
+use Rattle.accessors.specs.declared.outstanding.Outstanding.{Outstanding}
+use Rattle.accessors.specs.declared.Accessor.the-variants.{Open}
+use Rattle.accessors.specs.Accessors.{accessorAt}
 use Rattle.promises.specs.Parts.{Part, nothing, ofBlocks, ofBuffers, ofFile, partOn}
 use Rattle.looking.specs.declared.finding.Shown.{Shown}
 use Rattle.looking.specs.declared.finding.Shown.the-variants.{Refused, Block, Buffer}

@@ -1,17 +1,17 @@
 // What look shows, found as numbers: a refusal, or where the bytes lie and how many there are.
-use blocks::RECORD_HEAD;
-use blocks::reading::Found;
-use judges::accessors::Accessor;
-use judges::accessors::accessor_of;
-use judges::outstanding::Outstanding;
-use judges::refusals;
-use judges::sides::WRITER;
+use accessors::Accessor;
+use accessors::accessor_of;
+use accessors::outstanding::Outstanding;
 use kinds::limits::BUFFER_BYTES;
 use kinds::limits::PLACES;
 use kinds::limits::SHARE_BYTES;
+use kinds::refusals;
+use kinds::sides::WRITER;
+use records::reading::Found;
+use ring::layout::RECORD_HEAD;
 use segment::layout;
-ghost use Rattle.judges.specs.declared.outstanding.Outstanding.the-variants.{Completed};
-ghost use Rattle.tallies.specs.Tallies.{FileStands};
+ghost use Rattle.accessors.specs.declared.outstanding.Outstanding.the-variants.{Completed};
+ghost use Rattle.midst.specs.FileStands.{FileStands};
 ghost use Rattle.looking.specs.Shown.{OfFile, OfReader, Finds, Stood, Opens, ReaderOpens};
 
 pub enum Shown {
@@ -28,10 +28,10 @@ fn of_file(segment: &[u8], blocks: &[u8], f: usize) -> Shown
 {
     let file = midst::take_file(segment, f);
     let share = blocks::memory::share(blocks, f);
-    let found = blocks::reading::oldest(share, file.ring, file.words);
+    let found = records::fetch::oldest(share, file.ring, file.words);
     match found {
         Found::At(at) => {
-            let record = blocks::reading::header(share, at);
+            let record = records::reading::header(share, at);
             Shown::Block {
                 at: SHARE_BYTES * f + at + RECORD_HEAD,
                 size: record.size as usize,

@@ -3,23 +3,23 @@
 // Nothing is asked of what is lent, and nothing is changed.
 mod finding;
 
-use finding::Shown;
+pub use finding::Shown;
 use finding::find;
-use judges::refusals;
+use kinds::refusals;
 ghost use mathlib.Core.Path.{_≡_};
 ghost use mathlib.Core.Option.{Option};
 ghost use Prim.Native.Nat.{_≤_};
 ghost use lib.ListN.{length};
 ghost use Rattle.rules.specs.Limits.{bufferBytes};
-ghost use Rattle.rules.specs.Desk.{Desk, replyBytes};
+ghost use Rattle.rules.specs.Desk.{replyBytes};
 ghost use Rattle.rules.specs.Desk as rules;
 ghost use Rattle.midst.specs.Outcome.{replyStatus};
 ghost use Rattle.promises.specs.Promise.{Standing, Seen, replyOf};
 ghost use Rattle.promises.specs.Parts.{bytesOf, partOf};
-ghost use Rattle.looking.specs.Shown.{Inside, Tells};
+ghost use Rattle.looking.specs.Shown.{partShown, statusShown, Inside, Tells};
 
 // What is shown, whatever the memories hold.
-fn shown(segment: &[u8], blocks: &[u8], buffers: &[u8], file: usize, reader: usize) -> Shown
+pub fn shown(segment: &[u8], blocks: &[u8], buffers: &[u8], file: usize, reader: usize) -> Shown
     ensures inside { λ r. ⌜ Inside (length (now (blocks .entry))) (length (now (buffers .entry))) r ⌝ }
     ensures tells { λ r. ⌜ ((v : Option Standing) → Seen (now (segment .entry)) (now (blocks .entry)) (now (buffers .entry)) v → Tells (partOf v file reader) (replyOf v (rules.look file reader)) r) ⌝ }
 {
@@ -29,7 +29,30 @@ fn shown(segment: &[u8], blocks: &[u8], buffers: &[u8], file: usize, reader: usi
     find(segment, blocks, file, reader)
 }
 
-// The part that is shown, of the blocks or of the record buffers; an empty one where the call is refused.
+// Its part of the blocks or of the record buffers; an empty one where the call is refused.
+pub fn part<'a>(what: Shown, blocks: &'a [u8], buffers: &'a [u8]) -> &'a [u8]
+    requires { ⌜ Inside (length (now blocks)) (length (now buffers)) what ⌝ }
+    ensures { λ r. ⌜ now r ≡ bytesOf (partShown what) (now (blocks .entry)) (now (buffers .entry)) ⌝ }
+{
+    match what {
+        Shown::Refused(_) => &blocks[0..0],
+        Shown::Block { at, size } => &blocks[at..at + size],
+        Shown::Buffer { at, size } => &buffers[at..at + size],
+    }
+}
+
+// Its status: 29, 31, 32, 34, 39, or 0.
+pub fn status(what: Shown) -> u8
+    ensures { λ r. ⌜ r ≡ statusShown what ⌝ }
+{
+    match what {
+        Shown::Refused(number) => number,
+        Shown::Block { at: _, size: _ } => 0,
+        Shown::Buffer { at: _, size: _ } => 0,
+    }
+}
+
+// The part alone.
 pub fn look<'a>(
     segment: &[u8],
     blocks: &'a [u8],
@@ -42,21 +65,13 @@ pub fn look<'a>(
     ensures short { λ r. ⌜ length (now r) ≤ bufferBytes ⌝ }
 {
     let what = shown(segment, blocks, buffers, file, reader);
-    match what {
-        Shown::Refused(_) => &blocks[0..0],
-        Shown::Block { at, size } => &blocks[at..at + size],
-        Shown::Buffer { at, size } => &buffers[at..at + size],
-    }
+    part(what, blocks, buffers)
 }
 
-// Its status: 29, 31, 32, 34, 39, or 0.
+// The status alone.
 pub fn look_status(segment: &[u8], blocks: &[u8], buffers: &[u8], file: usize, reader: usize) -> u8
     ensures { λ r. ⌜ ((v : Option Standing) → Seen (now (segment .entry)) (now (blocks .entry)) (now (buffers .entry)) v → r ≡ replyStatus (replyOf v (rules.look file reader))) ⌝ }
 {
     let what = shown(segment, blocks, buffers, file, reader);
-    match what {
-        Shown::Refused(number) => number,
-        Shown::Block { at: _, size: _ } => 0,
-        Shown::Buffer { at: _, size: _ } => 0,
-    }
+    status(what)
 }

@@ -29,13 +29,9 @@ bodies-same d x b x′ b′ S T h = (
     each : (f : ℕ) → f < files → (shareAt f x ≡ shareAt f x′) × (buffersAt f b ≡ buffersAt f b′)
     each f k = file-same (fileOf d f) _ _ _ _ (S .each f k) (T .each f k) (h f k)
 
--- all files built
-pub bodies-built : (d : Desk) (x b x′ b′ : List ℕ) → Bodies x b d → Bodies x′ b′ d → ((f : ℕ) → f < files → fileOf d f ≡ unbuilt → ⊥) → (x ≡ x′) × (b ≡ b′)
-bodies-built d x b x′ b′ S T h = bodies-same d x b x′ b′ S T (λ f k u. absurd (h f k u))
-
 -- the bytes of files that are not built zero: exactly the rules' bytes
 
-file-blank : (x : File) (s b : List ℕ) → FileBytes x s b → (x ≡ unbuilt → (s ≡ zeros shareBytes) × (b ≡ zeros (places * bufferBytes))) → (s ≡ shareOf x) × (b ≡ buffersOf x)
+pub file-blank : (x : File) (s b : List ℕ) → FileBytes x s b → (x ≡ unbuilt → (s ≡ zeros shareBytes) × (b ≡ zeros (places * bufferBytes))) → (s ≡ shareOf x) × (b ≡ buffersOf x)
 unfolding FileBytes shareOf buffersOf
 file-blank unbuilt s b h u = u refl
 file-blank (built c) s b h u = h

@@ -6,13 +6,15 @@ use native.Mathlib.Omega.{arith}
 use native.Mathlib.Decide.{decLt}
 use lib.ListN.{length, getD}
 use borrow.Author.Tests.{lt-ltb}
-use Rattle.tally.specs.Count.{bit, count, total}
+use Rattle.occurrences.specs.Count.{bit, count, total}
 use Rattle.segment.specs.Layout.{listCount, rowCount}
 use Rattle.ports.specs.Lists.{Boxes}
+use Rattle.rules.specs.Limits.{entries}
 use Rattle.rules.specs.Desk.{Desk}
 use Rattle.rules.specs.Allocation.{Alloc, upFrom}
 use Rattle.memory.specs.Image.{rowOf, listOf, boxOf, listsOf, boxesOf, rowsOf}
-use Rattle.memory.specs.Stands.{Bytes, Segment}
+use Rattle.memory.specs.Stands.{Segment}
+use Rattle.words.specs.Word.{Bytes}
 use Rattle.memory.specs.Covers.{Covers, Once}
 
 -- a list of values g 0, g 1, ..
@@ -88,7 +90,7 @@ find x (xs ∷ ls) h = go (decLt 0 (count x xs)) (λ k. find x ls k)
 
 pub once-covers : (d : Desk) (s : Alloc) → Once d s → Covers d s
 once-covers d s once e h =
-    let (l, a, b) = find e (listsOf d s) (omega (arith, once e, ap bit (lt-ltb e 128 h))) in
+    let (l, a, b) = find e (listsOf d s) (omega (arith, once e, ap bit (lt-ltb e entries h))) in
     let k : l < listCount = rw long at a in
     (l, k, rw (getD-listsOf d s l k) at b)
   where

@@ -13,7 +13,8 @@ use Rattle.rules.specs.Limits.{files, places, shareBytes, bufferBytes}
 use Rattle.rules.specs.State.{Acc, File, unbuilt}
 use Rattle.rules.specs.Desk.{Desk, fileOf}
 use Rattle.rules.specs.Memories.{buffer, fileBuffers}
-use Rattle.memory.specs.Stands.{Bytes, shareAt, buffersAt, bufferAt, FileBytes, Bodies}
+use Rattle.memory.specs.Stands.{shareAt, buffersAt, bufferAt, FileBytes, Bodies}
+use Rattle.words.specs.Word.{Bytes}
 use Rattle.memory.proofs.Parts.{parts, part, parts-all, part-parts, part-sets, part-sets-other}
 
 -- stores in the share of file f
@@ -56,16 +57,20 @@ drop-take zero m l = rw (zero-add m)
 drop-take (suc k) m [] = rw (suc-add k m) (sym (take-nil m))
 drop-take (suc k) m (y ∷ l) = rw (suc-add k m) (drop-take k m l)
 
+-- the bytes of a file's buffers
+abbrev pub fileBytes : ℕ
+fileBytes = places * bufferBytes
+
 buffersAt-part : (f p : ℕ) (x : List ℕ) → p < places → part bufferBytes p (buffersAt f x) ≡ bufferAt (8 * f + p) x
 unfolding part buffersAt bufferAt
 buffersAt-part f p x h =
-    let m : ℕ = 2080 - 260 * p in
-    let e : 2080 ≡ 260 * p + m = omega arith in
-    let i : 2080 * f + 260 * p ≡ 260 * (8 * f + p) = omega arith in
-    let c : drop (260 * p) (take 2080 (drop (2080 * f) x)) ≡ take m (drop (260 * p) (drop (2080 * f) x)) =
-    ap (λ k. drop (260 * p) (take k (drop (2080 * f) x))) e ∙ drop-take (260 * p) m (drop (2080 * f) x)
+    let m : ℕ = fileBytes - bufferBytes * p in
+    let e : fileBytes ≡ bufferBytes * p + m = omega arith in
+    let i : fileBytes * f + bufferBytes * p ≡ bufferBytes * (8 * f + p) = omega arith in
+    let c : drop (bufferBytes * p) (take fileBytes (drop (fileBytes * f) x)) ≡ take m (drop (bufferBytes * p) (drop (fileBytes * f) x)) =
+    ap (λ k. drop (bufferBytes * p) (take k (drop (fileBytes * f) x))) e ∙ drop-take (bufferBytes * p) m (drop (fileBytes * f) x)
     in
-    ap (take 260) c ∙ take-take 260 m (drop (260 * p) (drop (2080 * f) x)) (omega arith) ∙ ap (take 260) (drop-drop (260 * p) (2080 * f) x ∙ ap (λ k. drop k x) i)
+    ap (take bufferBytes) c ∙ take-take bufferBytes m (drop (bufferBytes * p) (drop (fileBytes * f) x)) (omega arith) ∙ ap (take bufferBytes) (drop-drop (bufferBytes * p) (fileBytes * f) x ∙ ap (λ k. drop k x) i)
 
 pub buffersAt-are : (f : ℕ) (x : List ℕ) (l : List (Option Acc)) → f < files → length x ≡ places * bufferBytes * files → length l ≡ places
     → ((p : ℕ) → p < places → bufferAt (8 * f + p) x ≡ buffer (getD l p none)) → buffersAt f x ≡ fileBuffers l
@@ -73,8 +78,8 @@ buffersAt-are f x l h e n k =
     parts-all bufferBytes places (buffersAt f x) (λ p. buffer (getD l p none)) (unfold buffersAt in long) (λ p j. buffersAt-part f p x j ∙ k p j)
     ∙ rw (← n) (sym (fileBuffers-parts l))
   where
-    long : length (take 2080 (drop (2080 * f) x)) ≡ 2080
-    long = length-take-le 2080 (drop (2080 * f) x) (rw (length-drop (2080 * f) x) (omega arith))
+    long : length (take fileBytes (drop (fileBytes * f) x)) ≡ fileBytes
+    long = length-take-le fileBytes (drop (fileBytes * f) x) (rw (length-drop (fileBytes * f) x) (omega arith))
 
 pub bufferAt-is : (f : ℕ) (x : List ℕ) (l : List (Option Acc)) → length l ≡ places → ((p : ℕ) → p < places → length (buffer (getD l p none)) ≡ bufferBytes)
     → buffersAt f x ≡ fileBuffers l → (p : ℕ) → p < places → bufferAt (8 * f + p) x ≡ buffer (getD l p none)

@@ -9,20 +9,22 @@ use native.Mathlib.Decide.{ℕ-discrete, decLt}
 use lib.Dec.{ltb, eqb}
 use lib.ListN.{length, getD, take, drop, replicate}
 use borrow.Author.Tests.{lt-ltb, le-ltb, eq-eqb, ne-eqb, ltb-true}
-use Rattle.tally.specs.Count.{bit, count}
-use Rattle.words.specs.Word.{zeros}
+use Rattle.occurrences.specs.Count.{bit, count}
+use Rattle.words.specs.Word.{zeros, Bytes}
 use Rattle.words.proofs.Runs.{length-zeros}
 use Rattle.rules.proofs.Split.{bothc}
-use Rattle.segment.specs.Layout.{listCount, freeList, nil, linkAt, dataAt, dataWords, readQueue, writeQueue, replyPort, rowAt, rowWords, rowCount, segmentWords}
+use Rattle.segment.specs.Layout.{readQueues, listCount, freeList, nil, entryWidth, linkAt, dataAt, dataWords, readQueue, writeQueue, replyPort, fileWidth, placeWidth, fileRows, segmentWords, fileRowAt, placeRowAt, rowCount, rowAt, rowWidth}
 use Rattle.segment.specs.Layout as layout
 use Rattle.segment.specs.Table.{nth, row, dataOf}
+use Rattle.segment.proofs.Apart.{words-file, words-place}
 use Rattle.ports.specs.Lists.{Chain}
 use Rattle.rules.specs.Limits.{files, places, entries, shareBytes, bufferBytes}
 use Rattle.rules.specs.State.{unbuilt}
 use Rattle.rules.specs.Desk.{fileOf, freshDesk}
 use Rattle.rules.specs.Allocation.{upFrom, freshAlloc, queueOf, portOf, timerList}
-use Rattle.memory.specs.Image.{accOf, reqOf, placeAcc, fileWords, placeWords, rowOf, rqOf, wqOf, listOf, queueWords, portWords, boxOf}
-use Rattle.memory.specs.Stands.{Bytes, Segment, shareAt, buffersAt, FileBytes, Bodies, Stands}
+use Rattle.memory.specs.Image.{accOf, placeAcc, fileWords, placeWords, rowOf, rqOf, wqOf, listOf, queueWords, portWords, boxOf}
+use Rattle.laws.specs.Outstanding.{reqOf}
+use Rattle.memory.specs.Stands.{Segment, shareAt, buffersAt, FileBytes, Bodies, Stands}
 use Rattle.memory.specs.Covers.{Covers, Blank}
 use Rattle.memory.specs.Fresh.{table, freshLink, freshWord, freshSegment, freshBlocks, freshBuffers}
 use Rattle.memory.proofs.Image.{rowOf-file, rowOf-place, each-row, listOf-free, listOf-read, listOf-write, listOf-port, listOf-timers, boxOf-free, boxOf-read, boxOf-write, boxOf-port, boxOf-timers, each-list}
@@ -68,9 +70,9 @@ freshLink-word e = bothc (λ v. v < 65536) (ltb (suc e) entries) (λ t. omega (a
 freshWord-word : (k : ℕ) → freshWord k < 65536
 unfolding freshWord
 freshWord-word k =
-    bothc (λ v. v < 65536) (ltb k 1) (λ _. omega arith)
-    (λ _. bothc (λ v. v < 65536) (ltb k 82) (λ _. omega arith)
-    (λ _. bothc (λ v. v < 65536) (ltb k 1362) (λ _. bothc (λ v. v < 65536) (eqb ((k - 82) % 10) 0) (λ _. freshLink-word ((k - 82) / 10)) (λ _. omega arith))
+    bothc (λ v. v < 65536) (ltb k readQueues) (λ _. omega arith)
+    (λ _. bothc (λ v. v < 65536) (ltb k listCount) (λ _. omega arith)
+    (λ _. bothc (λ v. v < 65536) (ltb k fileRows) (λ _. bothc (λ v. v < 65536) (eqb ((k - listCount) % entryWidth) 0) (λ _. freshLink-word ((k - listCount) / entryWidth)) (λ _. omega arith))
     (λ _. omega arith)))
 
 pub nth-fresh : (k : ℕ) → k < segmentWords → nth freshSegment k ≡ freshWord k
@@ -79,22 +81,22 @@ nth-fresh k h = nth-table segmentWords freshWord k h
 
 fresh-head : (l : ℕ) → 0 < l → l < listCount → nth freshSegment l ≡ nil
 unfolding freshWord
-fresh-head l a b = nth-fresh l (omega arith) ∙ rw (le-ltb l 1 a, lt-ltb l 82 b)
+fresh-head l a b = nth-fresh l (omega arith) ∙ rw (le-ltb l readQueues a, lt-ltb l listCount b)
 
 fresh-link : (e : ℕ) → e < entries → nth freshSegment (linkAt e) ≡ freshLink e
 unfolding freshWord
 fresh-link e h =
-    let z : (82 + 10 * e - 82) % 10 ≡ 0 = omega arith in
-    let q : (82 + 10 * e - 82) / 10 ≡ e = omega arith in
+    let z : (linkAt e - listCount) % entryWidth ≡ 0 = omega arith in
+    let q : (linkAt e - listCount) / entryWidth ≡ e = omega arith in
     nth-fresh (linkAt e) (omega arith)
-    ∙ rw (le-ltb (82 + 10 * e) 1 (omega arith), le-ltb (82 + 10 * e) 82 (omega arith), lt-ltb (82 + 10 * e) 1362 (omega arith), z, q)
+    ∙ rw (le-ltb (linkAt e) readQueues (omega arith), le-ltb (linkAt e) listCount (omega arith), lt-ltb (linkAt e) fileRows (omega arith), z, q)
 
-fresh-zero : (k : ℕ) → listCount ≤ k → k < segmentWords → (k < rowAt 0 → (k - 82) % 10 ≡ 0 → ⊥) → nth freshSegment k ≡ 0
-fresh-zero k a b c = nth-fresh k b ∙ go (decLt k 1362)
+fresh-zero : (k : ℕ) → listCount ≤ k → k < segmentWords → (k < fileRows → (k - listCount) % entryWidth ≡ 0 → ⊥) → nth freshSegment k ≡ 0
+fresh-zero k a b c = nth-fresh k b ∙ go (decLt k fileRows)
   where
-    go : Dec (k < 1362) → freshWord k ≡ 0
-    go (yes h) = unfold freshWord in rw (le-ltb k 1 (omega arith), le-ltb k 82 a, lt-ltb k 1362 h, ne-eqb ((k - 82) % 10) 0 (c h))
-    go (no h) = unfold freshWord in rw (le-ltb k 1 (omega arith), le-ltb k 82 a, le-ltb k 1362 (omega arith))
+    go : Dec (k < fileRows) → freshWord k ≡ 0
+    go (yes h) = unfold freshWord in rw (le-ltb k readQueues (omega arith), le-ltb k listCount a, lt-ltb k fileRows h, ne-eqb ((k - listCount) % entryWidth) 0 (c h))
+    go (no h) = unfold freshWord in rw (le-ltb k readQueues (omega arith), le-ltb k listCount a, le-ltb k fileRows (omega arith))
 
 row-zero : (s : List ℕ) (k n : ℕ) → ((j : ℕ) → k ≤ j → j < k + n → nth s j ≡ 0) → row s k n ≡ replicate n 0
 unfolding row
@@ -105,16 +107,16 @@ fresh-data : (e : ℕ) → e < entries → dataOf freshSegment e ≡ replicate d
 unfolding dataOf
 fresh-data e h = row-zero freshSegment (dataAt e) dataWords (λ j a b. fresh-zero j (omega arith) (omega arith) (λ _ u. omega arith))
 
-fresh-row : (i : ℕ) → i < rowCount → row freshSegment (rowAt i) rowWords ≡ replicate rowWords 0
-fresh-row i h = row-zero freshSegment (rowAt i) rowWords (λ j a b. fresh-zero j (omega arith) (omega arith) (λ k _. omega arith))
+fresh-row : (k n : ℕ) → fileRows ≤ k → k + n ≤ segmentWords → row freshSegment k n ≡ replicate n 0
+fresh-row k n a b = row-zero freshSegment k n (λ j c d. fresh-zero j (omega arith) (omega arith) (λ h _. omega arith))
 
 -- the free list: n entries from e on
 
 up-chain : (n e p : ℕ) → e + n ≡ entries → nth freshSegment p ≡ cond (ltb e entries) e nil → Chain freshSegment p (upFrom e n)
 unfolding upFrom Chain
-up-chain zero e p q h = h ∙ rw (le-ltb e 128 (omega arith))
+up-chain zero e p q h = h ∙ rw (le-ltb e entries (omega arith))
 up-chain (suc n) e p q h =
-    (h ∙ rw (lt-ltb e 128 (omega arith)), omega arith, up-chain n (suc e) (linkAt e) (omega arith) (fresh-link e (omega arith) ∙ (unfold freshLink in refl)))
+    (h ∙ rw (lt-ltb e entries (omega arith)), omega arith, up-chain n (suc e) (linkAt e) (omega arith) (fresh-link e (omega arith) ∙ (unfold freshLink in refl)))
 
 up-data : (n e : ℕ) → e + n ≡ entries → map (dataOf freshSegment) (upFrom e n) ≡ map (λ z. replicate dataWords 0) (upFrom e n)
 unfolding upFrom
@@ -177,11 +179,11 @@ module _ (l : ℕ) (h : l < listCount) where
   fresh-box (yes e) = rw (e, listOf-free freshDesk freshAlloc, boxOf-free freshDesk freshAlloc) (unfold freshAlloc in up-data entries 0 (omega arith))
   fresh-box (no d) = rw (list-none l (omega arith) h .0, list-none l (omega arith) h .1)
 
-fresh-rows : (i : ℕ) → i < rowCount → rowOf freshDesk i ≡ replicate rowWords 0
-fresh-rows i h =
-    each-row (λ i. rowOf freshDesk i ≡ replicate rowWords 0)
-    (λ f k. rowOf-file freshDesk f k ∙ (rw (fresh-file f) (unfold fileWords in refl)))
-    (λ j k. rowOf-place freshDesk j ∙ (rw (fresh-acc j) (unfold placeWords in refl))) i h
+fresh-rows : (i : ℕ) → i < rowCount → row freshSegment (rowAt i) (rowWidth i) ≡ rowOf freshDesk i
+fresh-rows =
+    each-row (λ i. row freshSegment (rowAt i) (rowWidth i) ≡ rowOf freshDesk i)
+    (λ f k. words-file freshSegment f k ∙ fresh-row (fileRowAt f) fileWidth (omega arith) (omega arith) ∙ sym (rowOf-file freshDesk f k ∙ (rw (fresh-file f) (unfold fileWords in refl))))
+    (λ j k. words-place freshSegment j ∙ fresh-row (placeRowAt j) placeWidth (omega arith) (omega arith) ∙ sym (rowOf-place freshDesk j ∙ (rw (fresh-acc j) (unfold placeWords in refl))))
 
 pub fresh-segment : Segment freshSegment freshDesk freshAlloc
 fresh-segment = record {
@@ -189,7 +191,7 @@ fresh-segment = record {
   size = unfold freshSegment in length-table segmentWords freshWord;
   chains = λ l h. fresh-chain l h (ℕ-discrete l 0);
   boxes = λ l h. fresh-box l h (ℕ-discrete l 0);
-  rows = λ i h. fresh-row i h ∙ sym (fresh-rows i h);
+  rows = fresh-rows;
 }
 
 pub fresh-bodies : Bodies freshBlocks freshBuffers freshDesk

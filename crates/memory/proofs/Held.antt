@@ -3,31 +3,23 @@ use Prim.Native.Nat.{ℕ, _+_, _*_, _/_, _%_, _≤_, _<_}
 use mathlib.Core.Path.{_≡_, refl, sym, ap, _∙_}
 use mathlib.Core.Bool.{cond}
 use mathlib.Core.List.{List, [], _∷_, map}
-use mathlib.Core.Option.{Option, none, some}
 use native.Mathlib.Omega.{arith}
 use native.Mathlib.Nat.{zero-mul, one-mul}
 use native.Mathlib.Decide.{ℕ-discrete}
 use lib.Dec.{eqb}
 use lib.ListN.{length, getD}
 use borrow.Author.Tests.{eq-eqb, ne-eqb}
-use Rattle.tally.specs.Count.{bit, count}
-use Rattle.tally.proofs.Counts.{count-append}
+use Rattle.occurrences.specs.Count.{bit, count}
+use Rattle.occurrences.proofs.Counts.{count-append}
 use Rattle.rules.specs.Limits.{places}
-use Rattle.rules.specs.State.{Req, idle, reading, writing, readDone, writeDone, Acc, Timer}
+use Rattle.rules.specs.State.{Req, idle, reading, writing, readDone, writeDone, Timer}
 use Rattle.rules.specs.Allocation.{Held, nothing, own, timed, Alloc, placeOf, heldAt, ownEntry, timerEntry, portOf}
 use Rattle.laws.specs.Outstanding.{waitsRead, waitsWrite, uncollected, outstanding}
-use Rattle.laws.specs.Outstanding as laws
 use Rattle.laws.specs.Counts.{placesOf, countT}
 use Rattle.laws.specs.Entries.{entriesOf, taken, size, local, sieve}
-use Rattle.memory.specs.Image.{reqOf}
 use Rattle.memory.proofs.Sums.{sum}
 
 -- a request
-
-pub req-same : (o : Option Acc) → laws.reqOf o ≡ reqOf o
-unfolding reqOf laws.reqOf
-req-same none = refl
-req-same (some a) = refl
 
 pub out-most : (q : Req) → outstanding q ≤ 1
 unfolding waitsRead waitsWrite uncollected

@@ -6,12 +6,14 @@ use native.Mathlib.Omega.{arith}
 use native.Mathlib.Decide.{decLt}
 use lib.ListN.{replicate}
 use borrow.Author.Tests.{lt-ltb, le-ltb}
-use Rattle.segment.specs.Layout.{listCount, rowCount, dataWords, freeList, readQueue, writeQueue, replyPort, fileRow, placeRow}
+use Rattle.segment.specs.Layout.{readQueues, writeQueues, replyPorts, listCount, rowCount, dataWords, freeList, readQueue, writeQueue, replyPort, fileRow, placeRow}
 use Rattle.segment.specs.Layout as layout
+use Rattle.segment.proofs.Apart as apart
 use Rattle.rules.specs.Limits.{files, places}
 use Rattle.rules.specs.Desk.{Desk, fileOf}
 use Rattle.rules.specs.Allocation.{Alloc, placeOf, queueOf, portOf, timerList}
-use Rattle.memory.specs.Image.{accOf, reqOf, placeAcc, timerWords, fileWords, placeWords, rowOf, rqOf, wqOf, atList, listOf, queueWords, portWords, boxOf}
+use Rattle.memory.specs.Image.{accOf, placeAcc, timerWords, fileWords, placeWords, rowOf, rqOf, wqOf, atList, listOf, queueWords, portWords, boxOf}
+use Rattle.laws.specs.Outstanding.{reqOf}
 
 -- place p of file f
 pub placeAcc-at : (d : Desk) (f p : ℕ) → p < places → placeAcc d (8 * f + p) ≡ accOf (fileOf d f) p
@@ -29,23 +31,19 @@ placeAcc-of d f p h = placeAcc-at d f p h
 
 pub rowOf-file : (d : Desk) (f : ℕ) → f < files → rowOf d (fileRow f) ≡ fileWords (fileOf d f)
 unfolding rowOf
-rowOf-file d f h = rw (lt-ltb f 8 h)
+rowOf-file d f h = rw (lt-ltb f files h)
 
 pub rowOf-place : (d : Desk) (i : ℕ) → rowOf d (placeRow i) ≡ placeWords (placeAcc d i)
 unfolding rowOf
 rowOf-place d i =
-    let e : 8 + i - 8 ≡ i = omega arith in
-    rw (le-ltb (8 + i) 8 (omega arith), e)
+    let e : placeRow i - files ≡ i = omega arith in
+    rw (le-ltb (placeRow i) files (omega arith), e)
 
 pub rowOf-acc : (d : Desk) (f p : ℕ) → p < places → rowOf d (placeRow (placeOf f p)) ≡ placeWords (accOf (fileOf d f) p)
 rowOf-acc d f p h = rw (rowOf-place d (placeOf f p), placeAcc-of d f p h)
 
 pub each-row : (P : ℕ → Type 0) → ((f : ℕ) → f < files → P (fileRow f)) → ((i : ℕ) → i < files * places → P (placeRow i)) → (i : ℕ) → i < rowCount → P i
-each-row P file place i h = go (decLt i 8)
-  where
-    go : Dec (i < 8) → P i
-    go (yes a) = file i a
-    go (no a) = let j : ℕ = i - 8 in let e : i ≡ 8 + j = omega arith in rw e (place j (omega arith))
+each-row P file place = apart.each-row (λ i. i < rowCount → P i) (λ f h _. file f h) (λ i h. place i (omega arith))
 
 -- lists
 
@@ -56,20 +54,20 @@ module _ {A : Type 0} (free : A) (reads writes port : ℕ → A) (timers : A) wh
   at-read : (f : ℕ) → f < files → at (readQueue f) ≡ reads f
   unfolding at atList
   at-read f h =
-      let e : 1 + f - 1 ≡ f = omega arith in
-      rw (le-ltb (1 + f) 1 (omega arith), lt-ltb (1 + f) 9 (omega arith), e)
+      let e : readQueue f - readQueues ≡ f = omega arith in
+      rw (le-ltb (readQueue f) readQueues (omega arith), lt-ltb (readQueue f) writeQueues (omega arith), e)
 
   at-write : (f : ℕ) → f < files → at (writeQueue f) ≡ writes f
   unfolding at atList
   at-write f h =
-      let e : 9 + f - 9 ≡ f = omega arith in
-      rw (le-ltb (9 + f) 1 (omega arith), le-ltb (9 + f) 9 (omega arith), lt-ltb (9 + f) 17 (omega arith), e)
+      let e : writeQueue f - writeQueues ≡ f = omega arith in
+      rw (le-ltb (writeQueue f) readQueues (omega arith), le-ltb (writeQueue f) writeQueues (omega arith), lt-ltb (writeQueue f) replyPorts (omega arith), e)
 
   at-port : (i : ℕ) → i < files * places → at (replyPort i) ≡ port i
   unfolding at atList
   at-port i h =
-      let e : 17 + i - 17 ≡ i = omega arith in
-      rw (le-ltb (17 + i) 1 (omega arith), le-ltb (17 + i) 9 (omega arith), le-ltb (17 + i) 17 (omega arith), lt-ltb (17 + i) 81 (omega arith), e)
+      let e : replyPort i - replyPorts ≡ i = omega arith in
+      rw (le-ltb (replyPort i) readQueues (omega arith), le-ltb (replyPort i) writeQueues (omega arith), le-ltb (replyPort i) replyPorts (omega arith), lt-ltb (replyPort i) layout.timerList (omega arith), e)
 
 module _ (d : Desk) (s : Alloc) where
   pub listOf-free : listOf d s freeList ≡ s .free
@@ -114,11 +112,11 @@ module _ (d : Desk) (s : Alloc) where
 
 pub each-list : (P : ℕ → Type 0) → P freeList → ((f : ℕ) → f < files → P (readQueue f)) → ((f : ℕ) → f < files → P (writeQueue f))
     → ((i : ℕ) → i < files * places → P (replyPort i)) → P layout.timerList → (l : ℕ) → l < listCount → P l
-each-list P free read write port timers l h = go (decLt l 1) (decLt l 9) (decLt l 17) (decLt l 81)
+each-list P free read write port timers l h = go (decLt l readQueues) (decLt l writeQueues) (decLt l replyPorts) (decLt l layout.timerList)
   where
-    go : Dec (l < 1) → Dec (l < 9) → Dec (l < 17) → Dec (l < 81) → P l
-    go (yes a) b c e = let z : l ≡ 0 = omega arith in rw z free
-    go (no a) (yes b) c e = let f : ℕ = l - 1 in let z : l ≡ 1 + f = omega arith in rw z (read f (omega arith))
-    go (no a) (no b) (yes c) e = let f : ℕ = l - 9 in let z : l ≡ 9 + f = omega arith in rw z (write f (omega arith))
-    go (no a) (no b) (no c) (yes e) = let i : ℕ = l - 17 in let z : l ≡ 17 + i = omega arith in rw z (port i (omega arith))
-    go (no a) (no b) (no c) (no e) = let z : l ≡ 81 = omega arith in rw z timers
+    go : Dec (l < readQueues) → Dec (l < writeQueues) → Dec (l < replyPorts) → Dec (l < layout.timerList) → P l
+    go (yes a) b c e = let z : l ≡ freeList = omega arith in rw z free
+    go (no a) (yes b) c e = let f : ℕ = l - readQueues in let z : l ≡ readQueue f = omega arith in rw z (read f (omega arith))
+    go (no a) (no b) (yes c) e = let f : ℕ = l - writeQueues in let z : l ≡ writeQueue f = omega arith in rw z (write f (omega arith))
+    go (no a) (no b) (no c) (yes e) = let i : ℕ = l - replyPorts in let z : l ≡ replyPort i = omega arith in rw z (port i (omega arith))
+    go (no a) (no b) (no c) (no e) = let z : l ≡ layout.timerList = omega arith in rw z timers

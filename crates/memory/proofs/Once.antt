@@ -1,4 +1,4 @@
--- "each ten-word entry is always on exactly one list": what the places hold is what stands on the queues, the reply ports and the timer list.
+-- "Each ten-word entry is always on exactly one list": what the places hold is what stands on the queues, the reply ports and the timer list.
 use Prim.Native.Nat.{ℕ, zero, suc, _+_, _*_, _/_, _%_, _≤_, _<_}
 use mathlib.Core.Path.{_≡_, refl, sym, ap, ap₂, _∙_}
 use mathlib.Core.List.{List}
@@ -7,8 +7,8 @@ use native.Mathlib.Omega.{arith}
 use native.Mathlib.Nat.{zero-mul, add-mul}
 use lib.Dec.{eqb}
 use lib.ListN.{length, getD, replicate, List·getD-eq-default}
-use Rattle.tally.specs.Count.{bit, count, total}
-use Rattle.segment.specs.Layout.{listCount, readQueue, writeQueue, replyPort}
+use Rattle.occurrences.specs.Count.{bit, count, total}
+use Rattle.segment.specs.Layout.{deskPlaces, freeList, readQueues, writeQueues, replyPorts, listCount, readQueue, writeQueue, replyPort}
 use Rattle.segment.specs.Layout as layout
 use Rattle.rules.specs.Limits.{files, places}
 use Rattle.rules.specs.State.{Req, idle, Acc, Built, File, unbuilt, built}
@@ -16,35 +16,37 @@ use Rattle.rules.specs.Requests.{accAt}
 use Rattle.rules.specs.Desk.{Desk, fileOf}
 use Rattle.rules.specs.Allocation.{Alloc, placeOf, heldAt, ownEntry, timerEntry, queueOf, timerList}
 use Rattle.laws.specs.Runs.{OnFile}
-use Rattle.laws.specs.Outstanding.{waitsRead, waitsWrite, uncollected, outstanding}
+use Rattle.laws.specs.Outstanding.{waitsRead, waitsWrite, uncollected, outstanding, reqOf}
 use Rattle.laws.specs.Counts.{placesOf, countT}
 use Rattle.laws.specs.Entries.{entriesOf, taken, size, accsOf, timersOf, Agrees, Agreed}
 use Rattle.laws.specs.Queues.{Agree}
-use Rattle.memory.specs.Image.{accOf, reqOf, placeAcc, listOf, listsOf}
+use Rattle.memory.specs.Image.{accOf, placeAcc, listOf, listsOf}
 use Rattle.memory.specs.Covers.{Covers, Once}
 use Rattle.memory.proofs.Image.{placeAcc-at, listOf-free, listOf-read, listOf-write, listOf-port, listOf-timers}
 use Rattle.memory.proofs.Sums.{sum, sum-same, sum-plus, sum-none, sum-one, sum-split, sum-rows, total-up, count-map}
-use Rattle.memory.proofs.Held.{req-same, out-most, held-count, port-count, taken-count, sieve-at, map-place}
+use Rattle.memory.proofs.Held.{out-most, held-count, port-count, taken-count, sieve-at, map-place}
 use Rattle.memory.proofs.Boxes.{once-covers}
 
 three : (a b c k : ℕ) → (a + b + c) * k ≡ a * k + b * k + c * k
 three a b c k = add-mul (a + b) c k ∙ ap (λ n. n + c * k) (add-mul a b k)
 
 -- all the lists, kind by kind
-sum-lists : (g : ℕ → ℕ) → sum listCount g ≡ g 0 + sum 8 (λ f. g (1 + f)) + sum 8 (λ f. g (9 + f)) + sum 64 (λ i. g (17 + i)) + g 81
+sum-lists : (g : ℕ → ℕ) → sum listCount g ≡ g freeList + sum files (λ f. g (readQueue f)) + sum files (λ f. g (writeQueue f)) + sum deskPlaces (λ i. g (replyPort i)) + g layout.timerList
 sum-lists g =
-    let e₂ : sum 73 (λ i. g (1 + (8 + i))) ≡ sum 73 (λ i. g (9 + i)) = sum-same 73 _ _ (λ i _. let u : 1 + (8 + i) ≡ 9 + i = omega arith in ap g u) in
-    let e₃ : sum 65 (λ i. g (9 + (8 + i))) ≡ sum 65 (λ i. g (17 + i)) = sum-same 65 _ _ (λ i _. let u : 9 + (8 + i) ≡ 17 + i = omega arith in ap g u) in
+    let ports : ℕ = deskPlaces + 1 in
+    let writes : ℕ = files + ports in
+    let e₂ : sum writes (λ i. g (readQueues + (files + i))) ≡ sum writes (λ i. g (writeQueues + i)) = sum-same writes _ _ (λ i _. let u : readQueues + (files + i) ≡ writeQueues + i = omega arith in ap g u) in
+    let e₃ : sum ports (λ i. g (writeQueues + (files + i))) ≡ sum ports (λ i. g (replyPorts + i)) = sum-same ports _ _ (λ i _. let u : writeQueues + (files + i) ≡ replyPorts + i = omega arith in ap g u) in
     omega (
       arith,
       sum-one g,
-      sum-one (λ i. g (17 + (64 + i))),
-      sum-split 1 81 g,
-      sum-split 8 73 (λ i. g (1 + i)),
+      sum-one (λ i. g (replyPorts + (deskPlaces + i))),
+      sum-split 1 (files + writes) g,
+      sum-split files writes (λ i. g (readQueues + i)),
       e₂,
-      sum-split 8 65 (λ i. g (9 + i)),
+      sum-split files ports (λ i. g (writeQueues + i)),
       e₃,
-      sum-split 64 1 (λ i. g (17 + i)),
+      sum-split deskPlaces 1 (λ i. g (replyPorts + i)),
     )
 
 -- a place stands in the queue as often as its request waits there
@@ -54,12 +56,12 @@ Waits q w b = (p : ℕ) → count p (q b) ≡ w (reqOf (accAt b p))
 agree-reads : (y : File) → OnFile Agree y → OnFile (Waits (λ b. b .rq) waitsRead) y
 unfolding OnFile Waits accAt
 agree-reads unbuilt a = tt
-agree-reads (built b) a = λ p. a p .reads ∙ ap waitsRead (req-same (accAt b p))
+agree-reads (built b) a = λ p. a p .reads
 
 agree-writes : (y : File) → OnFile Agree y → OnFile (Waits (λ b. b .wq) waitsWrite) y
 unfolding OnFile Waits accAt
 agree-writes unbuilt a = tt
-agree-writes (built b) a = λ p. a p .writes ∙ ap waitsWrite (req-same (accAt b p))
+agree-writes (built b) a = λ p. a p .writes
 
 -- the accessor at a place
 pub acc-at : (y : File) (p : ℕ) → getD (accsOf y) p none ≡ accOf y p
@@ -153,10 +155,10 @@ module _ (d : Desk) (s : Alloc) (long : length (s .held) ≡ files * places) (wi
       holds : size (heldAt s (placeOf f p)) ≡ outstanding q + countT (placeOf f p) (s .clock)
       holds =
           agrees f h .holds p k
-          ∙ ap₂ {C = ℕ} (λ a b. a + b) (ap outstanding (req-same o ∙ ap reqOf (acc-at (fileOf d f) p))) (sym times)
+          ∙ ap₂ {C = ℕ} (λ a b. a + b) (ap outstanding (ap reqOf (acc-at (fileOf d f) p))) (sym times)
 
       few : countT (placeOf f p) (s .clock) ≤ outstanding q
-      few = omega (arith, times, agrees f h .timed p, ap outstanding (req-same o ∙ ap reqOf (acc-at (fileOf d f) p)))
+      few = omega (arith, times, agrees f h .timed p, ap outstanding (ap reqOf (acc-at (fileOf d f) p)))
 
   held-at : (i : ℕ) → i < files * places → count x (entriesOf (heldAt s i)) ≡ by waitsRead i + by waitsWrite i + by uncollected i + ticks i
   unfolding by placeAcc placeOf

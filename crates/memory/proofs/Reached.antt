@@ -1,9 +1,9 @@
 -- Every desk that a run reaches is fine, and its allocation agrees with it: memories that show the two stand for them.
-use Prim.Native.Nat.{ℕ, _<_}
+use Prim.Native.Nat.{ℕ}
 use mathlib.Core.List.{List}
-use Rattle.rules.specs.State.{Built, File, unbuilt, built}
-use Rattle.rules.specs.Desk.{Desk, Call, fileOf, freshDesk, after}
-use Rattle.rules.specs.Allocation.{Alloc, freshAlloc, allocAfter}
+use Rattle.rules.specs.State.{File, unbuilt, built}
+use Rattle.rules.specs.Desk.{Call, fileOf, freshDesk, after}
+use Rattle.rules.specs.Allocation.{freshAlloc, allocAfter}
 use Rattle.laws.specs.Runs.{OnFile}
 use Rattle.laws.specs.Room.{Roomy}
 use Rattle.laws.specs.Records.{Records}

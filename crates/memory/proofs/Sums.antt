@@ -7,7 +7,7 @@ use native.Mathlib.Decide.{decLt}
 use native.Mathlib.Nat.{zero-add, add-zero, suc-add, zero-mul, add-mul}
 use lib.Dec.{eqb, eqb·zero-suc, eqb·suc-zero, eqb·suc-suc}
 use borrow.Author.Tests.{eq-eqb}
-use Rattle.tally.specs.Count.{bit, count, total}
+use Rattle.occurrences.specs.Count.{bit, count, total}
 use Rattle.rules.specs.Allocation.{upFrom}
 
 unfoldable pub sum : ℕ → (ℕ → ℕ) → ℕ

@@ -7,11 +7,11 @@ use native.Mathlib.Decide.{ℕ-discrete}
 use borrow.Author.Tests.{ne-eqb}
 use lib.ListN.{length, getD}
 use lib.Seq.{ext-getD}
-use Rattle.tally.specs.Count.{bit, count}
+use Rattle.occurrences.specs.Count.{bit, count}
 use Rattle.segment.specs.Layout.{linkAt}
 use Rattle.segment.specs.Table.{nth, row}
 use Rattle.ports.specs.Lists.{Chain}
-use Rattle.memory.specs.Stands.{Bytes}
+use Rattle.words.specs.Word.{Bytes}
 
 -- one list of entries in both
 

@@ -4,7 +4,7 @@ use mathlib.Core.Path.{_≡_}
 use mathlib.Core.List.{List}
 use lib.Dec.{ltb}
 use Rattle.words.specs.Word.{zeros}
-use Rattle.tally.specs.Count.{bit, count, total}
+use Rattle.occurrences.specs.Count.{bit, count, total}
 use Rattle.segment.specs.Layout.{listCount}
 use Rattle.rules.specs.Limits.{files, places, entries, shareBytes, bufferBytes}
 use Rattle.rules.specs.State.{unbuilt}
@@ -17,7 +17,7 @@ use Rattle.memory.specs.Stands.{shareAt, buffersAt}
 abbrev pub Covers : Desk → Alloc → Type 0
 Covers d s = (e : ℕ) → e < entries → (l : ℕ) × (l < listCount) × (1 ≤ count e (listOf d s l))
 
--- "each ten-word entry is always on exactly one list"
+-- "Each ten-word entry is always on exactly one list"
 abbrev pub Once : Desk → Alloc → Type 0
 Once d s = (x : ℕ) → total x (listsOf d s) ≡ bit (ltb x entries)
 

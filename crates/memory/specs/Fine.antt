@@ -2,7 +2,7 @@
 use mathlib.Core.List.{List}
 use Prim.Native.Nat.{ℕ, _<_}
 use Rattle.rules.specs.Limits.{files}
-use Rattle.rules.specs.State.{Built, File}
+use Rattle.rules.specs.State.{Built}
 use Rattle.rules.specs.Desk.{Desk, fileOf}
 use Rattle.rules.specs.Allocation.{Alloc}
 use Rattle.shares.specs.Groups.{All}

@@ -1,10 +1,10 @@
 -- The bytes of the memories of a fresh desk.
-use Prim.Native.Nat.{ℕ, zero, suc, _+_, _-_, _*_, _/_, _%_}
+use Prim.Native.Nat.{ℕ, zero, suc, _-_, _*_, _/_, _%_}
 use mathlib.Core.Bool.{cond}
 use mathlib.Core.List.{List, [], _++_}
 use lib.Dec.{ltb, eqb}
 use Rattle.words.specs.Word.{word, zeros}
-use Rattle.segment.specs.Layout.{listCount, nil, linkAt, rowAt, segmentWords}
+use Rattle.segment.specs.Layout.{readQueues, listCount, nil, entryWidth, fileRows, segmentWords}
 use Rattle.rules.specs.Limits.{files, places, entries, shareBytes, bufferBytes}
 
 -- the bytes of the n words w 0, w 1, ..
@@ -19,9 +19,9 @@ freshLink e = cond (ltb (suc e) entries) (suc e) nil
 -- word k: "the free list in order of entry number", the other lists empty, all else zero
 unfoldable pub freshWord : ℕ → ℕ
 freshWord k =
-    cond (ltb k 1) 0
+    cond (ltb k readQueues) 0
     (cond (ltb k listCount) nil
-    (cond (ltb k (rowAt 0)) (cond (eqb ((k - linkAt 0) % 10) 0) (freshLink ((k - linkAt 0) / 10)) 0)
+    (cond (ltb k fileRows) (cond (eqb ((k - listCount) % entryWidth) 0) (freshLink ((k - listCount) / entryWidth)) 0)
     0))
 
 unfoldable pub freshSegment : List ℕ

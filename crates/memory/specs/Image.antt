@@ -5,21 +5,19 @@ use mathlib.Core.List.{List, [], _∷_, map}
 use mathlib.Core.Option.{Option, none, some}
 use lib.Dec.{ltb}
 use lib.ListN.{length, replicate}
-use Rattle.tally.specs.Count.{bit}
-use Rattle.segment.specs.Layout.{listCount, dataWords, rowCount, rowWords}
+use Rattle.occurrences.specs.Count.{bit}
+use Rattle.segment.specs.Layout.{readQueues, writeQueues, replyPorts, listCount, dataWords, fileWidth, placeWidth, rowCount}
+use Rattle.segment.specs.Layout as layout
 use Rattle.rules.specs.Limits.{files, places}
 use Rattle.rules.specs.State.{Req, idle, reading, writing, readDone, writeDone, Acc, Timer, File, unbuilt, built}
 use Rattle.rules.specs.Requests.{accAt}
 use Rattle.rules.specs.Desk.{Desk, fileOf}
 use Rattle.rules.specs.Allocation.{Alloc, upFrom, placeOf, queueOf, portOf, timerList}
+use Rattle.laws.specs.Outstanding.{reqOf}
 
 unfoldable pub accOf : File → ℕ → Option Acc
 accOf unbuilt p = none
 accOf (built b) p = accAt b p
-
-unfoldable pub reqOf : Option Acc → Req
-reqOf none = idle
-reqOf (some a) = a .req
 
 -- the place i of the desk
 unfoldable pub placeAcc : Desk → ℕ → Option Acc
@@ -40,12 +38,12 @@ timerWords t = t .place ∷ 0 ∷ 0 ∷ 0 ∷ 0 ∷ 0 ∷ 0 ∷ t .left ∷ 0 �
 -- rows
 
 unfoldable pub fileWords : File → List ℕ
-fileWords unbuilt = replicate rowWords 0
+fileWords unbuilt = replicate fileWidth 0
 fileWords (built b) = b .geo .words ∷ b .geo .factor ∷ b .geo .blocks ∷ b .store .block ∷ b .store .spent ∷ length (b .store .recs) ∷ 0 ∷ 0 ∷ []
 
 unfoldable pub placeWords : Option Acc → List ℕ
-placeWords none = replicate rowWords 0
-placeWords (some a) = (1 + bit (a .writer)) ∷ a .ident ∷ a .share ∷ a .timeout ∷ bit (a .extended) ∷ bit (a .typed) ∷ bit (a .keep) ∷ bit (a .first) ∷ []
+placeWords none = replicate placeWidth 0
+placeWords (some a) = (1 + bit (a .writer)) ∷ a .ident ∷ a .sharing ∷ a .timeout ∷ bit (a .extended) ∷ bit (a .typed) ∷ bit (a .keep) ∷ bit (a .first) ∷ []
 
 unfoldable pub rowOf : Desk → ℕ → List ℕ
 rowOf d i = cond (ltb i files) (fileWords (fileOf d i)) (placeWords (placeAcc d (i - files)))
@@ -63,7 +61,9 @@ wqOf (built b) = b .wq
 -- of five things the one for list l: for the free list, a file's read queue, its write queue, a place's reply port, the timer list
 unfoldable pub atList : {A : Type 0} → A → (ℕ → A) → (ℕ → A) → (ℕ → A) → A → ℕ → A
 atList free reads writes port timers l =
-    cond (ltb l 1) free (cond (ltb l 9) (reads (l - 1)) (cond (ltb l 17) (writes (l - 9)) (cond (ltb l 81) (port (l - 17)) timers)))
+    cond (ltb l readQueues) free
+    (cond (ltb l writeQueues) (reads (l - readQueues))
+    (cond (ltb l replyPorts) (writes (l - writeQueues)) (cond (ltb l layout.timerList) (port (l - replyPorts)) timers)))
 
 -- the entries of list l
 unfoldable pub listOf : Desk → Alloc → ℕ → List ℕ

@@ -2,8 +2,8 @@
 use Prim.Native.Nat.{ℕ, _*_, _<_}
 use mathlib.Core.Path.{_≡_}
 use mathlib.Core.List.{List, map}
-use lib.ListN.{length, getD, take, drop}
-use Rattle.segment.specs.Layout.{listCount, rowCount, rowWords, rowAt, segmentBytes}
+use lib.ListN.{length, take, drop}
+use Rattle.segment.specs.Layout.{listCount, rowCount, rowAt, rowWidth, segmentBytes}
 use Rattle.segment.specs.Table.{row, dataOf}
 use Rattle.ports.specs.Lists.{Chain}
 use Rattle.rules.specs.Limits.{files, places, shareBytes, bufferBytes}
@@ -12,10 +12,7 @@ use Rattle.rules.specs.Desk.{Desk, fileOf}
 use Rattle.rules.specs.Memories.{fileBuffers}
 use Rattle.rules.specs.Allocation.{Alloc}
 use Rattle.memory.specs.Image.{listOf, boxOf, rowOf}
-
--- each element is a byte
-unfoldable pub Bytes : List ℕ → Type 0
-Bytes xs = (i : ℕ) → getD xs i 0 < 256
+use Rattle.words.specs.Word.{Bytes}
 
 -- the segment: each list leads through its entries, these hold what they should, and each row is as it should be
 pub record Segment (xs : List ℕ) (d : Desk) (s : Alloc) : Type 0 where
@@ -23,7 +20,7 @@ pub record Segment (xs : List ℕ) (d : Desk) (s : Alloc) : Type 0 where
   pub size : length xs ≡ segmentBytes
   pub chains : (l : ℕ) → l < listCount → Chain xs l (listOf d s l)
   pub boxes : (l : ℕ) → l < listCount → map (dataOf xs) (listOf d s l) ≡ boxOf d s l
-  pub rows : (i : ℕ) → i < rowCount → row xs (rowAt i) rowWords ≡ rowOf d i
+  pub rows : (i : ℕ) → i < rowCount → row xs (rowAt i) (rowWidth i) ≡ rowOf d i
 
 -- file f's share of the blocks, and its eight record buffers
 unfoldable pub shareAt : ℕ → List ℕ → List ℕ

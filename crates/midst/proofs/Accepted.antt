@@ -11,14 +11,14 @@ use Rattle.kinds.specs.declared.Control.the-variants.{Timeout, Verify, Abort, E
 use Rattle.rules.specs.Limits.{files}
 use Rattle.rules.specs.State.{Built, File, unbuilt, built}
 use Rattle.rules.specs.Reply.{leaves, unmade}
-use Rattle.rules.specs.Controls.{setTimeout, setExtended, setTyped, setKeep, unchanged}
-use Rattle.rules.specs.Look as looking
+use Rattle.rules.specs.Controls.{setTimeout, setExtended, setTyped, setKeep}
+use Rattle.rules.specs.Counts.{counts}
 use Rattle.rules.specs.Calls.{Ask, askBuilt, askUnbuilt, ask}
 use Rattle.rules.specs.Calls as calls
 use Rattle.rules.specs.Desk.{Desk, on, fileOf, Responded, answered}
 use Rattle.rules.proofs.Split.{both}
 use Rattle.midst.specs.Outcome.{refusalOf}
-use Rattle.midst.specs.Accepted.{ReadKnown, WriteKnown, CollectKnown, CloseKnown, SetKnown, SwitchKnown, ReaderKnown, AbortKnown, ControlKnown, OpenKnown, BuildKnown, Known, KnownNew, Accepted, AcceptedNew}
+use Rattle.midst.specs.Accepted.{ReadKnown, WriteKnown, CollectKnown, CloseKnown, SetKnown, VerifyKnown, SwitchKnown, ReaderKnown, AbortKnown, ControlKnown, OpenKnown, BuildKnown, Known, KnownNew, Accepted, AcceptedNew}
 use Rattle.midst.proofs.Judged.{refusal-back, passed, judged, judged-new}
 
 -- the file is one of the eight, and it is the file that does not refuse
@@ -80,7 +80,7 @@ pub accepted-write : (d : Desk) (f p n : ℕ) (t : List ℕ) → refusalOf (answ
 unfolding Known KnownNew
 accepted-write d f p n t e = on-built d f (calls.write p n t) (λ k. k) e
 
--- by the control it is SetKnown, SwitchKnown, ReaderKnown or AbortKnown, and of no control nothing
+-- by the control it is SetKnown, VerifyKnown, SwitchKnown, ReaderKnown or AbortKnown, and of no control nothing
 pub accepted-control : (d : Desk) (f p : ℕ) (c : Option Control) → refusalOf (answered d (on f (calls.control p c)) .reply) ≡ 0 → Accepted (ControlKnown p c) d f (calls.control p c)
 unfolding Known KnownNew
 accepted-control d f p c e = on-built d f (calls.control p c) (λ k. k) e
@@ -91,7 +91,7 @@ unfolding ControlKnown
 accepted-timeout d f p v e = accepted-control d f p (some (Timeout v)) e
 
 pub accepted-verify : (d : Desk) (f p v : ℕ) → refusalOf (answered d (on f (calls.control p (some (Verify v)))) .reply) ≡ 0
-    → Accepted (SetKnown p unchanged) d f (calls.control p (some (Verify v)))
+    → Accepted (VerifyKnown p) d f (calls.control p (some (Verify v)))
 unfolding ControlKnown
 accepted-verify d f p v e = accepted-control d f p (some (Verify v)) e
 
@@ -128,6 +128,6 @@ pub accepted-close : (d : Desk) (f p : ℕ) → refusalOf (answered d (on f (cal
 unfolding Known KnownNew
 accepted-close d f p e = on-built d f (calls.close p) (λ k. k) e
 
-pub accepted-counts : (d : Desk) (f : ℕ) → refusalOf (answered d (on f calls.counts) .reply) ≡ 0 → Accepted (λ b o. o ≡ looking.counts b) d f calls.counts
+pub accepted-counts : (d : Desk) (f : ℕ) → refusalOf (answered d (on f calls.counts) .reply) ≡ 0 → Accepted (λ b o. o ≡ counts b) d f calls.counts
 unfolding Known KnownNew
 accepted-counts d f e = on-built d f calls.counts (λ k. k) e

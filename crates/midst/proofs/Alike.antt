@@ -5,12 +5,13 @@ use mathlib.Core.Path.{_≡_, refl, sym, ap, _∙_}
 use mathlib.Core.List.{List, [], _∷_, map}
 use lib.ListN.{length, set}
 use lib.Seq.{getD-set-same, getD-set-other}
-use Rattle.segment.specs.Layout.{listCount}
+use Rattle.segment.specs.Layout.{readQueues, writeQueues, replyPorts, listCount}
 use Rattle.ports.proofs.Maps.{map-all}
 use Rattle.rules.specs.State.{File, unbuilt, built}
 use Rattle.rules.specs.Desk.{Desk, fileOf}
 use Rattle.rules.specs.Allocation.{Alloc, upFrom, placeOf, heldAt, ownEntry, queueOf, portOf}
-use Rattle.memory.specs.Image.{accOf, reqOf, placeAcc, reqWords, rqOf, wqOf, atList, listOf, queueWords, portWords, boxOf, listsOf, boxesOf}
+use Rattle.memory.specs.Image.{accOf, placeAcc, reqWords, rqOf, wqOf, atList, listOf, queueWords, portWords, boxOf, listsOf, boxesOf}
+use Rattle.laws.specs.Outstanding.{reqOf}
 
 pub record Alike (x y : File) : Type 0 where
   pub reads : rqOf x ≡ rqOf y
@@ -49,7 +50,7 @@ queue-writes f (built b) s = refl
 at-same : {A : Type 0} (free : A) (r r′ w w′ p p′ : ℕ → A) (timers : A) → ((i : ℕ) → r i ≡ r′ i) → ((i : ℕ) → w i ≡ w′ i) → ((i : ℕ) → p i ≡ p′ i) → (l : ℕ)
     → atList free r w p timers l ≡ atList free r′ w′ p′ timers l
 unfolding atList
-at-same free r r′ w w′ p p′ timers a b c l = rw (a (l - 1), b (l - 9), c (l - 17))
+at-same free r r′ w w′ p p′ timers a b c l = rw (a (l - readQueues), b (l - writeQueues), c (l - replyPorts))
 
 module _ (d : Desk) (f : ℕ) (x y : File) (E : Alike x y) where
   abbrev dx : Desk

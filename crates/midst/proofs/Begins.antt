@@ -6,7 +6,8 @@ use native.Mathlib.Omega.{arith}
 use native.Mathlib.Decide.{ℕ-discrete}
 use lib.ListN.{length, getD, set}
 use lib.Seq.{set-getD, getD-set-same, getD-set-other}
-use Rattle.segment.specs.Layout.{rowCount, rowWords, rowAt, fileRow, placeRow, segmentBytes}
+use Rattle.segment.specs.Layout.{rowCount, fileRow, placeRow, segmentBytes, fileWidth, placeWidth, fileRowAt, placeRowAt}
+use Rattle.segment.proofs.Apart.{row-file, words-place}
 use Rattle.segment.specs.Table.{row, fill}
 use Rattle.segment.specs.Fields.{placeWords, fileRowOf, placeRowOf, fileAt, placeAt}
 use Rattle.ports.proofs.Contents.{fill-boxes}
@@ -25,8 +26,10 @@ use Rattle.laws.specs.Midst as laws
 use Rattle.laws.proofs.Happenings.{matches-now}
 use Rattle.memory.specs.Image.{accOf, placeAcc, fileWords, rowOf, rqOf, wqOf, listsOf, boxesOf, rowsOf}
 use Rattle.memory.specs.Image as image
-use Rattle.memory.specs.Stands.{Bytes, Segment, FileBytes, Bodies, Stands, shareAt, buffersAt}
+use Rattle.memory.specs.Stands.{Segment, FileBytes, Bodies, Stands, shareAt, buffersAt}
+use Rattle.words.specs.Word.{Bytes}
 use Rattle.memory.specs.Fine.{Fine, StandsFor}
+use Rattle.memory.proofs.Segments.{segment-file}
 use Rattle.memory.proofs.Image.{rowOf-file, rowOf-place, rowOf-acc, each-row}
 use Rattle.memory.proofs.Boxes.{segment-boxes, boxes-segment, getD-listsOf, getD-boxesOf, getD-rowsOf}
 use Rattle.memory.proofs.Once.{agreed-once}
@@ -36,6 +39,7 @@ use Rattle.midst.specs.File.{fileOfRow, fileRowWords, inHand}
 use Rattle.midst.specs.Seg.{Seg}
 use Rattle.midst.specs.Mid.{Start, Mid}
 use Rattle.midst.proofs.Alike.{Alike, files-same, file-set, file-other, lists-alike, boxes-alike}
+use Rattle.midst.proofs.Rows.{place-below}
 
 -- it begins
 
@@ -58,7 +62,7 @@ unfolding allotAll Fed
 begin-mid f s b e M = record { matches = rw e M; fed = rw e tt }
 
 -- the row of a file, read back
-file-row : (xs : List ℕ) (f : ℕ) (b : Built) → row xs (rowAt (fileRow f)) rowWords ≡ fileWords (built b) → fileOfRow (fileAt xs f) ≡ inHand b
+file-row : (xs : List ℕ) (f : ℕ) (b : Built) → row xs (fileRowAt f) fileWidth ≡ fileWords (built b) → fileOfRow (fileAt xs f) ≡ inHand b
 unfolding fileAt fileRowOf fileWords
 file-row xs f b e = ap (λ r. fileOfRow (fileRowOf r)) e
 
@@ -84,7 +88,7 @@ module _ {xs blocks buffers : List ℕ} {d : Desk} {s : Alloc} (S : StandsFor xs
         good = own;
         allots = begin-mid f s b calm M;
         segment = begin-seg xs d _ s f (b .past) (file-here d f (built b) e) calm (stands-seg f);
-        row = file-row xs f b (S .stands .segment .rows (fileRow f) (omega arith) ∙ rowOf-file d f h ∙ ap fileWords e);
+        row = file-row xs f b (segment-file (S .stands .segment) f h ∙ ap fileWords e);
         share = bytes .0;
         buffer = bytes .1;
         blocks-size = S .stands .bodies .blocks-size;
@@ -92,40 +96,11 @@ module _ {xs blocks buffers : List ℕ} {d : Desk} {s : Alloc} (S : StandsFor xs
         apart = record { shares = λ g k n. refl; others = λ g k n. refl };
       }
 
--- with more, or less, known of the file
-pub mid-as : {I J : Built → Type 0} {f : ℕ} {o : Start} {xs blocks buffers : List ℕ} {x : hand.File} {b : Built} → Mid I f o xs blocks buffers x b → J b
-    → Mid J f o xs blocks buffers x b
-mid-as M h = record {
-  file = M .file;
-  eight = M .eight;
-  good = h;
-  allots = M .allots;
-  segment = M .segment;
-  row = M .row;
-  share = M .share;
-  buffer = M .buffer;
-  blocks-size = M .blocks-size;
-  buffers-size = M .buffers-size;
-  apart = M .apart;
-}
-
 -- what stands at a place
 
-row-words : (xs : List ℕ) (i : ℕ) → placeWords (placeAt xs i) ≡ row xs (rowAt (placeRow i)) rowWords
+row-words : (xs : List ℕ) (i : ℕ) → placeWords (placeAt xs i) ≡ row xs (placeRowAt i) placeWidth
 unfolding placeWords placeAt placeRowOf row
 row-words xs i = refl
-
-place-below : (f p : ℕ) → f < files → p < places → placeRow (placeOf f p) < rowCount
-unfolding placeOf
-place-below f p h k = omega arith
-
-pub segment-open : {xs : List ℕ} {d : Desk} {s : Alloc} → Segment xs d s → (f p : ℕ) → f < files → p < places
-    → placeWords (placeAt xs (placeOf f p)) ≡ image.placeWords (accOf (fileOf d f) p)
-segment-open {xs} {d} {s} S f p h k = row-words xs (placeOf f p) ∙ S .rows (placeRow (placeOf f p)) (place-below f p h k) ∙ rowOf-acc d f p k
-
-pub stands-open : {xs blocks buffers : List ℕ} {d : Desk} {s : Alloc} → StandsFor xs blocks buffers d s → (f p : ℕ) → f < files → p < places
-    → placeWords (placeAt xs (placeOf f p)) ≡ image.placeWords (accOf (fileOf d f) p)
-stands-open S f p h k = segment-open (S .stands .segment) f p h k
 
 module _ {I : Built → Type 0} {f : ℕ} {o : Start} {xs blocks buffers : List ℕ} {x : hand.File} {b : Built} (M : Mid I f o xs blocks buffers x b) where
   pub mid-lengths : length xs ≡ segmentBytes
@@ -134,10 +109,10 @@ module _ {I : Built → Type 0} {f : ℕ} {o : Start} {xs blocks buffers : List 
   pub mid-file : fileOf (set (o .desk) f (built b)) f ≡ built b
   mid-file = file-set (o .desk) f (built b) (omega (arith, M .file, M .eight))
 
-  pub mid-row : (p : ℕ) → p < places → row xs (rowAt (placeRow (placeOf f p))) rowWords ≡ image.placeWords (accAt b p)
+  pub mid-row : (p : ℕ) → p < places → row xs (placeRowAt (placeOf f p)) placeWidth ≡ image.placeWords (accAt b p)
   unfolding accOf
   mid-row p k =
-      M .segment .boxes .rows (placeRow (placeOf f p)) (place-below f p (M .file) k)
+      sym (words-place xs (placeOf f p)) ∙ M .segment .boxes .rows (placeRow (placeOf f p)) (place-below f p (M .file) k)
       ∙ M .segment .same (placeRow (placeOf f p)) (place-below f p (M .file) k) (λ e. unfold placeOf in omega (arith, e, M .file))
       ∙ rowOf-acc (set (o .desk) f (built b)) f p k ∙ ap (λ z. image.placeWords (accOf z p)) mid-file
 
@@ -179,11 +154,11 @@ rows-same d f x y e =
 
 -- the row of file f is written, the file being y in place of x, which has the same queues and accessors
 pub seg-end : (xs : List ℕ) (d : Desk) (f : ℕ) (x y : File) (t : Alloc) (words : List ℕ) → f < files → length d ≡ files → Alike x y → ((p : ℕ) → accOf x p ≡ accOf y p)
-    → Seg xs (set d f x) t (fileRow f) → length words ≡ rowWords → words ≡ fileWords y → Bytes (fill xs (rowAt (fileRow f)) words)
-    → Segment (fill xs (rowAt (fileRow f)) words) (set d f y) t
+    → Seg xs (set d f x) t (fileRow f) → length words ≡ fileWidth → words ≡ fileWords y → Bytes (fill xs (fileRowAt f) words)
+    → Segment (fill xs (fileRowAt f) words) (set d f y) t
 seg-end xs d f x y t words hf eight E accs S n e bytes =
-    boxes-segment (set d f y) t (fill xs (rowAt (fileRow f)) words) [] (listsOf (set d f x) t) (boxesOf (set d f x) t) (set (S .rows) f words) bytes
-    (fill-boxes (S .boxes) (fileRow f) words (omega (arith, hf)) n)
+    boxes-segment (set d f y) t (fill xs (fileRowAt f) words) [] (listsOf (set d f x) t) (boxesOf (set d f x) t) (set (S .rows) f words) bytes
+    (rw (row-file f hf .0) at (fill-boxes (S .boxes) (fileRow f) words (omega (arith, hf)) (n ∙ sym (row-file f hf .1))))
     (λ l h. ap (λ ls. getD ls l []) (lists-alike d f _ _ E t) ∙ getD-listsOf (set d f y) t l h)
     (λ l h. ap (λ ms. getD ms l []) (boxes-alike d f _ _ E t) ∙ getD-boxesOf (set d f y) t l h)
     (λ i h. go i h (ℕ-discrete i f))
@@ -195,14 +170,14 @@ seg-end xs d f x y t words hf eight E accs S n e bytes =
     go i h (no u) = getD-set-other (S .rows) f i words [] u ∙ S .same i h u ∙ rows-same d f x y accs i h u
 
 module _ {I : Built → Type 0} {f : ℕ} {o : Start} {xs blocks buffers : List ℕ} {x : hand.File} {b : Built} (M : Mid I f o xs blocks buffers x b) where
-  end-segment : Bytes (fill xs (rowAt (fileRow f)) (fileRowWords x))
-      → Segment (fill xs (rowAt (fileRow f)) (fileRowWords x)) (set (o .desk) f (built (hushed b))) (allotAll f (b .past) (o .alloc))
+  end-segment : Bytes (fill xs (fileRowAt f) (fileRowWords x))
+      → Segment (fill xs (fileRowAt f) (fileRowWords x)) (set (o .desk) f (built (hushed b))) (allotAll f (b .past) (o .alloc))
   end-segment bytes =
       seg-end xs (o .desk) f (built b) (built (hushed b)) (allotAll f (b .past) (o .alloc)) (fileRowWords x) (M .file) (M .eight) (hushed-alike b) (hushed-acc b) (M .segment)
       (unfold fileRowWords in refl) (hand-words x b (M .row)) bytes
 
-  pub mid-end : Bodies (o .blocks) (o .buffers) (o .desk) → Bytes (fill xs (rowAt (fileRow f)) (fileRowWords x)) → Bytes blocks → Bytes buffers
-      → Stands (fill xs (rowAt (fileRow f)) (fileRowWords x)) blocks buffers (set (o .desk) f (built (hushed b))) (allotAll f (b .past) (o .alloc))
+  pub mid-end : Bodies (o .blocks) (o .buffers) (o .desk) → Bytes (fill xs (fileRowAt f) (fileRowWords x)) → Bytes blocks → Bytes buffers
+      → Stands (fill xs (fileRowAt f) (fileRowWords x)) blocks buffers (set (o .desk) f (built (hushed b))) (allotAll f (b .past) (o .alloc))
   mid-end B bytes blocks-bytes buffers-bytes = record {
     segment = end-segment bytes;
     bodies = bodies-file (o .desk) (o .blocks) (o .buffers) blocks buffers f (built (hushed b)) B (omega (arith, M .file, M .eight)) blocks-bytes buffers-bytes

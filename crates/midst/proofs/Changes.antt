@@ -23,7 +23,7 @@ use Rattle.laws.proofs.Happenings.{open-below}
 use Rattle.laws.proofs.Bounds.{length-buffer}
 use Rattle.buffers.specs.Buffer.{filled}
 use Rattle.buffers.proofs.Filled.{length-filled}
-use Rattle.blocks.specs.Ring.{ringOf}
+use Rattle.ring.specs.Ring.{ringOf}
 use Rattle.memory.specs.Stands.{buffersAt}
 use Rattle.memory.specs.Fine.{Fine, StandsFor}
 use Rattle.midst.specs.declared.File as hand
@@ -69,7 +69,7 @@ unfolding cancel leave say withTimers requeue alterAcc withAccs withQueues
 asks-cancel p b = record { geo = refl; store = refl; accs = refl }
 
 pub asks-freed : (p : ℕ) (b : Built) → Asks p idle b (freed p b)
-unfolding freed say requeue alterAcc withAccs withQueues
+unfolding freed say alterAcc withAccs
 asks-freed p b = record { geo = refl; store = refl; accs = refl }
 
 -- the record buffer of place p of file f, whose request was r and is q now: written, or left as it is where that is the same

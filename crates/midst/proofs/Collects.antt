@@ -5,7 +5,7 @@ use mathlib.Core.Bool.{Bool, true, false}
 use mathlib.Core.List.{List, [], _∷_, map}
 use native.Mathlib.Omega.{arith}
 use lib.ListN.{set, replicate}
-use Rattle.tally.proofs.Counts.{count-head}
+use Rattle.occurrences.proofs.Counts.{count-head}
 use Rattle.rules.specs.Limits.{entries}
 use Rattle.rules.specs.State.{idle, Acc, Built, built}
 use Rattle.rules.specs.Requests.{alter, withReq, without}

@@ -3,13 +3,13 @@
 use Prim.Native.Nat.{ℕ, _+_, _≤_, _<_}
 use mathlib.Core.Path.{_≡_, refl, sym, ap, ap₂, _∙_}
 use mathlib.Core.Bool.{Bool, cond}
-use mathlib.Core.List.{List, [], _∷_, map}
+use mathlib.Core.List.{List, [], _∷_, _++_, map}
 use native.Mathlib.Omega.{arith}
-use borrow.Author.Tests.{eqb-true, eqb-false}
+use borrow.Author.Tests.{eqb-true, eqb-false, eq-eqb}
 use lib.Dec.{eqb}
-use lib.ListN.{length, getD}
-use Rattle.tally.specs.Count.{bit, count}
-use Rattle.tally.proofs.Counts.{bit-eq}
+use lib.ListN.{length, getD, take}
+use Rattle.occurrences.specs.Count.{bit, count}
+use Rattle.occurrences.proofs.Counts.{bit-eq}
 use Rattle.rules.specs.State.{Timer}
 use Rattle.rules.specs.Requests.{without, withoutTimer}
 use Rattle.rules.proofs.Split.{by-cases}
@@ -97,6 +97,14 @@ module _ (p : ℕ) where
 
   pub place-at : (l : List ℕ) → count p l ≡ 1 → getD l (index (λ x. eqb x p) l) 0 ≡ p
   place-at l e = eqb-true _ p (index-at is 0 l (place-in l e))
+
+  -- those before p
+  pub place-before : {B : Type 0} (F : ℕ → B) (ys zs : List ℕ) → count p ys ≡ 0 → take (index (λ x. eqb x p) (ys ++ p ∷ zs)) (map F (ys ++ p ∷ zs)) ≡ map F ys
+  unfolding index count
+  place-before F [] zs e = rw (eq-eqb p p refl) refl
+  place-before F (y ∷ ys) zs e = by-cases (eqb y p)
+      (λ k. let z : 1 + count p ys ≡ 0 = rw k at e in absurd (omega arith))
+      (λ k. let z : 0 + count p ys ≡ 0 = rw k at e in rw k (ap (_∷_ (F y)) (place-before F ys zs (omega arith))))
 
   -- what stands in the list without p is another
   module _ {B : Type 0} (F G : ℕ → B) (same : (x : ℕ) → (x ≡ p → ⊥) → F x ≡ G x) where

@@ -1,5 +1,5 @@
 -- The record buffers of a file: one of them written, for a request that is another now.
-use Prim.Native.Nat.{ℕ, suc, _+_, _-_, _*_, _≤_, _<_}
+use Prim.Native.Nat.{ℕ, suc, _+_, _*_, _≤_, _<_}
 use mathlib.Core.Path.{_≡_, refl, sym, ap, ap₂, _∙_}
 use mathlib.Core.List.{List, [], _∷_, _++_}
 use mathlib.Core.Logic.{_⊎_, inl, inr}
@@ -18,7 +18,7 @@ use Rattle.rules.specs.Allocation.{placeOf}
 use Rattle.laws.proofs.Accessors.{length-alter, getD-alter-same, getD-alter-other, alter-beside}
 use Rattle.buffers.specs.Buffer.{filled}
 use Rattle.buffers.proofs.Filled.{length-filled, buffer-some}
-use Rattle.memory.specs.Image.{reqOf}
+use Rattle.laws.specs.Outstanding.{reqOf}
 use Rattle.memory.specs.Stands.{buffersAt, bufferAt}
 use Rattle.memory.proofs.Parts.{part, part-sets-other}
 use Rattle.memory.proofs.Frames.{bufferAt-sets, bufferAt-sets-other, buffersAt-are, bufferAt-is}
@@ -69,8 +69,8 @@ module _ (f p : ℕ) (ys : List ℕ) (l : List (Option Acc)) (a : Acc) (q : Req)
   unfolding placeOf withReq
   here =
       let i : ℕ = 8 * f + p in
-      let z : 260 * i ≡ 260 * i + 0 = omega arith in
-      let w : length (bufferAt i ys) ≡ 260 = unfold bufferAt in length-take-le 260 (drop (260 * i) ys) (rw (length-drop (260 * i) ys) (omega arith)) in
+      let z : bufferBytes * i ≡ bufferBytes * i + 0 = omega arith in
+      let w : length (bufferAt i ys) ≡ bufferBytes = unfold bufferAt in length-take-le bufferBytes (drop (bufferBytes * i) ys) (rw (length-drop (bufferBytes * i) ys) (omega arith)) in
       ap (λ k. bufferAt i (sets ys k (filled (lies q)))) z
       ∙ bufferAt-sets i 0 (filled (lies q)) ys (omega (arith, length-filled (lies q) fits))
       ∙ sets-whole (bufferAt i ys) (filled (lies q)) (length-filled (lies q) fits ∙ sym w)
@@ -80,7 +80,7 @@ module _ (f p : ℕ) (ys : List ℕ) (l : List (Option Acc)) (a : Acc) (q : Req)
   unfolding placeOf
   there y k n =
       let i : ℕ = 8 * f + p in
-      let z : 260 * i ≡ 260 * i + 0 = omega arith in
+      let z : bufferBytes * i ≡ bufferBytes * i + 0 = omega arith in
       ap (λ k. bufferAt (8 * f + y) (sets ys k (filled (lies q)))) z
       ∙ bufferAt-sets-other i 0 (filled (lies q)) ys (omega (arith, length-filled (lies q) fits)) (8 * f + y) (λ u. n (omega arith))
       ∙ bufferAt-is f ys l eight long own y k

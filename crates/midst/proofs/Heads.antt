@@ -1,31 +1,29 @@
 -- The first of a file's queue, as the segment has it in the midst of a call.
-use Prim.Native.Nat.{ℕ, suc, _+_, _≤_, _<_}
-use mathlib.Core.Path.{_≡_, refl, sym, ap, _∙_}
-use mathlib.Core.Bool.{Bool, true, false}
+use Prim.Native.Nat.{ℕ, _≤_, _<_}
+use mathlib.Core.Path.{_≡_, refl, ap, _∙_}
+use mathlib.Core.Bool.{Bool}
 use mathlib.Core.List.{List, [], _∷_}
 use mathlib.Core.Option.{Option, none, some}
 use native.Mathlib.Omega.{arith}
-use lib.Dec.{eqb}
 use lib.ListN.{length, getD, set}
-use Rattle.tally.specs.Count.{bit, count}
-use Rattle.tally.proofs.Counts.{count-head}
-use Rattle.rules.specs.Limits.{entries, files}
+use Rattle.occurrences.specs.Count.{count}
+use Rattle.occurrences.proofs.Counts.{count-head}
+use Rattle.rules.specs.Limits.{entries}
 use Rattle.rules.specs.State.{Req, idle, reading, writing, readDone, writeDone, Acc, Built, built}
 use Rattle.rules.specs.Requests.{accAt}
 use Rattle.rules.specs.Desk.{Desk}
 use Rattle.rules.specs.Allocation.{Alloc, placeOf, allotAll}
-use Rattle.laws.specs.Outstanding.{reqAt, waitsRead, waitsWrite}
+use Rattle.laws.specs.Outstanding.{reqAt, waitsRead, waitsWrite, reqOf}
 use Rattle.laws.specs.Outstanding as laws
 use Rattle.laws.specs.Queues.{Agree}
-use Rattle.segment.specs.Layout.{listCount, nil}
+use Rattle.segment.specs.Layout.{listCount}
 use Rattle.segment.specs.Table.{nth, dataOf}
-use Rattle.ports.specs.Lists.{Boxes}
 use Rattle.ports.proofs.Boxes.{slot-box, data-box}
 use Rattle.ports.proofs.Moves.{none-boxes}
-use Rattle.memory.specs.Image.{reqOf, reqWords, listsOf, boxesOf}
+use Rattle.memory.specs.Image.{reqWords, listsOf, boxesOf}
 use Rattle.memory.proofs.Boxes.{getD-listsOf, getD-boxesOf}
 use Rattle.midst.specs.declared.File as hand
-use Rattle.midst.specs.Seg.{Seg, queueAt, sideQueue}
+use Rattle.midst.specs.Seg.{queueAt, sideQueue}
 use Rattle.midst.specs.Mid.{Start, Mid}
 use Rattle.midst.proofs.Begins.{mid-file}
 use Rattle.midst.proofs.Lists.{below-side, list-side, box-side, entriesIn, wordsIn}

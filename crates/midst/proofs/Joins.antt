@@ -9,7 +9,7 @@ use lib.Dec.{ltb}
 use lib.ListN.{length, getD, set, drop, replicate}
 use lib.Seq.{getD-set-other}
 use borrow.Author.Tests.{lt-ltb, le-ltb}
-use Rattle.tally.specs.Count.{count}
+use Rattle.occurrences.specs.Count.{count}
 use Rattle.segment.specs.Layout.{listCount, dataWords, freeList, timerList, fileRow}
 use Rattle.segment.specs.Table.{nth}
 use Rattle.ports.specs.Slots.{over, taken}
@@ -27,9 +27,9 @@ use Rattle.rules.specs.Desk.{Desk}
 use Rattle.rules.specs.Allocation.{own, timed, Alloc, placeOf, heldAt, front, holds, withClock, takeOwn, takeTimer, ownEntry, timerEntry}
 use Rattle.rules.specs.Allocation as rules
 use Rattle.laws.specs.Counts.{countT}
-use Rattle.laws.specs.Outstanding.{uncollected}
+use Rattle.laws.specs.Outstanding.{uncollected, reqOf}
 use Rattle.laws.proofs.Clock.{armIn-past, armIn-here}
-use Rattle.memory.specs.Image.{reqOf, reqWords, timerWords, fileWords, placeWords, listOf, boxOf, listsOf, boxesOf}
+use Rattle.memory.specs.Image.{reqWords, timerWords, fileWords, placeWords, listOf, boxOf, listsOf, boxesOf}
 use Rattle.memory.proofs.Image.{listOf-free, listOf-timers, boxOf-free, boxOf-timers}
 use Rattle.memory.proofs.Boxes.{getD-listsOf, getD-boxesOf}
 use Rattle.midst.specs.Seg.{Seg, queueAt, sideQueue}

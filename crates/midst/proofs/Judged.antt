@@ -11,13 +11,13 @@ use borrow.Author.Tests.{ltb-true, ltb-false, leb-true, leb-false, eqb-false, le
 use Rattle.kinds.specs.declared.Answer.the-variants.{Controlled}
 use Rattle.kinds.specs.declared.Control.{Control}
 use Rattle.kinds.specs.declared.Control.the-variants.{Timeout, Verify, Abort, Extended, Typed, Keep}
-use Rattle.rules.specs.Limits.{places, mostMode, leastRefusal}
+use Rattle.rules.specs.Limits.{places, mostMode}
 use Rattle.rules.specs.Geometry.{dataBlocks, inRange, fitsShare}
-use Rattle.rules.specs.State.{Req, idle, reading, writing, readDone, writeDone, Acc, Built, built}
+use Rattle.rules.specs.State.{Req, idle, reading, writing, readDone, writeDone, Acc, Built}
 use Rattle.rules.specs.Count.{countBytes, readable}
 use Rattle.rules.specs.Requests.{countAcc, opened, accAt, alterAcc, isIdle}
-use Rattle.rules.specs.Reply.{Reply, Out, leaves, done, status, unmade}
-use Rattle.rules.specs.Open.{shareOf, otherShare, crowded, purged, openReader, openWriter, roomToOpen, open′, build}
+use Rattle.rules.specs.Reply.{Reply, Out, leaves, answering, status, unmade}
+use Rattle.rules.specs.Open.{sharingOf, otherShare, crowded, purged, openReader, openWriter, roomToOpen, openFile, build}
 use Rattle.rules.specs.Transfer.{read, write, collect}
 use Rattle.rules.specs.Controls.{setExtended, setTyped, setKeep, switched, ofReader, abort, whileIdle, control}
 use Rattle.rules.specs.Close.{close}
@@ -26,17 +26,11 @@ use Rattle.rules.specs.Look.{oldest, lookFile, lookReq, look}
 use Rattle.rules.specs.Calls.{Ask, refusal, onAcc, askBuilt, askUnbuilt}
 use Rattle.rules.specs.Calls as calls
 use Rattle.rules.proofs.Split.{both, opt, and-true}
+use Rattle.laws.specs.Bounds.{leastRefusal}
 use Rattle.laws.specs.Outstanding.{waitsRead, waitsWrite, awaits, uncollected, outstanding}
 use Rattle.midst.specs.Outcome.{statusOf, replyStatus, refusalOf}
 use Rattle.midst.specs.Accepted.{ReadKnown, WriteKnown, CollectKnown, CloseKnown, AbortKnown, ControlKnown, OpenKnown, BuildKnown, Known, KnownNew, Verdict, refuses, accepts}
-
-is-idle : (q : Req) → isIdle q ≡ true → q ≡ idle
-unfolding isIdle
-is-idle idle e = refl
-is-idle (reading w l k) e = absurd (true≢false (sym e))
-is-idle (writing w d) e = absurd (true≢false (sym e))
-is-idle (readDone s l d) e = absurd (true≢false (sym e))
-is-idle (writeDone s l) e = absurd (true≢false (sym e))
+use Rattle.laws.proofs.Calls.{is-idle}
 
 -- a request that is outstanding is not idle
 busy : {q : Req} → q ≡ idle → outstanding q ≡ 1 → ⊥
@@ -80,7 +74,7 @@ module _ (b : Built) where
   judged-acc q p K f h = opt (Verdict q Left K) (accAt b p) (λ _. refuses 32 (omega arith) refl) h
 
   judged-read : (p n : ℕ) (a : Acc) → accAt b p ≡ some a → Verdict (calls.read p n) Left (ReadKnown p n b) (read p a n b)
-  unfolding read status done refusal
+  unfolding read status answering refusal
   judged-read p n a e =
       both (Verdict (calls.read p n) Left (ReadKnown p n b)) (isIdle (a .req))
       (λ i. both (Verdict (calls.read p n) Left (ReadKnown p n b)) (a .writer)
@@ -91,7 +85,7 @@ module _ (b : Built) where
       (λ _. refuses 33 (omega arith) refl)
 
   judged-write : (p n : ℕ) (d : List ℕ) (a : Acc) → accAt b p ≡ some a → Verdict (calls.write p n d) Left (WriteKnown p n d b) (write p a n d b)
-  unfolding write status done refusal
+  unfolding write status answering refusal
   judged-write p n d a e =
       both (Verdict (calls.write p n d) Left (WriteKnown p n d b)) (isIdle (a .req))
       (λ i. both (Verdict (calls.write p n d) Left (WriteKnown p n d b)) (a .writer)
@@ -102,7 +96,7 @@ module _ (b : Built) where
       (λ _. refuses 33 (omega arith) refl)
 
   judged-collect : (p : ℕ) (a : Acc) (q : Req) → accAt b p ≡ some a → a .req ≡ q → Verdict (calls.collect p) Left (CollectKnown p b) (collect p q b)
-  unfolding collect status done refusal waitsRead waitsWrite uncollected
+  unfolding collect status answering refusal waitsRead waitsWrite uncollected
   judged-collect p a idle e r = refuses 39 (omega arith) refl
   judged-collect p a (reading w l k) e r = accepts (record { a = a; at = e; outstands = λ i. busy i (ap outstanding r); out = sym (ap (λ (q : Req). collect p q b) r) })
   judged-collect p a (writing w d) e r = accepts (record { a = a; at = e; outstands = λ i. busy i (ap outstanding r); out = sym (ap (λ (q : Req). collect p q b) r) })
@@ -111,7 +105,7 @@ module _ (b : Built) where
 
   -- a request by its kind
   judged-close : (p : ℕ) (a : Acc) (q : Req) → accAt b p ≡ some a → a .req ≡ q → Verdict (calls.close p) Left (CloseKnown p b) (close p a q b)
-  unfolding close status done refusal waitsRead waitsWrite uncollected
+  unfolding close status answering refusal waitsRead waitsWrite uncollected
   judged-close p a idle e r =
       accepts (record { a = a; at = e; collected = ap uncollected r; idles = λ _. refl; waits = λ h. absurd (omega (arith, h, ap awaits r)); out = sym (ap (λ (q : Req). close p a q b) r) })
   judged-close p a (reading w l k) e r =
@@ -122,7 +116,7 @@ module _ (b : Built) where
   judged-close p a (writeDone st l) e r = refuses 33 (omega arith) refl
 
   judged-abort : (p : ℕ) (c : Option Control) (a : Acc) (q : Req) → accAt b p ≡ some a → a .req ≡ q → Verdict (calls.control p c) Left (AbortKnown p b) (abort p q b)
-  unfolding abort status done refusal waitsRead waitsWrite uncollected
+  unfolding abort status answering refusal waitsRead waitsWrite uncollected
   judged-abort p c a idle e r = refuses 39 (omega arith) refl
   judged-abort p c a (reading w l k) e r =
       accepts (record { a = a; at = e; outstands = λ i. busy i (ap outstanding r); waits = λ _. refl; completed = λ h. absurd (omega (arith, h, ap uncollected r)); out = sym (ap (λ (q : Req). abort p q b) r) })
@@ -135,15 +129,15 @@ module _ (b : Built) where
 
   -- the tests of the controls
   judged-idle : (p : ℕ) (c : Option Control) (K : Out → Type 0) (a : Acc) (o : Out) → (a .req ≡ idle → Verdict (calls.control p c) Left K o) → Verdict (calls.control p c) Left K (whileIdle a b o)
-  unfolding whileIdle status done refusal
+  unfolding whileIdle status answering refusal
   judged-idle p c K a o h = both (Verdict (calls.control p c) Left K) (isIdle (a .req)) (λ i. h (is-idle (a .req) i)) (λ _. refuses 33 (omega arith) refl)
 
   judged-reader : (p : ℕ) (c : Option Control) (K : Out → Type 0) (a : Acc) (o : Out) → (a .writer ≡ false → Verdict (calls.control p c) Left K o) → Verdict (calls.control p c) Left K (ofReader a b o)
-  unfolding ofReader status done refusal
+  unfolding ofReader status answering refusal
   judged-reader p c K a o h = both (Verdict (calls.control p c) Left K) (a .writer) (λ _. refuses 34 (omega arith) refl) h
 
-  judged-switch : (p v : ℕ) (c : Option Control) (f : Bool → Acc → Acc) (K : Out → Type 0) → (v ≤ 1 → K (done Controlled (alterAcc p (f (eqb v 1)) b))) → Verdict (calls.control p c) Left K (switched p v f b)
-  unfolding switched status done refusal
+  judged-switch : (p v : ℕ) (c : Option Control) (f : Bool → Acc → Acc) (K : Out → Type 0) → (v ≤ 1 → K (answering Controlled (alterAcc p (f (eqb v 1)) b))) → Verdict (calls.control p c) Left K (switched p v f b)
+  unfolding switched status answering refusal
   judged-switch p v c f K h = both (Verdict (calls.control p c) Left K) (leb v 1) (λ t. accepts (h (leb-true v 1 t))) (λ _. refuses 35 (omega arith) refl)
 
   judged-control : (p : ℕ) (c : Option Control) (a : Acc) → accAt b p ≡ some a → Verdict (calls.control p c) Left (ControlKnown p c b) (control p a c b)
@@ -156,24 +150,24 @@ module _ (b : Built) where
       judged-idle p _ _ a _ (λ i. judged-reader p _ _ a _ (λ w. judged-switch p v _ setTyped _ (λ l. record { a = a; at = e; idles = i; side = w; low = l; out = refl })))
   judged-control p (some (Keep v)) a e =
       judged-idle p _ _ a _ (λ i. judged-reader p _ _ a _ (λ w. judged-switch p v _ setKeep _ (λ l. record { a = a; at = e; idles = i; side = w; low = l; out = refl })))
-  judged-control p none a e = judged-idle p _ _ a _ (λ i. unfold status done refusal in refuses 35 (omega arith) refl)
+  judged-control p none a e = judged-idle p _ _ a _ (λ i. unfold status answering refusal in refuses 35 (omega arith) refl)
 
   -- what the tests of an open come to
   opens-known : (access share multi : ℕ) {o : Out} → leb access mostMode && leb share mostMode && leb multi mostMode ≡ true
-      → eqb multi 3 || ltb 0 (countAcc (otherShare (shareOf share)) (b .accs)) || crowded (ltb 0 access) (shareOf share) b ≡ false → leb places (opened b) ≡ false
-      → (access ≡ 0 → o ≡ openReader (shareOf share) b) → (1 ≤ access → roomToOpen access b ≡ true) → (1 ≤ access → o ≡ openWriter (shareOf share) (purged access b))
+      → eqb multi 3 || ltb 0 (countAcc (otherShare (sharingOf share)) (b .accs)) || crowded (ltb 0 access) (sharingOf share) b ≡ false → leb places (opened b) ≡ false
+      → (access ≡ 0 → o ≡ openReader (sharingOf share) b) → (1 ≤ access → roomToOpen access b ≡ true) → (1 ≤ access → o ≡ openWriter (sharingOf share) (purged access b))
       → OpenKnown access share multi b o
   opens-known access share multi m k l rd rm wr =
       let u = and-true (leb access mostMode && leb share mostMode) (leb multi mostMode) m in
       let v = and-true (leb access mostMode) (leb share mostMode) (u .0) in
-      let x = neither (eqb multi 3 || ltb 0 (countAcc (otherShare (shareOf share)) (b .accs))) (crowded (ltb 0 access) (shareOf share) b) k in
-      let y = neither (eqb multi 3) (ltb 0 (countAcc (otherShare (shareOf share)) (b .accs))) (x .0) in
+      let x = neither (eqb multi 3 || ltb 0 (countAcc (otherShare (sharingOf share)) (b .accs))) (crowded (ltb 0 access) (sharingOf share) b) k in
+      let y = neither (eqb multi 3) (ltb 0 (countAcc (otherShare (sharingOf share)) (b .accs))) (x .0) in
       record {
         access-low = leb-true access mostMode (v .0);
         share-low = leb-true share mostMode (v .1);
         multi-low = leb-true multi mostMode (u .1);
         not-three = eqb-false multi 3 (y .0);
-        same = omega (arith, ltb-false 0 (countAcc (otherShare (shareOf share)) (b .accs)) (y .1));
+        same = omega (arith, ltb-false 0 (countAcc (otherShare (sharingOf share)) (b .accs)) (y .1));
         apart = x .1;
         place = leb-false places (opened b) l;
         reader = rd;
@@ -181,12 +175,12 @@ module _ (b : Built) where
         writer = wr;
       }
 
-  judged-open : (access share multi : ℕ) → Verdict (calls.opens access share multi) Left (OpenKnown access share multi b) (open′ access share multi b)
-  unfolding open′ status done refusal
+  judged-open : (access share multi : ℕ) → Verdict (calls.opens access share multi) Left (OpenKnown access share multi b) (openFile access share multi b)
+  unfolding openFile status answering refusal
   judged-open access share multi =
       let G : Out → Type 0 = Verdict (calls.opens access share multi) Left (OpenKnown access share multi b) in
       both G (leb access mostMode && leb share mostMode && leb multi mostMode)
-      (λ m. both G (eqb multi 3 || ltb 0 (countAcc (otherShare (shareOf share)) (b .accs)) || crowded (ltb 0 access) (shareOf share) b)
+      (λ m. both G (eqb multi 3 || ltb 0 (countAcc (otherShare (sharingOf share)) (b .accs)) || crowded (ltb 0 access) (sharingOf share) b)
       (λ _. refuses 40 (omega arith) refl)
       (λ k. both G (leb places (opened b)) (λ _. refuses 41 (omega arith) refl)
       (λ l. both G (ltb 0 access)
@@ -217,11 +211,9 @@ module _ (b : Built) where
   judged-req p (readDone st l d) = both (Verdict (calls.look p) Left (λ o. refusalOf (o .reply) ≡ 0)) (eqb st 0) (λ _. accepts refl) (λ _. judged-file p)
   judged-req p (writeDone st l) = judged-file p
 
-  judged-look : (p : ℕ) → Verdict (calls.look p) Left (λ o. refusalOf (o .reply) ≡ 0) (look p b)
+  judged-look : (p : ℕ) (a : Acc) → Verdict (calls.look p) Left (λ o. refusalOf (o .reply) ≡ 0) (look a b)
   unfolding look refusal
-  judged-look p =
-      opt (Verdict (calls.look p) Left (λ o. refusalOf (o .reply) ≡ 0)) (accAt b p) (λ _. refuses 32 (omega arith) refl)
-      (λ a _. both (Verdict (calls.look p) Left (λ o. refusalOf (o .reply) ≡ 0)) (a .writer) (λ _. refuses 34 (omega arith) refl) (λ _. judged-req p (a .req)))
+  judged-look p a = both (Verdict (calls.look p) Left (λ o. refusalOf (o .reply) ≡ 0)) (a .writer) (λ _. refuses 34 (omega arith) refl) (λ _. judged-req p (a .req))
 
   -- every call of a built file
   pub judged : (q : Ask) → Verdict q Left (Known q b) (askBuilt b q)
@@ -236,7 +228,7 @@ module _ (b : Built) where
   judged calls.counts = accepts refl
   judged (calls.load t) = refuses 31 (omega arith) refl
   judged (calls.save n) = judged-save n
-  judged (calls.look p) = judged-look p
+  judged (calls.look p) = judged-acc _ p _ _ (λ a _. judged-look p a)
 
 -- the calls of a file that is not built
 

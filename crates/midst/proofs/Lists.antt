@@ -7,10 +7,10 @@ use mathlib.Core.List.{List, [], map}
 use mathlib.Core.Option.{Option}
 use native.Mathlib.Omega.{arith}
 use native.Mathlib.Decide.{ℕ-discrete}
-use lib.ListN.{length, getD, set, replicate}
+use lib.ListN.{length, getD, set}
 use lib.Seq.{getD-set-same, getD-set-other, ext-getD}
-use Rattle.tally.specs.Count.{count}
-use Rattle.segment.specs.Layout.{listCount, rowCount, dataWords, freeList, readQueue, writeQueue, replyPort, timerList, fileRow, placeRow}
+use Rattle.occurrences.specs.Count.{count}
+use Rattle.segment.specs.Layout.{listCount, rowCount, freeList, readQueue, writeQueue, replyPort, timerList, fileRow, placeRow}
 use Rattle.ports.specs.Lists.{Boxes}
 use Rattle.ports.proofs.Maps.{map-in}
 use Rattle.rules.specs.Limits.{files, places}
@@ -20,10 +20,10 @@ use Rattle.rules.specs.Desk.{Desk, fileOf}
 use Rattle.rules.specs.Allocation.{Alloc, placeOf, heldAt, ownEntry, timerEntry, queueOf, portOf}
 use Rattle.rules.specs.Allocation as rules
 use Rattle.laws.specs.Counts.{placesOf, countT}
-use Rattle.laws.specs.Outstanding.{uncollected}
+use Rattle.laws.specs.Outstanding.{uncollected, reqOf}
 use Rattle.laws.proofs.Counts.{at-or-else}
-use Rattle.memory.specs.Image.{accOf, reqOf, placeAcc, reqWords, timerWords, fileWords, placeWords, rowOf, rqOf, wqOf, listOf, queueWords, portWords, boxOf, listsOf, boxesOf}
-use Rattle.memory.proofs.Image.{placeAcc-of, rowOf-file, rowOf-place, each-row, listOf-free, listOf-read, listOf-write, listOf-port, listOf-timers, boxOf-free, boxOf-read, boxOf-write, boxOf-port, boxOf-timers, each-list}
+use Rattle.memory.specs.Image.{accOf, placeAcc, reqWords, timerWords, fileWords, placeWords, rowOf, rqOf, wqOf, listOf, queueWords, portWords, boxOf, listsOf, boxesOf}
+use Rattle.memory.proofs.Image.{placeAcc-of, rowOf-file, rowOf-place, each-row, listOf-read, listOf-write, listOf-port, listOf-timers, boxOf-read, boxOf-write, boxOf-port, boxOf-timers, each-list}
 use Rattle.memory.proofs.Boxes.{length-up, getD-listsOf, getD-boxesOf}
 use Rattle.memory.proofs.Held.{map-place}
 use Rattle.midst.specs.Seg.{Seg, queueAt, sideQueue}
@@ -240,10 +240,6 @@ module _ {f p : ℕ} {d : Desk} {t u : Alloc} {b c : Built} (C : Change f p d t 
         map-in (λ x. reqWords (placeOf f x) (reqOf (accAt c x))) (λ x. reqWords (placeOf f x) (reqOf (accAt b x))) l
         (λ x k. ap (reqWords (placeOf f x)) (others x (λ v. omega (arith, ap (λ (y : ℕ). count y l) v)) .1))
 
-  pub same-free : u .free ≡ t .free → Kept freeList
-  same-free e =
-      (listOf-free then u ∙ e ∙ sym (listOf-free d t), boxOf-free then u ∙ ap (map (λ _. replicate dataWords 0)) e ∙ sym (boxOf-free d t))
-
   -- the place's reply port, before and behind
 
   pub list-port-was : listOf d t (replyPort (placeOf f p)) ≡ portOf (reqOf (accAt b p)) (placeOf f p) t
@@ -333,13 +329,3 @@ module _ {f p : ℕ} {d : Desk} {t u : Alloc} {b c : Built} (C : Change f p d t 
       go (no _) (yes e) =
           rw e (rowOf-place then (placeOf f p) ∙ ap placeWords place-here ∙ y (λ z. n (e ∙ z)) ∙ sym (rowOf-place d (placeOf f p) ∙ ap placeWords place-was))
       go (no m) (no o) = same-row i h m o
-
--- a change of the file beside its requests: its lists stay
-pub seg-file : {xs : List ℕ} {f p : ℕ} {d : Desk} {t : Alloc} {b c : Built} (k : ℕ) → Change f p d t t b c → ((w : Bool) → sideQueue w c ≡ sideQueue w b)
-    → reqOf (accAt c p) ≡ reqOf (accAt b p) → ((fileRow f ≡ k → ⊥) → fileWords (built c) ≡ fileWords (built b))
-    → ((placeRow (placeOf f p) ≡ k → ⊥) → placeWords (accAt c p) ≡ placeWords (accAt b p)) → Seg xs d t k → Seg xs (set d f (built c)) t k
-seg-file {xs} {f} {p} {d} {t} {b} {c} k C q r x y S =
-    seg-again S (set d f (built c)) t (S .boxes)
-    (λ l h. at-rest C l h true (λ _. same-free C refl) (λ _. keep-queue C refl r true (q true)) (λ _. keep-queue C refl r false (q false)) (λ _. keep-port C refl r)
-    (λ _. (listOf-timers (set d f (built c)) t ∙ sym (listOf-timers d t), boxOf-timers (set d f (built c)) t ∙ sym (boxOf-timers d t))))
-    (same-rows C k x y)

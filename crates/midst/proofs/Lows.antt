@@ -1,11 +1,11 @@
 -- The members of a file's queues are places: so it is where queues and requests agree.
-use Prim.Native.Nat.{ℕ, _+_, _≤_, _<_}
+use Prim.Native.Nat.{ℕ, _<_}
 use mathlib.Core.Path.{_≡_, ap, _∙_}
 use mathlib.Core.Option.{none}
 use native.Mathlib.Omega.{arith}
 use native.Mathlib.Decide.{decLt}
 use lib.ListN.{length, List·getD-eq-default}
-use Rattle.tally.specs.Count.{count}
+use Rattle.occurrences.specs.Count.{count}
 use Rattle.rules.specs.Limits.{files, places}
 use Rattle.rules.specs.State.{idle, Built, File, unbuilt, built}
 use Rattle.rules.specs.Desk.{Desk, fileOf}

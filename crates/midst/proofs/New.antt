@@ -8,12 +8,12 @@ use native.Mathlib.Omega.{arith}
 use native.Mathlib.Decide.{decLt}
 use lib.ListN.{length, getD, set, replicate}
 use lib.Seq.{sets, length-sets}
-use Rattle.words.specs.Word.{zeros, part}
+use Rattle.words.specs.Word.{zeros, part, Bytes}
 use Rattle.words.proofs.Runs.{length-zeros}
 use Rattle.words.proofs.Parts.{part-own, part-other}
-use Rattle.segment.specs.Layout.{rowAt, fileRow}
+use Rattle.segment.specs.Layout.{fileRow, fileRowAt}
 use Rattle.segment.specs.Table.{fill}
-use Rattle.rules.specs.Limits.{files, places, shareBytes, bufferBytes}
+use Rattle.rules.specs.Limits.{files, places, shareBytes}
 use Rattle.rules.specs.State.{Acc, Geo, Store, File, unbuilt, built}
 use Rattle.rules.specs.Requests.{accAt}
 use Rattle.rules.specs.Reply.{Out, hushed}
@@ -21,18 +21,15 @@ use Rattle.rules.specs.Memories.{buffer, fileBuffers}
 use Rattle.rules.specs.Open.{newFile}
 use Rattle.rules.specs.Desk.{Desk, fileOf}
 use Rattle.rules.specs.Allocation.{Alloc, allotAll}
-use Rattle.memory.specs.Image.{accOf, reqOf, fileWords, rqOf, wqOf}
-use Rattle.memory.specs.Stands.{Bytes, Segment, shareAt, buffersAt, FileBytes}
+use Rattle.memory.specs.Image.{accOf, fileWords, rqOf, wqOf}
+use Rattle.laws.specs.Outstanding.{reqOf}
+use Rattle.memory.specs.Stands.{Segment, shareAt, buffersAt, FileBytes}
 use Rattle.memory.specs.Fine.{StandsFor}
-use Rattle.memory.proofs.Frames.{bodies-file}
+use Rattle.memory.proofs.Frames.{bodies-file, fileBytes}
 use Rattle.midst.specs.Seg.{Seg}
 use Rattle.midst.specs.Outcome.{Outcome}
 use Rattle.midst.proofs.Alike.{Alike}
 use Rattle.midst.proofs.Begins.{file-here, stands-seg, seg-end}
-
--- the bytes of a file's eight buffers
-abbrev fileBytes : ℕ
-fileBytes = places * bufferBytes
 
 -- a file with no accessor has none of all that an unbuilt file has none of
 
@@ -66,7 +63,7 @@ module _ (ys zs : List ℕ) (k m i : ℕ) (n : length ys ≡ k * m) (h : i < m) 
       go (no w) = inr (omega arith)
 
 module _ {xs blocks buffers : List ℕ} {d : Desk} {s : Alloc} (S : StandsFor xs blocks buffers d s) (f : ℕ) (hf : f < files) (u : fileOf d f ≡ unbuilt) (g : Geo) (t : Store) (long : length (t .share) ≡ shareBytes)
-    (xs′ blocks′ buffers′ : List ℕ) (wrote : xs′ ≡ fill xs (rowAt (fileRow f)) (fileWords (built (newFile g t)))) (laid : blocks′ ≡ sets blocks (shareBytes * f) (t .share))
+    (xs′ blocks′ buffers′ : List ℕ) (wrote : xs′ ≡ fill xs (fileRowAt f) (fileWords (built (newFile g t)))) (laid : blocks′ ≡ sets blocks (shareBytes * f) (t .share))
     (blank : buffers′ ≡ sets buffers (fileBytes * f) (zeros fileBytes)) (xs-bytes : Bytes xs′) (blocks-bytes : Bytes blocks′) (buffers-bytes : Bytes buffers′) where
   abbrev new : File
   new = built (hushed (newFile g t))

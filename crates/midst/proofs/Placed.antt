@@ -7,13 +7,13 @@ use mathlib.Core.Option.{none, some}
 use native.Mathlib.Omega.{arith}
 use lib.Dec.{eqb}
 use lib.ListN.{length, getD}
-use Rattle.tally.specs.Count.{count}
+use Rattle.occurrences.specs.Count.{count}
 use Rattle.rules.specs.Limits.{files, places}
 use Rattle.rules.specs.State.{Req, Acc, Built, built}
 use Rattle.rules.specs.Requests.{accAt, alter, withReq, without}
 use Rattle.rules.specs.Desk.{Desk, fileOf}
 use Rattle.rules.specs.Allocation.{Alloc, placeOf, heldAt, ownEntry, portOf}
-use Rattle.laws.specs.Outstanding.{outstanding}
+use Rattle.laws.specs.Outstanding.{outstanding, reqOf}
 use Rattle.laws.specs.Outstanding as laws
 use Rattle.laws.specs.Counts.{countT}
 use Rattle.laws.specs.Entries.{size, Agrees}
@@ -23,10 +23,9 @@ use Rattle.laws.proofs.Happenings.{open-below}
 use Rattle.laws.proofs.Sieve.{countT-sieve}
 use Rattle.segment.specs.Layout.{replyPort}
 use Rattle.ports.specs.Index.{cut, index}
-use Rattle.memory.specs.Image.{reqOf, accOf, placeAcc, reqWords, placeWords, listOf, portWords, boxOf}
+use Rattle.memory.specs.Image.{accOf, placeAcc, reqWords, placeWords, listOf, portWords, boxOf}
 use Rattle.memory.proofs.Image.{placeAcc-of, listOf-port, boxOf-port}
 use Rattle.memory.proofs.Boxes.{getD-listsOf, getD-boxesOf}
-use Rattle.memory.proofs.Held.{req-same}
 use Rattle.midst.specs.Seg.{Seg, queueAt, sideQueue}
 use Rattle.midst.proofs.Lists.{entriesIn, wordsIn, list-side, box-side, place-under}
 use Rattle.midst.proofs.Cuts.{map-removed, map-absent}
@@ -70,8 +69,8 @@ module _ {f p : ℕ} {d : Desk} {b : Built} {a : Acc} {t : Alloc} (P : Placed f 
 
   pub count-side : (w : Bool) (x : ℕ) → count x (sideQueue w b) ≡ waitsAt w (reqOf (accAt b x))
   unfolding accAt
-  count-side true x = P .queues x .writes ∙ ap (waitsAt true) (req-same (getD (b .accs) x none))
-  count-side false x = P .queues x .reads ∙ ap (waitsAt false) (req-same (getD (b .accs) x none))
+  count-side true x = P .queues x .writes
+  count-side false x = P .queues x .reads
 
   pub count-here : (w : Bool) → count p (sideQueue w b) ≡ waitsAt w (a .req)
   unfolding reqOf

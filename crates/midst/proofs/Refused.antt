@@ -12,15 +12,15 @@ use lib.Seq.{set-getD}
 use borrow.Author.Tests.{ltb-true, lt-ltb, eq-eqb}
 use Rattle.kinds.specs.declared.Control.{Control}
 use Rattle.kinds.specs.declared.Control.the-variants.{Timeout, Verify, Abort, Extended, Typed, Keep}
-use Rattle.rules.specs.Limits.{files, leastRefusal}
+use Rattle.rules.specs.Limits.{files}
 use Rattle.rules.specs.State.{Req, idle, reading, writing, readDone, writeDone, Acc, Hap, Built, File, unbuilt, built}
 use Rattle.rules.specs.Store.{fetch}
 use Rattle.rules.specs.Requests.{writers, readers, fits, accAt}
-use Rattle.rules.specs.Reply.{Out, hushed, leaves, done, status, unmade}
+use Rattle.rules.specs.Reply.{Out, hushed, leaves, answering, status, unmade}
 use Rattle.rules.specs.Open.{openReader, openWriter}
 use Rattle.rules.specs.Transfer.{mayWait, readOn, isNil, writeOn, collected, collect}
 use Rattle.rules.specs.Controls.{abort}
-use Rattle.rules.specs.Look as looking
+use Rattle.rules.specs.Counts.{counts}
 use Rattle.rules.specs.Calls.{Ask, refusal, ask, askBuilt, askUnbuilt}
 use Rattle.rules.specs.Calls as calls
 use Rattle.rules.specs.Desk.{Desk, on, fileOf, Responded, answered, happens}
@@ -29,7 +29,7 @@ use Rattle.rules.proofs.Split.{by-cases, both, opt, pick-true, pick-false}
 use Rattle.laws.specs.Runs.{OnFile}
 use Rattle.laws.specs.Outstanding.{reqOf, reqAt, waitsRead, waitsWrite, awaits, uncollected}
 use Rattle.laws.specs.Entries.{Calm}
-use Rattle.laws.specs.Bounds.{Bounded}
+use Rattle.laws.specs.Bounds.{leastRefusal, Bounded}
 use Rattle.laws.proofs.Files.{on-file}
 use Rattle.memory.specs.Fine.{Fine, StandsFor}
 use Rattle.midst.specs.Outcome.{statusOf, replyStatus, refusalOf}
@@ -58,20 +58,20 @@ unfoldable Passes : Out → Type 0
 Passes o = refusalOf (o .reply) ≡ 0
 
 passes-read : (p : ℕ) (a : Acc) (n : ℕ) (b : Built) → Passes (readOn p a n b)
-unfolding readOn Passes status done leaves refusalOf replyStatus statusOf
+unfolding readOn Passes status answering leaves refusalOf replyStatus statusOf
 passes-read p a n b =
     opt Passes (fetch (b .geo) (a .typed) (a .keep) (b .store) .got) (λ _. both Passes (mayWait (writers b) a) (λ _. refl) (λ _. refl)) (λ r _. refl)
 
 passes-write : (p : ℕ) (a : Acc) (n : ℕ) (d : List ℕ) (b : Built) → Passes (writeOn p a n d b)
-unfolding writeOn Passes status done leaves refusalOf replyStatus statusOf
+unfolding writeOn Passes status answering leaves refusalOf replyStatus statusOf
 passes-write p a n d b = both Passes (fits b && isNil (b .wq)) (λ _. refl) (λ _. both Passes (mayWait (readers b) a) (λ _. refl) (λ _. refl))
 
 passes-collected : (st l : ℕ) (d : List ℕ) (p : ℕ) (b : Built) → st < leastRefusal → Passes (collected st l d p b)
-unfolding collected Passes status done leaves refusalOf replyStatus statusOf
+unfolding collected Passes status answering leaves refusalOf replyStatus statusOf
 passes-collected st l d p b h = both Passes (eqb st 0) (λ _. refl) (λ _. rw (lt-ltb st leastRefusal h))
 
 passes-collect : (p : ℕ) (q : Req) (b : Built) → endOf q < leastRefusal → (q ≡ idle → ⊥) → Passes (collect p q b)
-unfolding collect Passes status done leaves refusalOf replyStatus statusOf endOf
+unfolding collect Passes status answering leaves refusalOf replyStatus statusOf endOf
 passes-collect p idle b h n = absurd (n refl)
 passes-collect p (reading w l k) b h n = refl
 passes-collect p (writing w d) b h n = refl
@@ -79,7 +79,7 @@ passes-collect p (readDone st l d) b h n = passes-collected st l d p b h
 passes-collect p (writeDone st l) b h n = passes-collected st l [] p b h
 
 passes-abort : (p : ℕ) (q : Req) (b : Built) → (q ≡ idle → ⊥) → Passes (abort p q b)
-unfolding abort Passes status done leaves refusalOf replyStatus statusOf
+unfolding abort Passes status answering leaves refusalOf replyStatus statusOf
 passes-abort p idle b n = absurd (n refl)
 passes-abort p (reading w l k) b n = refl
 passes-abort p (writing w d) b n = refl
@@ -91,23 +91,23 @@ to {o} {r} e h = rw e h
 
 known-control : (p : ℕ) (c : Option Control) (b : Built) (o : Out) → ControlKnown p c b o → Passes o
 unfolding ControlKnown
-known-control p (some (Timeout v)) b o k = to (k .out) (unfold Passes done leaves refusalOf replyStatus statusOf in refl)
-known-control p (some (Verify v)) b o k = to (k .out) (unfold Passes done leaves refusalOf replyStatus statusOf in refl)
+known-control p (some (Timeout v)) b o k = to (k .out) (unfold Passes answering leaves refusalOf replyStatus statusOf in refl)
+known-control p (some (Verify v)) b o k = to (k .out) (unfold Passes answering leaves refusalOf replyStatus statusOf in refl)
 known-control p (some (Abort v)) b o k = to (k .out) (passes-abort p _ b (k .outstands))
-known-control p (some (Extended v)) b o k = to (k .out) (unfold Passes done leaves refusalOf replyStatus statusOf in refl)
-known-control p (some (Typed v)) b o k = to (k .out) (unfold Passes done leaves refusalOf replyStatus statusOf in refl)
-known-control p (some (Keep v)) b o k = to (k .out) (unfold Passes done leaves refusalOf replyStatus statusOf in refl)
+known-control p (some (Extended v)) b o k = to (k .out) (unfold Passes answering leaves refusalOf replyStatus statusOf in refl)
+known-control p (some (Typed v)) b o k = to (k .out) (unfold Passes answering leaves refusalOf replyStatus statusOf in refl)
+known-control p (some (Keep v)) b o k = to (k .out) (unfold Passes answering leaves refusalOf replyStatus statusOf in refl)
 known-control p none b o k = absurd k
 
 known-open : (access share multi : ℕ) (b : Built) (o : Out) → OpenKnown access share multi b o → Passes o
-known-open zero share multi b o k = to (k .reader refl) (unfold Passes openReader done leaves refusalOf replyStatus statusOf in refl)
-known-open (suc n) share multi b o k = to (k .writer (omega arith)) (unfold Passes openWriter done leaves refusalOf replyStatus statusOf in refl)
+known-open zero share multi b o k = to (k .reader refl) (unfold Passes openReader answering leaves refusalOf replyStatus statusOf in refl)
+known-open (suc n) share multi b o k = to (k .writer (omega arith)) (unfold Passes openWriter answering leaves refusalOf replyStatus statusOf in refl)
 
 known-close : (p : ℕ) (b : Built) (o : Out) (q : Req) (k : CloseKnown p b o) → k .a .req ≡ q → Passes o
 unfolding waitsRead waitsWrite uncollected
-known-close p b o idle k r = to (k .idles r) (unfold Passes done leaves refusalOf replyStatus statusOf in refl)
-known-close p b o (reading w l g) k r = to (k .waits (ap awaits r)) (unfold Passes done leaves refusalOf replyStatus statusOf in refl)
-known-close p b o (writing w d) k r = to (k .waits (ap awaits r)) (unfold Passes done leaves refusalOf replyStatus statusOf in refl)
+known-close p b o idle k r = to (k .idles r) (unfold Passes answering leaves refusalOf replyStatus statusOf in refl)
+known-close p b o (reading w l g) k r = to (k .waits (ap awaits r)) (unfold Passes answering leaves refusalOf replyStatus statusOf in refl)
+known-close p b o (writing w d) k r = to (k .waits (ap awaits r)) (unfold Passes answering leaves refusalOf replyStatus statusOf in refl)
 known-close p b o (readDone st l d) k r = absurd (omega (arith, k .collected, ap uncollected r))
 known-close p b o (writeDone st l) k r = absurd (omega (arith, k .collected, ap uncollected r))
 
@@ -120,14 +120,14 @@ known-passes (calls.write p n d) b o z k = to (k .out) (passes-write p _ n d b)
 known-passes (calls.control p c) b o z k = known-control p c b o k
 known-passes (calls.collect p) b o z k = to (k .out) (passes-collect p _ b (unfold reqOf accAt in rw (k .at) at (z p)) (k .outstands))
 known-passes (calls.close p) b o z k = known-close p b o _ k refl
-known-passes calls.counts b o z k = to k (unfold Passes looking.counts done leaves refusalOf replyStatus statusOf in refl)
+known-passes calls.counts b o z k = to k (unfold Passes counts answering leaves refusalOf replyStatus statusOf in refl)
 known-passes (calls.load t) b o z k = absurd k
 known-passes (calls.save n) b o z k = unfold Passes in k
 known-passes (calls.look p) b o z k = unfold Passes in k
 
 new-passes : (q : Ask) (o : Out) → KnownNew q o → Passes o
 unfolding KnownNew
-new-passes (calls.build r f n x) o k = to (k .out) (unfold Passes done leaves refusalOf replyStatus statusOf in refl)
+new-passes (calls.build r f n x) o k = to (k .out) (unfold Passes answering leaves refusalOf replyStatus statusOf in refl)
 new-passes (calls.opens access share multi) o k = absurd k
 new-passes (calls.read p n) o k = absurd k
 new-passes (calls.write p n d) o k = absurd k

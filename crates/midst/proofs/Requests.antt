@@ -1,15 +1,17 @@
 -- In the midst of a call a request begins to wait, completes, is cancelled or is collected: the memories behind it stand for the file behind it.
 use Prim.Native.Nat.{ℕ, _*_, _≤_, _<_}
-use mathlib.Core.Path.{_≡_, refl, sym, ap, _∙_}
+use mathlib.Core.Path.{_≡_, refl, sym, ap, _∙_, subst}
 use mathlib.Core.Bool.{Bool, true, false}
-use mathlib.Core.List.{List}
+use mathlib.Core.List.{List, _∷_, _++_}
 use mathlib.Core.Option.{some}
 use native.Mathlib.Omega.{arith}
 use lib.ListN.{length, set, length-set}
 use lib.Seq.{sets, set-set}
+use Rattle.occurrences.specs.Count.{count}
+use Rattle.ports.proofs.Chains.{slotAt}
 use Rattle.segment.specs.Layout.{freeList, replyPort, fileRow}
 use Rattle.segment.specs.Table.{nth}
-use Rattle.requests.specs.Moves.{entryOf, queued, waiting, completed, cancelled, collected}
+use Rattle.requests.specs.Moves.{slotOf, entryOf, queued, waiting, completed, cancelled, collected}
 use Rattle.rules.specs.Limits.{files, entries, bufferBytes}
 use Rattle.rules.specs.State.{Req, idle, reading, writing, Acc, ends, cancels, collects, Built, built}
 use Rattle.rules.specs.Requests.{accAt, withAccs, withQueues, withTimers, alterAcc, say, requeue, leave, finish, cancel, wait, freed}
@@ -28,26 +30,23 @@ use Rattle.laws.proofs.Midst.{mid-wait, mid-walks}
 use Rattle.buffers.specs.Buffer.{filled}
 use Rattle.memory.specs.Image.{reqWords, fileWords}
 use Rattle.midst.specs.declared.File as hand
-use Rattle.midst.specs.Seg.{Seg, queueAt}
+use Rattle.midst.specs.Seg.{Seg, queueAt, sideQueue}
 use Rattle.midst.specs.Mid.{Start, Mid}
 use Rattle.midst.proofs.Begins.{mid-file}
+use Rattle.midst.proofs.Lists.{entriesIn}
 use Rattle.midst.proofs.Changes.{Knows, Rest, asks-wait, asks-finish, asks-cancel, asks-freed, Laid, put, keep, mid-below, mid-req}
 use Rattle.midst.proofs.Waits.{allot-snoc, seg-wait}
 use Rattle.midst.proofs.Terms.{waitsAt, waits-awaits}
 use Rattle.midst.proofs.Placed.{Placed}
-use Rattle.midst.proofs.Leaves.{seg-complete, seg-cancel}
+use Rattle.midst.proofs.EntryLeaves.{seg-slot, seg-complete, seg-cancel}
 use Rattle.midst.proofs.Collects.{seg-collect}
+use Rattle.midst.proofs.RequestEnds.{ends-done}
 
 -- what lies in the buffer of a completed request has room there
 ends-fit : {st : ℕ} {r q : Req} (words : ℕ) → Ends st r q → Bounded words r → length (lies q) ≤ bufferBytes
 unfolding Bounded lies
 ends-fit words (readEnds h n) k = omega arith
 ends-fit words (writeEnds n) k = omega arith
-
-ends-done : {st : ℕ} {r q : Req} → Ends st r q → uncollected q ≡ 1
-unfolding uncollected
-ends-done (readEnds h n) = refl
-ends-done (writeEnds n) = refl
 
 side-waits : (w : Bool) (q : Req) → waitsAt w q ≡ 1 → awaits q ≡ 1
 side-waits w q h = omega (arith, waits-awaits w q, outstanding-most q)
@@ -124,27 +123,30 @@ module _ {I : Built → Type 0} {f : ℕ} {o : Start} {xs blocks buffers : List 
   -- it completes
 
   module _ (side : Bool) (st : ℕ) (r q : Req) (was : a .req ≡ r) (waits : waitsAt side r ≡ 1) (E : Ends st r q) where
-    complete : (entryOf xs (queueAt side f) i < entries)
-        × Seg (completed xs (queueAt side f) i (reqWords i q)) (set (set (o .desk) f (built b)) f (built (finish p st q b))) (endsAt i t) (fileRow f)
+    asks : waitsAt side (a .req) ≡ 1
+    asks = ap (waitsAt side) was ∙ waits
+
+    stands-out : outstanding (a .req) ≡ 1
+    stands-out = omega (arith, side-waits side (a .req) asks, outstanding-most (a .req))
+
+    complete : Seg (completed xs (slotOf xs (queueAt side f) i) i (reqWords i q)) (set (set (o .desk) f (built b)) f (built (finish p st q b))) (endsAt i t) (fileRow f)
     unfolding finish leave say withTimers requeue alterAcc withAccs withQueues
     complete =
-        let h : waitsAt side (a .req) ≡ 1 = ap (waitsAt side) was ∙ waits in
-        seg-complete (placed (omega (arith, side-waits side (a .req) h, outstanding-most (a .req)))) side h (M .segment) q (finish p st q b) refl refl refl
-        (λ k. absurd (k refl)) (ends-done E)
-
-    pub step-finish-entry : entryOf xs (queueAt side f) (placeOf f p) < entries
-    step-finish-entry = complete .0
+        seg-complete (placed stands-out) side asks (M .segment) q (finish p st q b) refl refl refl
+        (λ k. absurd (k refl)) (ends-done E) .1
 
     ended : allotAll f (finish p st q b .past) (o .alloc) ≡ endsAt i t
     unfolding finish leave say withTimers requeue alterAcc withAccs withQueues allot
     ended = allot-snoc f (b .past) (ends p st) (o .alloc)
 
-    pub step-finish : {J : Built → Type 0} (buffers′ : List ℕ) → J (finish p st q b) → Laid f p (a .req) q buffers buffers′
-        → Mid J f o (completed xs (queueAt side f) (placeOf f p) (reqWords (placeOf f p) q)) blocks buffers′ x (finish p st q b)
-    step-finish buffers′ good L =
-        mid-req K M p a e q (finish p st q b) (asks-finish p st q b) (ends-fit (b .geo .words) E (bounds-at p a r b e was (K .bounds b (M .good)))) good
+    -- its entry stands behind those of the places ys
+    pub step-finish : {J : Built → Type 0} (ys zs : List ℕ) → sideQueue side b ≡ ys ++ p ∷ zs → count p ys ≡ 0 → (buffers′ : List ℕ) → J (finish p st q b) → Laid f p (a .req) q buffers buffers′
+        → Mid J f o (completed xs (slotAt (queueAt side f) (entriesIn f t ys)) (placeOf f p) (reqWords (placeOf f p) q)) blocks buffers′ x (finish p st q b)
+    step-finish {J} ys zs queue first buffers′ good L =
+        subst (λ (n : ℕ). Mid J f o (completed xs n (placeOf f p) (reqWords (placeOf f p) q)) blocks buffers′ x (finish p st q b)) (seg-slot (placed stands-out) side asks (M .segment) ys zs queue first)
+        (mid-req K M p a e q (finish p st q b) (asks-finish p st q b) (ends-fit (b .geo .words) E (bounds-at p a r b e was (K .bounds b (M .good)))) good
         (mid-walks f (M .file) (o .alloc) .finishes p st q a r b e was E (M .allots)) _ buffers′
-        (reset _ (o .desk) f b (finish p st q b) (endsAt i t) _ (fileRow f) ended (complete .1)) L
+        (reset _ (o .desk) f b (finish p st q b) (endsAt i t) _ (fileRow f) ended complete) L)
 
   -- it is cancelled
 
@@ -175,7 +177,7 @@ module _ {I : Built → Type 0} {f : ℕ} {o : Start} {xs blocks buffers : List 
   module _ (done : uncollected (a .req) ≡ 1) where
     taken : (nth xs (replyPort i) < entries)
         × Seg (collected xs i) (set (set (o .desk) f (built b)) f (built (freed p b))) (goesAt i t) (fileRow f)
-    unfolding freed say requeue alterAcc withAccs withQueues
+    unfolding freed say alterAcc withAccs
     taken =
         let h : outstanding (a .req) ≡ 1 = omega (arith, outstanding-most (a .req)) in
         seg-collect (placed h) done (omega (arith, ticks, M .allots .matches .agrees .timed p, ap awaits asked)) (M .segment) (freed p b) refl refl refl
@@ -185,13 +187,13 @@ module _ {I : Built → Type 0} {f : ℕ} {o : Start} {xs blocks buffers : List 
     step-free-entry = taken .0
 
     freed-all : allotAll f (freed p b .past) (o .alloc) ≡ goesAt i t
-    unfolding freed say requeue alterAcc withAccs withQueues allot
+    unfolding freed say alterAcc withAccs allot
     freed-all = allot-snoc f (b .past) (collects p) (o .alloc)
 
     -- the segment with all rows, where the file's own stands as it is
     pub step-free-rows : {k : ℕ} → Seg xs (set (o .desk) f (built b)) (allotAll f (b .past) (o .alloc)) k
         → Seg (collected xs (placeOf f p)) (set (o .desk) f (built (freed p b))) (allotAll f (freed p b .past) (o .alloc)) k
-    unfolding freed say requeue alterAcc withAccs withQueues fileWords
+    unfolding freed say alterAcc withAccs fileWords
     step-free-rows {k} S =
         let h : outstanding (a .req) ≡ 1 = omega (arith, outstanding-most (a .req)) in
         reset _ (o .desk) f b (freed p b) (goesAt i t) _ k freed-all

@@ -8,10 +8,11 @@ use native.Mathlib.Decide.{ℕ-discrete}
 use lib.ListN.{length, getD, set, length-set}
 use lib.Seq.{getD-set-same, getD-set-other}
 use Rattle.segment.specs.declared.PlaceRow.{PlaceRow}
-use Rattle.segment.specs.Layout.{rowCount, rowWords, rowAt, fileRow, placeRow}
+use Rattle.segment.specs.Layout.{placeWidth, placeRowAt, rowCount, fileRow, placeRow}
 use Rattle.segment.specs.Table.{fill}
 use Rattle.segment.specs.Fields.{placeWords}
 use Rattle.segment.proofs.Fields.{length-placeWords}
+use Rattle.segment.proofs.Apart.{row-place}
 use Rattle.ports.proofs.Contents.{fill-boxes}
 use Rattle.rules.specs.Limits.{files, places}
 use Rattle.rules.specs.State.{idle, Acc, Built, built}
@@ -25,11 +26,11 @@ use Rattle.laws.specs.Changes.{Mild}
 use Rattle.laws.specs.Midst as laws
 use Rattle.laws.proofs.Happenings.{open-below, matches-alike}
 use Rattle.laws.proofs.Accessors.{length-alter, getD-alter-same, getD-alter-other, enter-beside, vacate-beside}
-use Rattle.memory.specs.Image.{accOf, reqOf, placeAcc, fileWords, rowOf, rqOf, wqOf, listsOf, boxesOf}
+use Rattle.memory.specs.Image.{accOf, placeAcc, fileWords, rowOf, rqOf, wqOf, listsOf, boxesOf}
+use Rattle.laws.specs.Outstanding.{reqOf}
 use Rattle.memory.specs.Image as image
-use Rattle.blocks.specs.Ring.{ringOf}
+use Rattle.ring.specs.Ring.{ringOf}
 use Rattle.memory.proofs.Image.{rowOf-file, rowOf-place, rowOf-acc, each-row}
-use Rattle.memory.proofs.Held.{req-same}
 use Rattle.midst.specs.declared.File as hand
 use Rattle.midst.specs.File.{inHand}
 use Rattle.midst.specs.Seg.{Seg}
@@ -64,27 +65,27 @@ module _ {p : ℕ} {b c : Built} (B : Beside p b c) where
   beside-mid : (f : ℕ) (s : Alloc) → laws.Mid f s b → laws.Mid f s c
   unfolding accAt
   beside-mid f s m = record {
-    matches = rw (B .past, B .timers) (matches-alike f s _ (b .accs) (c .accs) (b .timers) (B .many) (λ y. req-same (getD (c .accs) y none) ∙ beside-reqs y ∙ sym (req-same (getD (b .accs) y none))) (m .matches));
+    matches = rw (B .past, B .timers) (matches-alike f s _ (b .accs) (c .accs) (b .timers) (B .many) beside-reqs (m .matches));
     fed = rw (B .past) (m .fed);
   }
 
   beside-hand : inHand b ≡ inHand c
   beside-hand = ap₂ {C = hand.File} (λ g s. record { words = g .words; ring = ringOf g s }) (sym (B .geo)) (sym (B .store))
 
--- a row written, the lists as they were
-seg-row : (xs : List ℕ) (d d′ : Desk) (t t′ : Alloc) (k j : ℕ) (r : List ℕ) → Seg xs d t k → t′ ≡ t → listsOf d t ≡ listsOf d′ t → boxesOf d t ≡ boxesOf d′ t
-    → j < rowCount → length r ≡ rowWords → r ≡ rowOf d′ j → ((i : ℕ) → i < rowCount → (i ≡ k → ⊥) → (i ≡ j → ⊥) → rowOf d i ≡ rowOf d′ i)
-    → Seg (fill xs (rowAt j) r) d′ t′ k
-seg-row xs d d′ t t′ k j r S e el em h n er es =
+-- the row of place i written, the lists as they were
+seg-row : (xs : List ℕ) (d d′ : Desk) (t t′ : Alloc) (k i : ℕ) (r : List ℕ) → Seg xs d t k → t′ ≡ t → listsOf d t ≡ listsOf d′ t → boxesOf d t ≡ boxesOf d′ t
+    → placeRow i < rowCount → length r ≡ placeWidth → r ≡ rowOf d′ (placeRow i) → ((j : ℕ) → j < rowCount → (j ≡ k → ⊥) → (j ≡ placeRow i → ⊥) → rowOf d j ≡ rowOf d′ j)
+    → Seg (fill xs (placeRowAt i) r) d′ t′ k
+seg-row xs d d′ t t′ k i r S e el em h n er es =
     rw e (record {
-      rows = set (S .rows) j r;
-      boxes = rw (← el, ← em) (fill-boxes (S .boxes) j r h n);
-      same = λ i g u. go i g u (ℕ-discrete i j);
+      rows = set (S .rows) (placeRow i) r;
+      boxes = rw (← el, ← em) (rw (row-place i .0) at (fill-boxes (S .boxes) (placeRow i) r h (n ∙ sym (row-place i .1))));
+      same = λ j g u. go j g u (ℕ-discrete j (placeRow i));
     })
   where
-    go : (i : ℕ) → i < rowCount → (i ≡ k → ⊥) → Dec (i ≡ j) → getD (set (S .rows) j r) i [] ≡ rowOf d′ i
-    go i g u (yes v) = rw v (getD-set-same (S .rows) j r [] (omega (arith, S .boxes .rowed)) ∙ er)
-    go i g u (no v) = getD-set-other (S .rows) j i r [] v ∙ S .same i g u ∙ es i g u v
+    go : (j : ℕ) → j < rowCount → (j ≡ k → ⊥) → Dec (j ≡ placeRow i) → getD (set (S .rows) (placeRow i) r) j [] ≡ rowOf d′ j
+    go j g u (yes v) = rw v (getD-set-same (S .rows) (placeRow i) r [] (omega (arith, S .boxes .rowed)) ∙ er)
+    go j g u (no v) = getD-set-other (S .rows) (placeRow i) j r [] v ∙ S .same j g u ∙ es j g u v
 
 -- all rows but those of file f and of its place p
 rows-beside : (d : Desk) (f p : ℕ) (b c : Built) → f < length d → ((y : ℕ) → (y ≡ p → ⊥) → accAt c y ≡ accAt b y)
@@ -101,20 +102,20 @@ rows-beside d f p b c h e =
         go (yes u) = rw (u, file-set d f (built b) h, file-set d f (built c) h) (unfold accOf in sym (e (i % places) (λ v. m (unfold placeOf in omega arith))))
         go (no u) = rw (file-other d f (i / places) (built b) u, file-other d f (i / places) (built c) u)
 
-place-below : (f p : ℕ) → f < files → p < places → placeRow (placeOf f p) < rowCount
+pub place-below : (f p : ℕ) → f < files → p < places → placeRow (placeOf f p) < rowCount
 unfolding placeOf
 place-below f p h k = omega arith
 
 module _ {I J : Built → Type 0} {f : ℕ} {o : Start} {xs blocks buffers : List ℕ} {x : hand.File} {b : Built} (M : Mid I f o xs blocks buffers x b) where
   pub mid-accs : (p : ℕ) (c : Built) (r : PlaceRow) → p < places → Beside p b c → J c → placeWords r ≡ image.placeWords (accAt c p)
-      → Mid J f o (fill xs (rowAt (placeRow (placeOf f p))) (placeWords r)) blocks buffers x c
+      → Mid J f o (fill xs (placeRowAt (placeOf f p)) (placeWords r)) blocks buffers x c
   unfolding accAt accOf
   mid-accs p c r hp B good e = record {
     file = M .file;
     eight = M .eight;
     good = good;
     allots = beside-mid B f (o .alloc) (M .allots);
-    segment = seg-row xs (set (o .desk) f (built b)) (set (o .desk) f (built c)) (allotAll f (b .past) (o .alloc)) _ (fileRow f) (placeRow (placeOf f p)) (placeWords r) (M .segment)
+    segment = seg-row xs (set (o .desk) f (built b)) (set (o .desk) f (built c)) (allotAll f (b .past) (o .alloc)) _ (fileRow f) (placeOf f p) (placeWords r) (M .segment)
         (ap (λ hs. allotAll f hs (o .alloc)) (B .past))
         (lists-alike (o .desk) f _ _ (beside-alike B) _) (boxes-alike (o .desk) f _ _ (beside-alike B) _)
         (place-below f p (M .file) hp) (length-placeWords r)
@@ -133,7 +134,7 @@ module _ {I J : Built → Type 0} {f : ℕ} {o : Start} {xs blocks buffers : Lis
 
   -- the accessor at p, changed beside its request
   pub mid-mild : (p : ℕ) (g : Acc → Acc) (a : Acc) (r : PlaceRow) → Mild g → accAt b p ≡ some a → J (alterAcc p g b) → placeWords r ≡ image.placeWords (some (g a))
-      → Mid J f o (fill xs (rowAt (placeRow (placeOf f p))) (placeWords r)) blocks buffers x (alterAcc p g b)
+      → Mid J f o (fill xs (placeRowAt (placeOf f p)) (placeWords r)) blocks buffers x (alterAcc p g b)
   unfolding alterAcc withAccs accAt Mild
   mid-mild p g a r m e good h =
       mid-accs p (alterAcc p g b) r (open-below (b .accs) p a (M .allots .matches .agrees .eight) e) (record {
@@ -150,7 +151,7 @@ module _ {I J : Built → Type 0} {f : ℕ} {o : Start} {xs blocks buffers : Lis
 
   -- one enters
   pub mid-enter : (a : Acc) (r : PlaceRow) → firstFree (b .accs) < places → a .req ≡ idle → J (enter a b) → placeWords r ≡ image.placeWords (some a)
-      → Mid J f o (fill xs (rowAt (placeRow (placeOf f (firstFree (b .accs))))) (placeWords r)) blocks buffers x (enter a b)
+      → Mid J f o (fill xs (placeRowAt (placeOf f (firstFree (b .accs)))) (placeWords r)) blocks buffers x (enter a b)
   unfolding enter withAccs accAt
   mid-enter a r hp i good h =
       mid-accs (firstFree (b .accs)) (enter a b) r hp (record {
@@ -167,7 +168,7 @@ module _ {I J : Built → Type 0} {f : ℕ} {o : Start} {xs blocks buffers : Lis
 
   -- one with no request leaves
   pub mid-vacate : (p : ℕ) (a : Acc) (r : PlaceRow) → accAt b p ≡ some a → a .req ≡ idle → J (vacate p b) → placeWords r ≡ image.placeWords none
-      → Mid J f o (fill xs (rowAt (placeRow (placeOf f p))) (placeWords r)) blocks buffers x (vacate p b)
+      → Mid J f o (fill xs (placeRowAt (placeOf f p)) (placeWords r)) blocks buffers x (vacate p b)
   unfolding vacate withAccs accAt
   mid-vacate p a r e i good h =
       let hp : p < places = open-below (b .accs) p a (M .allots .matches .agrees .eight) e in

@@ -8,18 +8,19 @@ use mathlib.Core.Option.{Option}
 use native.Mathlib.Omega.{arith}
 use native.Mathlib.Decide.{ℕ-discrete}
 use lib.ListN.{length, set}
-use Rattle.tally.specs.Count.{count}
+use Rattle.occurrences.specs.Count.{count}
 use Rattle.rules.specs.Limits.{files, places}
 use Rattle.rules.specs.State.{Req, idle, reading, writing, readDone, writeDone, Acc, Built, File, unbuilt, built}
 use Rattle.rules.specs.Requests.{accAt}
 use Rattle.rules.specs.Desk.{Desk, fileOf}
 use Rattle.rules.specs.Allocation.{Alloc, placeOf, heldAt, ownEntry, queueOf, portOf, timerList}
-use Rattle.segment.specs.Layout.{listCount, rowCount, freeList, replyPort, fileRow}
+use Rattle.segment.specs.Layout.{readQueues, replyPorts, listCount, rowCount, freeList, replyPort, fileRow}
 use Rattle.segment.specs.Layout as layout
 use Rattle.ports.specs.Lists.{Boxes}
 use Rattle.ports.proofs.Lists.{once-two}
 use Rattle.ports.proofs.Maps.{map-in}
-use Rattle.memory.specs.Image.{accOf, reqOf, placeAcc, timerWords, fileWords, placeWords, rowOf, rqOf, wqOf, listOf, queueWords, portWords, boxOf, listsOf, boxesOf}
+use Rattle.memory.specs.Image.{accOf, placeAcc, timerWords, fileWords, placeWords, rowOf, rqOf, wqOf, listOf, queueWords, portWords, boxOf, listsOf, boxesOf}
+use Rattle.laws.specs.Outstanding.{reqOf}
 use Rattle.memory.proofs.Image.{placeAcc-of, rowOf-file, rowOf-place, each-row, listOf-free, listOf-read, listOf-write, listOf-port, listOf-timers, boxOf-free, boxOf-read, boxOf-write, boxOf-port, boxOf-timers, each-list}
 use Rattle.memory.proofs.Boxes.{getD-listsOf}
 use Rattle.midst.specs.Seg.{Seg, queueAt, sideQueue}
@@ -41,7 +42,7 @@ sides-apart true f h e = omega arith
 sides-apart false f h e = omega arith
 
 -- a queue is none of the other lists
-pub queue-range : (w : Bool) (f : ℕ) → f < files → (1 ≤ queueAt w f) × (queueAt w f < 17)
+pub queue-range : (w : Bool) (f : ℕ) → f < files → (readQueues ≤ queueAt w f) × (queueAt w f < replyPorts)
 queue-range true f h = (omega arith, omega arith)
 queue-range false f h = (omega arith, omega arith)
 

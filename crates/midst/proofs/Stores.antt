@@ -1,49 +1,43 @@
 -- In the midst of a call records are put and go: the share and the file in hand change, and no list, no row of a place, no buffer.
-use Prim.Native.Nat.{ℕ, _+_, _*_, _≤_, _<_}
+use Prim.Native.Nat.{ℕ, _+_, _*_, _≤_}
 use mathlib.Core.Path.{_≡_, refl, sym, ap, _∙_, subst}
-use mathlib.Core.Bool.{Bool, true, false, cond}
+use mathlib.Core.Bool.{Bool}
 use mathlib.Core.List.{List, [], _∷_, _++_, map}
-use mathlib.Core.Option.{none, some}
 use native.Mathlib.Omega.{arith}
-use lib.Dec.{eqb}
-use lib.ListN.{length, set, drop}
+use lib.ListN.{length, set}
 use lib.Seq.{sets, length-sets}
-use Rattle.words.proofs.Parts.{sets-whole}
-use Rattle.rules.specs.Limits.{files, places, shareBytes, mostWords, mostFactor}
-use Rattle.rules.specs.State.{Rec, Geo, Store, Hap, puts, gone, Built, built}
-use Rattle.rules.specs.Store.{used, recordWords, advance, discard, dropped, put, takeHead, fetch, Found}
-use Rattle.rules.specs.Geometry.{capacity}
-use Rattle.rules.specs.Requests.{withStore, say, putRec, behind}
-use Rattle.rules.specs.Requests.{accAt}
+use Rattle.rules.specs.Limits.{shareBytes}
+use Rattle.rules.specs.State.{Rec, Store, Hap, puts, gone, Built, built}
+use Rattle.rules.specs.Store.{put, fetch}
+use Rattle.rules.specs.Requests.{withStore, say, putRec, behind, accAt}
 use Rattle.rules.specs.Memories.{fileBuffers}
 use Rattle.rules.specs.Desk.{Desk}
 use Rattle.segment.specs.Layout.{fileRow}
 use Rattle.rules.specs.Allocation.{Alloc, allot, allotAll}
-use Rattle.rules.proofs.Split.{pick-true, pick-false}
-use Rattle.shares.specs.Holds.{Sized, Holds}
+use Rattle.shares.specs.Holds.{Holds}
 use Rattle.shares.proofs.Holds.{share-fetch}
 use Rattle.laws.specs.Changes.{GoodGeo}
 use Rattle.laws.specs.Midst as laws
 use Rattle.laws.proofs.Room.{good-sized}
-use Rattle.blocks.specs.declared.ring.Ring.{Ring}
-use Rattle.blocks.specs.Ring as ring
-use Rattle.blocks.specs.Ring.{geo, ringOf, Fitted}
-use Rattle.blocks.specs.Held.{Held}
+use Rattle.ring.specs.declared.Ring.{Ring}
+use Rattle.ring.specs.Ring as ring
+use Rattle.ring.specs.Ring.{geo, ringOf, Fitted}
+use Rattle.ring.specs.Held.{Held}
 use Rattle.blocks.specs.Writing.{inscribed}
-use Rattle.blocks.proofs.ring.Stores.{ring-put}
+use Rattle.ring.proofs.Stores.{ring-put}
 use Rattle.blocks.proofs.Held.{held-inscribed}
 use Rattle.shares.proofs.Put.{length-inscribed}
 use Rattle.memory.specs.Image.{accOf, rqOf, wqOf}
 use Rattle.memory.specs.Stands.{shareAt}
-use Rattle.memory.specs.Fine.{Fine}
+use Rattle.words.proofs.Parts.{sets-whole}
 use Rattle.memory.proofs.Frames.{shareAt-sets, shareAt-sets-other}
 use Rattle.midst.specs.declared.File as hand
 use Rattle.midst.specs.File.{inHand}
 use Rattle.midst.specs.Seg.{Seg}
-use Rattle.midst.specs.Mid.{Start, Apart, Mid}
+use Rattle.midst.specs.Mid.{Start, Mid}
 use Rattle.midst.proofs.Alike.{Alike, lists-alike, boxes-alike}
 use Rattle.midst.proofs.Begins.{rows-same}
-use Rattle.fetch.specs.Fetch.{Stores, ahead}
+use Rattle.records.specs.Fetch.{Stores, ahead}
 use Rattle.laws.proofs.Midst.{mid-walks}
 
 -- the file in hand changes but for its accessors and queues

@@ -8,7 +8,7 @@ use native.Mathlib.Omega.{arith}
 use lib.Dec.{eqb}
 use lib.ListN.{length, set, length-set, length-drop}
 use lib.Seq.{set-set}
-use Rattle.tally.specs.Count.{count}
+use Rattle.occurrences.specs.Count.{count}
 use Rattle.segment.specs.Layout.{freeList, fileRow}
 use Rattle.segment.specs.Table.{nth}
 use Rattle.requests.specs.Moves.{armed, queued, waiting}
@@ -19,7 +19,7 @@ use Rattle.rules.specs.Desk.{Desk, fileOf}
 use Rattle.rules.specs.Allocation.{nothing, own, timed, Alloc, placeOf, heldAt, front, holds, takeOwn, allot, allotAll}
 use Rattle.rules.proofs.Split.{by-cases, pick-true, pick-false}
 use Rattle.laws.specs.Counts.{countT}
-use Rattle.laws.specs.Outstanding.{waitsRead, waitsWrite, uncollected}
+use Rattle.laws.specs.Outstanding.{waitsRead, waitsWrite, uncollected, reqOf}
 use Rattle.laws.specs.Outstanding as laws
 use Rattle.laws.specs.Queues.{Agree}
 use Rattle.laws.specs.Midst.{Steps, Mid}
@@ -28,7 +28,7 @@ use Rattle.laws.proofs.Sieve.{countT-sieve}
 use Rattle.laws.proofs.Outstanding.{outstanding-idle}
 use Rattle.laws.proofs.Allots.{steps-takeOwn, heldAt-takeOwn, steps-takeTimer, heldAt-takeTimer, heldAt-withClock}
 use Rattle.laws.proofs.Happenings.{open-below, idle-holds}
-use Rattle.memory.specs.Image.{reqOf, reqWords, placeWords}
+use Rattle.memory.specs.Image.{reqWords, placeWords}
 use Rattle.midst.specs.Seg.{Seg, queueAt, sideQueue}
 use Rattle.midst.proofs.Lists.{Low, Change, file-same, file-other, place-under}
 use Rattle.midst.proofs.Joins.{armsAt, seg-free, seg-queue, seg-arm}

@@ -9,23 +9,24 @@ use Rattle.kinds.specs.declared.Answer.the-variants.{Controlled, Closed}
 use Rattle.kinds.specs.declared.Answer.the-variants as answer
 use Rattle.kinds.specs.declared.Control.{Control}
 use Rattle.kinds.specs.declared.Control.the-variants.{Timeout, Verify, Abort, Extended, Typed, Keep}
-use Rattle.rules.specs.Limits.{files, places, mostMode, leastRefusal}
+use Rattle.rules.specs.Limits.{files, places, mostMode}
 use Rattle.rules.specs.Geometry.{dataBlocks, capacity, inRange, fitsShare}
 use Rattle.rules.specs.State.{Req, idle, reading, writing, readDone, writeDone, Acc, Built, unbuilt, built}
 use Rattle.rules.specs.Store.{emptyStore}
 use Rattle.rules.specs.Count.{countBytes, readable}
 use Rattle.rules.specs.Requests.{countAcc, opened, accAt, alterAcc, cancel}
 use Rattle.rules.specs.Settle.{settle}
-use Rattle.rules.specs.Reply.{Reply, Out, done, status}
-use Rattle.rules.specs.Open.{newFile, geoOf, shareOf, otherShare, crowded, purged, openReader, openWriter, roomToOpen}
+use Rattle.rules.specs.Reply.{Reply, Out, answering, status}
+use Rattle.rules.specs.Open.{newFile, geoOf, sharingOf, otherShare, crowded, purged, openReader, openWriter, roomToOpen}
 use Rattle.rules.specs.Transfer.{readOn, writeOn, collect}
-use Rattle.rules.specs.Controls.{setTimeout, setExtended, setTyped, setKeep, unchanged, abort}
+use Rattle.rules.specs.Controls.{setTimeout, setExtended, setTyped, setKeep, abort}
 use Rattle.rules.specs.Close.{closed, close}
-use Rattle.rules.specs.Look as looking
+use Rattle.rules.specs.Counts.{counts}
 use Rattle.rules.specs.Calls.{Ask, refusal, ask}
 use Rattle.rules.specs.Calls as calls
 use Rattle.rules.specs.Desk.{Desk, on, fileOf, answered}
 use Rattle.rules.specs.Allocation.{Alloc, allocAsked}
+use Rattle.laws.specs.Bounds.{leastRefusal}
 use Rattle.laws.specs.Outstanding.{reqAt, awaits, uncollected}
 use Rattle.midst.specs.Outcome.{refusalOf}
 
@@ -56,8 +57,8 @@ pub record CloseKnown (p : ℕ) (b : Built) (o : Out) : Type 0 where
   pub a : Acc
   pub at : accAt b p ≡ some a
   pub collected : uncollected (a .req) ≡ 0
-  pub idles : a .req ≡ idle → o ≡ done Closed (settle (closed p a b))
-  pub waits : awaits (a .req) ≡ 1 → o ≡ done Closed (settle (closed p a (cancel p b)))
+  pub idles : a .req ≡ idle → o ≡ answering Closed (settle (closed p a b))
+  pub waits : awaits (a .req) ≡ 1 → o ≡ answering Closed (settle (closed p a (cancel p b)))
   pub out : o ≡ close p a (a .req) b
 
 -- an accessor is changed
@@ -65,15 +66,22 @@ pub record SetKnown (p : ℕ) (f : Acc → Acc) (b : Built) (o : Out) : Type 0 w
   pub a : Acc
   pub at : accAt b p ≡ some a
   pub idles : a .req ≡ idle
-  pub out : o ≡ done Controlled (alterAcc p f b)
+  pub out : o ≡ answering Controlled (alterAcc p f b)
 
--- by a parameter that is 0 or 1
+-- nothing is to be done
+pub record VerifyKnown (p : ℕ) (b : Built) (o : Out) : Type 0 where
+  pub a : Acc
+  pub at : accAt b p ≡ some a
+  pub idles : a .req ≡ idle
+  pub out : o ≡ answering Controlled b
+
+-- an accessor is changed by a parameter that is 0 or 1
 pub record SwitchKnown (p v : ℕ) (f : Bool → Acc → Acc) (b : Built) (o : Out) : Type 0 where
   pub a : Acc
   pub at : accAt b p ≡ some a
   pub idles : a .req ≡ idle
   pub low : v ≤ 1
-  pub out : o ≡ done Controlled (alterAcc p (f (eqb v 1)) b)
+  pub out : o ≡ answering Controlled (alterAcc p (f (eqb v 1)) b)
 
 -- and the accessor is a reader
 pub record ReaderKnown (p v : ℕ) (f : Bool → Acc → Acc) (b : Built) (o : Out) : Type 0 where
@@ -82,19 +90,19 @@ pub record ReaderKnown (p v : ℕ) (f : Bool → Acc → Acc) (b : Built) (o : O
   pub idles : a .req ≡ idle
   pub side : a .writer ≡ false
   pub low : v ≤ 1
-  pub out : o ≡ done Controlled (alterAcc p (f (eqb v 1)) b)
+  pub out : o ≡ answering Controlled (alterAcc p (f (eqb v 1)) b)
 
 pub record AbortKnown (p : ℕ) (b : Built) (o : Out) : Type 0 where
   pub a : Acc
   pub at : accAt b p ≡ some a
   pub outstands : a .req ≡ idle → ⊥
-  pub waits : awaits (a .req) ≡ 1 → o ≡ done Controlled (cancel p b)
+  pub waits : awaits (a .req) ≡ 1 → o ≡ answering Controlled (cancel p b)
   pub completed : uncollected (a .req) ≡ 1 → o ≡ status 5 2 b
   pub out : o ≡ abort p (a .req) b
 
 unfoldable pub ControlKnown : ℕ → Option Control → Built → Out → Type 0
 ControlKnown p (some (Timeout v)) b o = SetKnown p (setTimeout v) b o
-ControlKnown p (some (Verify v)) b o = SetKnown p unchanged b o
+ControlKnown p (some (Verify v)) b o = VerifyKnown p b o
 ControlKnown p (some (Abort v)) b o = AbortKnown p b o
 ControlKnown p (some (Extended v)) b o = SwitchKnown p v setExtended b o
 ControlKnown p (some (Typed v)) b o = ReaderKnown p v setTyped b o
@@ -106,17 +114,17 @@ pub record OpenKnown (access share multi : ℕ) (b : Built) (o : Out) : Type 0 w
   pub share-low : share ≤ mostMode
   pub multi-low : multi ≤ mostMode
   pub not-three : multi ≡ 3 → ⊥
-  pub same : countAcc (otherShare (shareOf share)) (b .accs) ≡ 0
-  pub apart : crowded (ltb 0 access) (shareOf share) b ≡ false
+  pub same : countAcc (otherShare (sharingOf share)) (b .accs) ≡ 0
+  pub apart : crowded (ltb 0 access) (sharingOf share) b ≡ false
   pub place : opened b < places
-  pub reader : access ≡ 0 → o ≡ openReader (shareOf share) b
+  pub reader : access ≡ 0 → o ≡ openReader (sharingOf share) b
   pub room : 1 ≤ access → roomToOpen access b ≡ true
-  pub writer : 1 ≤ access → o ≡ openWriter (shareOf share) (purged access b)
+  pub writer : 1 ≤ access → o ≡ openWriter (sharingOf share) (purged access b)
 
 pub record BuildKnown (r b n x : ℕ) (o : Out) : Type 0 where
   pub numbers : inRange r b n x ≡ true
   pub fits : fitsShare r b (dataBlocks n b x) ≡ true
-  pub out : o ≡ done (answer.Built (capacity b (dataBlocks n b x))) (newFile (geoOf r b (dataBlocks n b x)) emptyStore)
+  pub out : o ≡ answering (answer.Built (capacity b (dataBlocks n b x))) (newFile (geoOf r b (dataBlocks n b x)) emptyStore)
 
 -- of a call of a built file; of save and look only that they are not refused
 unfoldable pub Known : Ask → Built → Out → Type 0
@@ -127,7 +135,7 @@ Known (calls.write p n d) b o = WriteKnown p n d b o
 Known (calls.control p c) b o = ControlKnown p c b o
 Known (calls.collect p) b o = CollectKnown p b o
 Known (calls.close p) b o = CloseKnown p b o
-Known calls.counts b o = o ≡ looking.counts b
+Known calls.counts b o = o ≡ counts b
 Known (calls.load t) b o = ⊥
 Known (calls.save n) b o = refusalOf (o .reply) ≡ 0
 Known (calls.look p) b o = refusalOf (o .reply) ≡ 0

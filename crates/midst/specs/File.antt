@@ -2,7 +2,7 @@
 use mathlib.Core.List.{List, [], _∷_}
 use Prim.Native.Nat.{ℕ}
 use Rattle.segment.specs.declared.FileRow.{FileRow}
-use Rattle.blocks.specs.Ring.{ringOf}
+use Rattle.ring.specs.Ring.{ringOf}
 use Rattle.rules.specs.State.{Built}
 use Rattle.midst.specs.declared.File.{File}
 

@@ -1,4 +1,5 @@
 pub mod File
+pub mod FileStands
 pub mod Seg
 pub mod Mid
 pub mod Outcome

@@ -27,6 +27,9 @@ pub record Apart (f : ℕ) (blocks buffers blocks′ buffers′ : List ℕ) : Ty
   pub shares : (g : ℕ) → g < files → (g ≡ f → ⊥) → shareAt g blocks′ ≡ shareAt g blocks
   pub others : (g : ℕ) → g < files → (g ≡ f → ⊥) → buffersAt g buffers′ ≡ buffersAt g buffers
 
+abbrev pub start : Desk → Alloc → List ℕ → List ℕ → Start
+start d s blocks buffers = record { desk = d; alloc = s; blocks = blocks; buffers = buffers }
+
 -- the memories, with the file x in hand, stand for the desk with b as its file f, and I holds of b
 pub record Mid (I : Built → Type 0) (f : ℕ) (o : Start) (xs blocks buffers : List ℕ) (x : hand.File) (b : Built) : Type 0 where
   pub file : f < files

@@ -10,9 +10,10 @@ use Rattle.kinds.specs.declared.Answer.{Answer}
 use Rattle.kinds.specs.declared.Answer.the-variants.{Built, Opened, Read, Written, Controlled, Collected, Closed, Passed, Counted, Status}
 use Rattle.rules.specs.Reply.{Reply, answers, shows, Out}
 use Rattle.rules.specs.Calls.{Ask}
-use Rattle.rules.specs.Limits.{bufferBytes, leastRefusal}
+use Rattle.rules.specs.Limits.{bufferBytes}
 use Rattle.rules.specs.Desk.{Desk, Call, asked, replyBytes, on, answered, respond}
 use Rattle.rules.specs.Allocation.{Alloc, allotAll, allocAsked}
+use Rattle.laws.specs.Bounds.{leastRefusal}
 use Rattle.memory.specs.Stands.{Stands}
 use Rattle.memory.specs.Covers.{Alike}
 use Rattle.memory.specs.Fine.{StandsFor}

@@ -2,11 +2,12 @@
 ghost use mathlib.Core.Path.{_≡_};
 ghost use Prim.Native.Nat.{_<_};
 ghost use lib.ListN.{length};
-ghost use Rattle.segment.specs.Layout.{segmentBytes, rowAt, fileRow};
+ghost use Rattle.rules.specs.Limits.{files};
+ghost use Rattle.segment.specs.Layout.{segmentBytes, fileRowAt};
 ghost use Rattle.segment.specs.Table.{fill};
 ghost use Rattle.segment.specs.Fields.{fileAt};
 ghost use Rattle.midst.specs.File.{fileOfRow, fileRowWords};
-use blocks::ring::Ring;
+use ring::Ring;
 use segment::FileRow;
 
 // R, and the ring of the file's blocks.
@@ -18,7 +19,7 @@ pub struct File {
 // File f as it stands in the segment.
 pub fn take_file(segment: &[u8], f: usize) -> File
     requires { ⌜ length (now segment) ≡ segmentBytes ⌝ }
-    requires { ⌜ f < 8 ⌝ }
+    requires { ⌜ f < files ⌝ }
     ensures { λ r. ⌜ r ≡ fileOfRow (fileAt (now (segment .entry)) f) ⌝ }
 {
     let row = segment::read_file(segment, f);
@@ -37,8 +38,8 @@ pub fn take_file(segment: &[u8], f: usize) -> File
 // And back.
 pub fn put_file(segment: &mut [u8], f: usize, file: File)
     requires { ⌜ length (now segment) ≡ segmentBytes ⌝ }
-    requires { ⌜ f < 8 ⌝ }
-    ensures { λ _. ⌜ now (segment .exit) ≡ fill (now (segment .entry)) (rowAt (fileRow f)) (fileRowWords file) ⌝ }
+    requires { ⌜ f < files ⌝ }
+    ensures { λ _. ⌜ now (segment .exit) ≡ fill (now (segment .entry)) (fileRowAt f) (fileRowWords file) ⌝ }
 {
     let ring = file.ring;
     let row = FileRow {

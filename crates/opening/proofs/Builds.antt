@@ -4,25 +4,24 @@ use mathlib.Core.Path.{_≡_, refl}
 use mathlib.Core.List.{List}
 use lib.ListN.{length}
 use lib.Seq.{sets}
-use Rattle.words.specs.Word.{zeros}
+use Rattle.words.specs.Word.{zeros, Bytes}
 use Rattle.words.proofs.Runs.{length-zeros}
 use Rattle.kinds.specs.declared.Answer.the-variants as answer
-use Rattle.geometry.proofs.Sizes.{in-range-is}
-use Rattle.segment.specs.Layout.{rowAt, fileRow, segmentBytes}
+use Rattle.geometry.proofs.Sizes.{in-range-is, fits-capacity}
+use Rattle.segment.specs.Layout.{segmentBytes, fileRowAt}
 use Rattle.segment.specs.Table.{fill}
 use Rattle.segment.specs.Fields.{fileWords}
-use Rattle.rules.specs.Limits.{files, places, shareBytes, bufferBytes, mostFactor, mostRecords, mostExtents}
+use Rattle.rules.specs.Limits.{files, places, shareBytes, bufferBytes, mostFactor, mostRecords, mostExtents, shareWords}
 use Rattle.rules.specs.State.{Geo}
 use Rattle.rules.specs.Geometry.{dataBlocks, capacity}
 use Rattle.rules.specs.Store.{emptyStore}
-use Rattle.rules.specs.Reply.{leaves, done}
+use Rattle.rules.specs.Reply.{leaves, answering}
 use Rattle.rules.specs.Open.{newFile, geoOf}
 use Rattle.rules.specs.Calls.{ask}
 use Rattle.rules.specs.Calls as calls
 use Rattle.rules.specs.Desk.{Desk, fileOf}
 use Rattle.rules.specs.Allocation.{Alloc, allotAll}
 use Rattle.memory.specs.Image as image
-use Rattle.memory.specs.Stands.{Bytes}
 use Rattle.memory.specs.Fine.{StandsFor}
 use Rattle.midst.specs.Outcome.{Sound, Accepted, Done}
 use Rattle.midst.proofs.Accepted.{accepted-build}
@@ -38,19 +37,23 @@ module _ {xs blocks buffers : List ℕ} (f r b n x : ℕ) where
       let i = in-range-is r b n x (accepted-build (k .0) f r b n x (a (k .0) (k .1) (k .2)) .known .numbers) in
       (i .2, i .1, i .3)
 
+  -- what is built has no more records than its share has words
+  pub build-room : Sound xs blocks buffers × Accepted f (calls.build r b n x) xs blocks buffers → (m : ℕ) → m ≡ dataBlocks n b x → capacity b m ≤ shareWords
+  build-room (k, a) m e = rw e (fits-capacity r b (dataBlocks n b x) (accepted-build (k .0) f r b n x (a (k .0) (k .1) (k .2)) .known .fits))
+
   pub build-sizes : Sound xs blocks buffers × Accepted f (calls.build r b n x) xs blocks buffers → (length xs ≡ segmentBytes) × (length blocks ≡ shareBytes * files) × (length buffers ≡ places * bufferBytes * files)
   build-sizes (k, a) = (k .2 .stands .segment .size, k .2 .stands .bodies .blocks-size, k .2 .stands .bodies .buffers-size)
 
   pub build-done : Sound xs blocks buffers × Accepted f (calls.build r b n x) xs blocks buffers → (m c : ℕ) (xs′ blocks′ buffers′ : List ℕ) → m ≡ dataBlocks n b x → c ≡ capacity b m
-      → xs′ ≡ fill xs (rowAt (fileRow f)) (fileWords (record { words = r; factor = b; blocks = m; block = 0; spent = 0; held = 0 }))
+      → xs′ ≡ fill xs (fileRowAt f) (fileWords (record { words = r; factor = b; blocks = m; block = 0; spent = 0; held = 0 }))
       → blocks′ ≡ sets blocks (shareBytes * f) (zeros shareBytes) → buffers′ ≡ sets buffers (places * bufferBytes * f) (zeros (places * bufferBytes)) → Bytes xs′ → Bytes blocks′ → Bytes buffers′
       → (d : Desk) (s : Alloc) → StandsFor xs blocks buffers d s
       → Done f d s (ask (fileOf d f) (calls.build r b n x)) blocks buffers xs′ blocks′ buffers′ (answer.Built c)
-  unfolding done leaves geoOf newFile emptyStore allotAll fileWords image.fileWords
+  unfolding answering leaves geoOf newFile emptyStore allotAll fileWords image.fileWords
   build-done (k, a) m c xs′ blocks′ buffers′ em ec wrote zeroed blank xb bb ub d s S =
       let A = accepted-build d f r b n x (a d s S) in
       let g : Geo = geoOf r b (dataBlocks n b x) in
       rw (A .known .out) record {
-        outcome = made S f (A .file) (A .stands) g emptyStore (length-zeros shareBytes) xs′ blocks′ buffers′ (rw (← em) wrote) zeroed blank xb bb ub (done (answer.Built (capacity b (dataBlocks n b x))) (newFile g emptyStore)) refl refl;
+        outcome = made S f (A .file) (A .stands) g emptyStore (length-zeros shareBytes) xs′ blocks′ buffers′ (rw (← em) wrote) zeroed blank xb bb ub (answering (answer.Built (capacity b (dataBlocks n b x))) (newFile g emptyStore)) refl refl;
         reply = rw (ec, em);
       }

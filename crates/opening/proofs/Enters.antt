@@ -1,14 +1,13 @@
 -- An accessor enters: what is in the midst of open, and what it comes to.
 use Prim.Native.Nat.{ℕ, _+_, _*_, _≤_, _<_}
 use mathlib.Core.Path.{_≡_, refl, sym, ap, subst, _∙_}
-use mathlib.Core.Bool.{true, false, _&&_}
+use mathlib.Core.Bool.{true, false}
 use mathlib.Core.List.{List, []}
 use native.Mathlib.Omega.{arith}
-use lib.Dec.{eqb}
 use lib.ListN.{length}
 use lib.Seq.{sets}
 use Rattle.kinds.specs.declared.Answer.the-variants.{Opened}
-use Rattle.segment.specs.Layout.{rowAt, placeRow, segmentBytes}
+use Rattle.segment.specs.Layout.{segmentBytes, placeRowAt}
 use Rattle.segment.specs.Table.{fill}
 use Rattle.segment.specs.Fields.{placeWords, fileAt}
 use Rattle.rules.specs.Limits.{files, places, shareBytes}
@@ -16,24 +15,25 @@ use Rattle.rules.specs.State.{Built, File, unbuilt, built}
 use Rattle.rules.specs.Store.{recordWords}
 use Rattle.rules.specs.Requests.{opened, say, withStore, putRec}
 use Rattle.rules.specs.Settle.{settle}
-use Rattle.rules.specs.Reply.{Reply, answers, leaves, done}
+use Rattle.rules.specs.Reply.{Reply, answers, leaves, answering}
 use Rattle.rules.specs.Open.{firstFree, freeId, newAcc, enter, openRec, purged, openReader, openWriter}
 use Rattle.rules.specs.Desk.{Desk, fileOf}
 use Rattle.rules.specs.Allocation.{Alloc, placeOf}
 use Rattle.laws.proofs.Midst as laws
 use Rattle.laws.proofs.Calls.{free-id}
-use Rattle.blocks.specs.declared.ring.Ring.{Ring}
-use Rattle.blocks.specs.Ring as ring
-use Rattle.blocks.specs.Ring.{Ranged}
+use Rattle.ring.specs.declared.Ring.{Ring}
+use Rattle.ring.specs.Ring as ring
+use Rattle.ring.specs.Ring.{Ranged}
 use Rattle.blocks.specs.Writing.{recOf, Ready, inscribed}
 use Rattle.blocks.specs.Memory as own
-use Rattle.blocks.proofs.Held.{held-ranged, held-ready}
+use Rattle.ring.proofs.Held.{held-ranged}
+use Rattle.blocks.proofs.Held.{held-ready}
 use Rattle.memory.specs.Image as image
 use Rattle.memory.specs.Stands.{shareAt}
 use Rattle.memory.specs.Fine.{Fine, StandsFor}
-use Rattle.judges.specs.Sides.{countSide}
-use Rattle.judges.proofs.Counted.{Rows, file-rows, count-closed}
-use Rattle.judges.proofs.Stood.{shown}
+use Rattle.accessors.specs.Sides.{purgesAt}
+use Rattle.accessors.proofs.Counted.{Rows, file-rows, purges-is}
+use Rattle.accessors.proofs.Stood.{shown}
 use Rattle.midst.specs.declared.File as hand
 use Rattle.midst.specs.File.{fileOfRow, inHand}
 use Rattle.midst.specs.Mid.{Start, Mid}
@@ -96,7 +96,7 @@ module _ {xs blocks buffers : List ℕ} {d : Desk} {s : Alloc} (S : StandsFor xs
 
   -- a reader
   pub reader-in : (share acc : ℕ) (x : hand.File) (xs′ : List ℕ) → opened b < places → acc ≡ freePlace xs f → x ≡ fileOfRow (fileAt xs f)
-      → xs′ ≡ fill xs (rowAt (placeRow (places * f + acc))) (placeWords (newRow 1 0 share)) → Mid Fine f start xs′ blocks buffers x (enter (newAcc false 0 share) b)
+      → xs′ ≡ fill xs (placeRowAt (places * f + acc)) (placeWords (newRow 1 0 share)) → Mid Fine f start xs′ blocks buffers x (enter (newAcc false 0 share) b)
   unfolding placeWords image.placeWords newAcc placeOf
   reader-in share acc x xs′ h a ex w =
       rw (w, ex, a, place-found) (mid-enter {J = Fine} began (newAcc false 0 share) (newRow 1 0 share) (free-below h) refl (fine-walks .enters share b (began .good)) refl)
@@ -104,7 +104,7 @@ module _ {xs blocks buffers : List ℕ} {d : Desk} {s : Alloc} (S : StandsFor xs
   pub reader-done : (share acc : ℕ) (xs′ blocks′ buffers′ : List ℕ) → acc ≡ freePlace xs f
       → ((r : Reply) → Outcome f d s (leaves r (settle (enter (newAcc false 0 share) b))) blocks buffers xs′ blocks′ buffers′)
       → Done f d s (openReader share b) blocks buffers xs′ blocks′ buffers′ (Opened acc 0)
-  unfolding openReader done leaves
+  unfolding openReader answering leaves
   reader-done share acc xs′ blocks′ buffers′ a out = record { outcome = out _; reply = ap (λ (n : ℕ). answers (Opened n 0) []) (sym (a ∙ place-found)) }
 
   -- a writer: the file in hand, purged or not, takes its open record
@@ -114,10 +114,10 @@ module _ {xs blocks buffers : List ℕ} {d : Desk} {s : Alloc} (S : StandsFor xs
 
     in-hand : x ≡ inHand c
     unfolding taken
-    in-hand = ex ∙ ap (λ (y : hand.File). go y) (began .row) ∙ hand-purged access (countSide xs f 0) b stored (count-closed xs f b eight (shown S f hf b e .rows))
+    in-hand = ex ∙ ap (λ (y : hand.File). go y) (began .row) ∙ hand-purged access (purgesAt xs f access) b stored (purges-is xs f b eight (shown S f hf b e .rows) access)
       where
         go : hand.File → hand.File
-        go y = elim (eqb access 1 && eqb (countSide xs f 0) places) [ true ↦ emptied y | false ↦ y ]
+        go y = elim (purgesAt xs f access) [ true ↦ emptied y | false ↦ y ]
 
     at-hand : Mid Stored f start xs blocks buffers x c
     at-hand = subst (λ (y : hand.File). Mid Stored f start xs blocks buffers y c) (sym in-hand) (mid-purge {J = Stored} began access (purged-stored access b stored))
@@ -134,7 +134,7 @@ module _ {xs blocks buffers : List ℕ} {d : Desk} {s : Alloc} (S : StandsFor xs
 
     pub writer-in : (share acc id : ℕ) (r : Ring) (xs′ blocks′ : List ℕ) → Writes access b → acc ≡ freePlace xs f → id ≡ nextId xs f → r ≡ ring.put (x .ring)
         → blocks′ ≡ sets blocks (shareBytes * f) (inscribed (x .words) (x .ring) (recOf 1 id []) (own.shareAt f blocks))
-        → xs′ ≡ fill xs (rowAt (placeRow (places * f + acc))) (placeWords (newRow 2 id share))
+        → xs′ ≡ fill xs (placeRowAt (places * f + acc)) (placeWords (newRow 2 id share))
         → Mid Fine f start xs′ blocks′ buffers (record { words = x .words; ring = r }) (enter (newAcc true id share) (putRec (openRec id) c))
     unfolding placeWords image.placeWords newAcc placeOf shareAt openRec freeId putRec say withStore
     writer-in share acc id r xs′ blocks′ h a i er eb w =
@@ -146,7 +146,7 @@ module _ {xs blocks buffers : List ℕ} {d : Desk} {s : Alloc} (S : StandsFor xs
     pub writer-done : (share acc id : ℕ) (xs′ blocks′ buffers′ : List ℕ) → acc ≡ freePlace xs f → id ≡ nextId xs f
         → ((r : Reply) → Outcome f d s (leaves r (settle (enter (newAcc true id share) (putRec (openRec id) c)))) blocks buffers xs′ blocks′ buffers′)
         → Done f d s (openWriter share c) blocks buffers xs′ blocks′ buffers′ (Opened acc id)
-    unfolding openWriter done leaves
+    unfolding openWriter answering leaves
     writer-done share acc id xs′ blocks′ buffers′ a i out =
-        subst (λ (n : ℕ). Done f d s (done (Opened (firstFree (c .accs)) n) (settle (enter (newAcc true n share) (putRec (openRec n) c)))) blocks buffers xs′ blocks′ buffers′ (Opened acc id)) (id-found id i)
+        subst (λ (n : ℕ). Done f d s (answering (Opened (firstFree (c .accs)) n) (settle (enter (newAcc true n share) (putRec (openRec n) c)))) blocks buffers xs′ blocks′ buffers′ (Opened acc id)) (id-found id i)
         record { outcome = out _; reply = ap (λ (n : ℕ). answers (Opened n id) []) (same-place ∙ sym (a ∙ place-found)) }

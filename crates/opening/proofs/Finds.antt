@@ -8,8 +8,8 @@ use native.Mathlib.Omega.{arith}
 use lib.Dec.{eqb}
 use lib.ListN.{length, getD}
 use borrow.Author.Tests.{eq-eqb, ne-eqb}
-use Rattle.tally.specs.Count.{bit}
-use Rattle.segment.specs.Layout.{rowAt, placeRow, rowWords}
+use Rattle.occurrences.specs.Count.{bit}
+use Rattle.segment.specs.Layout.{placeWidth, placeRowAt}
 use Rattle.segment.specs.Table.{row}
 use Rattle.segment.specs.Fields.{placeAt, placeRowOf}
 use Rattle.rules.specs.Limits.{places}
@@ -18,12 +18,12 @@ use Rattle.rules.specs.Requests.{countAcc, anyAcc}
 use Rattle.rules.specs.Open.{firstFree, holdsId, freeIdFrom, freeId}
 use Rattle.rules.proofs.Split.{by-cases, pick-true, pick-false}
 use Rattle.memory.specs.Image.{placeWords}
-use Rattle.judges.specs.Sides.{sideOf}
-use Rattle.judges.proofs.Counted.{Rows, rows-rest, rows-first, side-is}
+use Rattle.accessors.specs.Sides.{sideOf}
+use Rattle.accessors.proofs.Counted.{Rows, rows-rest, rows-first, side-is}
 use Rattle.opening.specs.Finding.{freeFrom, freePlace, rowHolds, heldFrom, idHeld, idFrom, nextId}
 
 -- the ID that the row of a place has
-id-is : (s : List ℕ) (i : ℕ) (a : Acc) → row s (rowAt (placeRow i)) rowWords ≡ placeWords (some a) → placeAt s i .id ≡ a .ident
+id-is : (s : List ℕ) (i : ℕ) (a : Acc) → row s (placeRowAt i) placeWidth ≡ placeWords (some a) → placeAt s i .id ≡ a .ident
 unfolding placeAt placeRowOf placeWords
 id-is s i a e = ap (λ (r : List ℕ). getD r 1 0) e
 
@@ -37,7 +37,7 @@ module _ (s : List ℕ) where
       pick-false _ _ _ (ne-eqb (placeAt s i .side) 0 (λ u. omega (arith, z, u))) ∙ ap suc (free-is (suc i) l (rows-rest s i (some a) l h))
 
   -- a row holds the ID where its accessor does
-  holds-some : (id i : ℕ) (a : Acc) → row s (rowAt (placeRow i)) rowWords ≡ placeWords (some a) → rowHolds id (placeAt s i) ≡ holdsId id a
+  holds-some : (id i : ℕ) (a : Acc) → row s (placeRowAt i) placeWidth ≡ placeWords (some a) → rowHolds id (placeAt s i) ≡ holdsId id a
   unfolding holdsId sideOf
   holds-some id i a e =
       rw (side-is s i (some a) e, id-is s i a e) (ap (λ (t : Bool). t && eqb (a .ident) id) (two (a .writer)))
@@ -46,7 +46,7 @@ module _ (s : List ℕ) where
       two true = refl
       two false = refl
 
-  holds-none : (id i : ℕ) → row s (rowAt (placeRow i)) rowWords ≡ placeWords none → rowHolds id (placeAt s i) ≡ false
+  holds-none : (id i : ℕ) → row s (placeRowAt i) placeWidth ≡ placeWords none → rowHolds id (placeAt s i) ≡ false
   unfolding sideOf
   holds-none id i e = rw (side-is s i none e)
 

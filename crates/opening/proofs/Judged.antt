@@ -5,7 +5,7 @@ use mathlib.Core.List.{List}
 use native.Mathlib.Omega.{arith}
 use Rattle.kinds.specs.declared.Answer.{Answer}
 use Rattle.rules.specs.State.{Built, built}
-use Rattle.rules.specs.Open.{shareOf, purged, openReader, openWriter}
+use Rattle.rules.specs.Open.{sharingOf, purged, openReader, openWriter}
 use Rattle.rules.specs.Calls.{ask}
 use Rattle.rules.specs.Calls as calls
 use Rattle.rules.specs.Desk.{Desk, fileOf}
@@ -23,7 +23,7 @@ module _ {xs blocks buffers : List ℕ} (f access share multi : ℕ) where
   asks-writer h (k, a) =
       (k, λ d s S. let A = accepted-open d f access share multi (a d s S) in (A .file, A .b, A .stands, (A .known .place, A .known .room (omega (arith, h)))))
 
-  module _ (P : Sound xs blocks buffers × Accepted f (calls.opens access share multi) xs blocks buffers) (given : ℕ) (g : given ≡ shareOf share) (xs′ blocks′ buffers′ : List ℕ) (r : Answer) where
+  module _ (P : Sound xs blocks buffers × Accepted f (calls.opens access share multi) xs blocks buffers) (given : ℕ) (g : given ≡ sharingOf share) (xs′ blocks′ buffers′ : List ℕ) (r : Answer) where
     pub reader-brings : access ≡ 0
         → ((d : Desk) (s : Alloc) (b : Built) → StandsFor xs blocks buffers d s → fileOf d f ≡ built b → Done f d s (openReader given b) blocks buffers xs′ blocks′ buffers′ r)
         → (d : Desk) (s : Alloc) → StandsFor xs blocks buffers d s → Done f d s (ask (fileOf d f) (calls.opens access share multi)) blocks buffers xs′ blocks′ buffers′ r

@@ -1,13 +1,9 @@
 -- Access 1 purges a file that has no accessor: the file in hand goes on behind its last record, and nothing is written.
-use Prim.Native.Nat.{ℕ, _+_}
+use Prim.Native.Nat.{ℕ}
 use mathlib.Core.Path.{_≡_, refl, sym, ap, _∙_}
 use mathlib.Core.Bool.{Bool, true, false, _&&_}
 use mathlib.Core.List.{List, [], _∷_, _++_}
-use native.Mathlib.Omega.{arith}
-use native.Mathlib.Decide.{ℕ-discrete}
 use lib.Dec.{eqb}
-use borrow.Author.Tests.{eq-eqb, ne-eqb}
-use Rattle.rules.specs.Limits.{places}
 use Rattle.rules.specs.State.{Hap, purges, Built}
 use Rattle.rules.specs.Store.{purge}
 use Rattle.rules.specs.Requests.{opened, withStore, say}
@@ -20,15 +16,15 @@ use Rattle.laws.specs.Changes.{GoodGeo}
 use Rattle.laws.proofs.Accessors.{purged-keeps}
 use Rattle.laws.proofs.Midst as laws
 use Rattle.laws.proofs.Room.{good-sized}
-use Rattle.blocks.specs.declared.ring.Ring.{Ring}
-use Rattle.blocks.specs.Ring as ring
-use Rattle.blocks.proofs.ring.Stores.{ring-purge}
+use Rattle.ring.specs.declared.Ring.{Ring}
+use Rattle.ring.specs.Ring as ring
+use Rattle.ring.proofs.Stores.{ring-purge}
 use Rattle.midst.specs.declared.File as hand
 use Rattle.midst.specs.File.{fileOfRow, inHand}
 use Rattle.segment.specs.Fields.{fileAt}
 use Rattle.midst.specs.Mid.{Start, Mid}
 use Rattle.midst.proofs.Stores.{mid-storing}
-use Rattle.judges.specs.Sides.{countSide}
+use Rattle.accessors.specs.Sides.{purgesAt}
 use Rattle.opening.specs.Opens.{emptied, taken}
 
 -- what is known of a file for the functions on its blocks
@@ -64,40 +60,20 @@ module _ {I J : Built → Type 0} {f : ℕ} {o : Start} {xs blocks buffers : Lis
       }) j (laws.mid-purged f (M .file) (o .alloc) access b (M .allots)) (purged-allots f access b (o .alloc))
       (M .share ∙ sym (purged-keeps (λ (c : Built). c .store .share ≡ b .store .share) access b (λ _. refl) refl)) refl (λ g n. refl)
 
--- all eight places are free where none is taken
-eight-free : (n m : ℕ) → n + m ≡ places → eqb n places ≡ eqb m 0
-eight-free n m e = go (ℕ-discrete m 0)
-  where
-    go : Dec (m ≡ 0) → eqb n places ≡ eqb m 0
-    go (yes u) = eq-eqb n places (omega arith) ∙ sym (eq-eqb m 0 u)
-    go (no u) = ne-eqb n places (λ v. u (omega arith)) ∙ sym (ne-eqb m 0 u)
-
--- the file in hand, n places of which are free
-pub hand-purged : (access n : ℕ) (b : Built) → Stored b → n + opened b ≡ places
-    → (elim (eqb access 1 && eqb n places) as (λ (t : Bool). hand.File) [ true ↦ emptied (inHand b) | false ↦ inHand b ]) ≡ inHand (purged access b)
+-- the file in hand, by the test
+pub hand-purged : (access : ℕ) (t : Bool) (b : Built) → Stored b → t ≡ (eqb access 1 && eqb (opened b) 0)
+    → (elim t as (λ (t : Bool). hand.File) [ true ↦ emptied (inHand b) | false ↦ inHand b ]) ≡ inHand (purged access b)
 unfolding purged say withStore
-hand-purged access n b (k, h) e =
-    rw (eight-free n (opened b) e) (by-cases (eqb access 1 && eqb (opened b) 0)
+hand-purged access t b (k, h) e =
+    rw e (by-cases (eqb access 1 && eqb (opened b) 0)
     (λ t. pick-true _ _ _ t ∙ ap (λ (r : Ring). record { words = b .geo .words; ring = r }) (sym (ring-purge (b .geo) (b .store) (good-sized (b .geo) k) h)) ∙ ap inHand (sym (pick-true _ _ _ t)))
     (λ t. pick-false _ _ _ t ∙ ap inHand (sym (pick-false _ _ _ t))))
 
--- by the tests as they are made
+module _ (xs : List ℕ) (f access : ℕ) (x : hand.File) (e : x ≡ fileOfRow (fileAt xs f)) (t : Bool) (k : t ≡ purgesAt xs f access) where
+  pub taken-plain : t ≡ false → x ≡ taken xs f access
+  unfolding taken
+  taken-plain h = e ∙ sym (pick-false _ _ _ (sym k ∙ h))
 
-taken-on : (xs : List ℕ) (f access : ℕ) → (eqb access 1 && eqb (countSide xs f 0) places) ≡ true → emptied (fileOfRow (fileAt xs f)) ≡ taken xs f access
-unfolding taken
-taken-on xs f access t = sym (pick-true _ _ _ t)
-
-taken-off : (xs : List ℕ) (f access : ℕ) → (eqb access 1 && eqb (countSide xs f 0) places) ≡ false → fileOfRow (fileAt xs f) ≡ taken xs f access
-unfolding taken
-taken-off xs f access t = sym (pick-false _ _ _ t)
-
-module _ (xs : List ℕ) (f access : ℕ) (x : hand.File) (e : x ≡ fileOfRow (fileAt xs f)) where
-  pub taken-plain : (access ≡ 1 → ⊥) → x ≡ taken xs f access
-  taken-plain h = e ∙ taken-off xs f access (rw (ne-eqb access 1 h))
-
-  module _ (n : ℕ) (c : n ≡ countSide xs f 0) (h : access ≡ 1) where
-    pub taken-shared : (n ≡ places → ⊥) → x ≡ taken xs f access
-    taken-shared k = e ∙ taken-off xs f access (rw (eq-eqb access 1 h) (ne-eqb (countSide xs f 0) places (λ u. k (c ∙ u))))
-
-    pub taken-alone : n ≡ places → (r : Ring) → r ≡ ring.purged (x .ring) → record { words = x .words; ring = r } ≡ taken xs f access
-    taken-alone k r q = rw q (ap emptied e ∙ taken-on xs f access (rw (eq-eqb access 1 h) (eq-eqb (countSide xs f 0) places (sym c ∙ k))))
+  pub taken-purged : t ≡ true → (r : Ring) → r ≡ ring.purged (x .ring) → record { words = x .words; ring = r } ≡ taken xs f access
+  unfolding taken
+  taken-purged h r q = rw q (ap emptied e ∙ sym (pick-true _ _ _ (sym k ∙ h)))

@@ -1,9 +1,8 @@
 -- What open works on, and what it makes of the file in hand.
 use Prim.Native.Nat.{ℕ, _<_}
 use mathlib.Core.Path.{_≡_}
-use mathlib.Core.Bool.{true, false, _&&_}
+use mathlib.Core.Bool.{true, false}
 use mathlib.Core.List.{List}
-use lib.Dec.{eqb}
 use Rattle.segment.specs.Fields.{fileAt}
 use Rattle.rules.specs.Limits.{files, places}
 use Rattle.rules.specs.State.{Built, built}
@@ -11,9 +10,9 @@ use Rattle.rules.specs.Requests.{opened}
 use Rattle.rules.specs.Open.{roomToOpen}
 use Rattle.rules.specs.Desk.{Desk, fileOf}
 use Rattle.rules.specs.Allocation.{Alloc}
-use Rattle.blocks.specs.Ring as ring
+use Rattle.ring.specs.Ring as ring
 use Rattle.memory.specs.Fine.{StandsFor}
-use Rattle.judges.specs.Sides.{countSide}
+use Rattle.accessors.specs.Sides.{purgesAt}
 use Rattle.midst.specs.declared.File.{File}
 use Rattle.midst.specs.File.{fileOfRow}
 
@@ -32,6 +31,6 @@ Writes access b = (opened b < places) × (roomToOpen access b ≡ true)
 abbrev pub emptied : File → File
 emptied x = record { words = x .words; ring = ring.purged (x .ring) }
 
--- file f, in hand: access 1 "purges if no accessor is open"
+-- file f, in hand, purged or not
 unfoldable pub taken : List ℕ → ℕ → ℕ → File
-taken xs f access = elim (eqb access 1 && eqb (countSide xs f 0) places) [ true ↦ emptied (fileOfRow (fileAt xs f)) | false ↦ fileOfRow (fileAt xs f) ]
+taken xs f access = elim (purgesAt xs f access) [ true ↦ emptied (fileOfRow (fileAt xs f)) | false ↦ fileOfRow (fileAt xs f) ]

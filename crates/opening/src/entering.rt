@@ -2,7 +2,7 @@
 ghost use mathlib.Core.Path.{_≡_};
 ghost use Prim.Native.Nat.{_+_, _*_, _<_};
 ghost use lib.ListN.{length};
-ghost use Rattle.segment.specs.Layout.{segmentBytes, rowAt, placeRow};
+ghost use Rattle.segment.specs.Layout.{segmentBytes, placeRowAt};
 ghost use Rattle.segment.specs.Table.{fill};
 ghost use Rattle.segment.specs.Fields.{placeWords, fileAt};
 ghost use Rattle.rules.specs.Limits.{files, places};
@@ -10,7 +10,7 @@ ghost use Rattle.rules.specs.State.{Built, built};
 ghost use Rattle.rules.specs.Open.{purged, openReader, openWriter};
 ghost use Rattle.rules.specs.Desk.{Desk, fileOf};
 ghost use Rattle.rules.specs.Allocation.{Alloc};
-ghost use Rattle.blocks.specs.Ring.{Ranged};
+ghost use Rattle.ring.specs.Ring.{Ranged};
 ghost use Rattle.memory.specs.Fine.{StandsFor};
 ghost use Rattle.midst.specs.File.{fileOfRow};
 ghost use Rattle.midst.specs.Outcome.{Sound, Done};
@@ -18,27 +18,22 @@ ghost use Rattle.opening.specs.Finding.{newRow};
 ghost use Rattle.opening.specs.Opens.{Each, Reads, Writes, taken};
 use crate::finding::free_id;
 use crate::finding::free_place;
+use accessors::sides::purges;
 use blocks::memory::put_at;
-use judges::sides::CLOSED;
-use judges::sides::READER;
-use judges::sides::WRITER;
-use judges::sides::count_side;
 use kinds::Answer;
 use kinds::limits::PLACES;
+use kinds::records::OPEN;
+use kinds::sides::READER;
+use kinds::sides::WRITER;
 use midst::File;
 use midst::take_file;
 use segment::PlaceRow;
 use settling::rest;
 
-// The access that purges, and the type of an open record.
-const PURGES: u8 = 1;
-
-const OPEN: u16 = 1;
-
 // The row of place `acc` of file f is that of an accessor that enters.
 fn enter(segment: &mut [u8], f: usize, acc: u8, side: u16, id: u16, share: u16)
     requires { ⌜ (length (now segment) ≡ segmentBytes) × (f < files) × (acc < places) ⌝ }
-    ensures { λ _. ⌜ now (segment .exit) ≡ fill (now (segment .entry)) (rowAt (placeRow (places * f + acc))) (placeWords (newRow side id share)) ⌝ }
+    ensures { λ _. ⌜ now (segment .exit) ≡ fill (now (segment .entry)) (placeRowAt (places * f + acc)) (placeWords (newRow side id share)) ⌝ }
 {
     let row = PlaceRow {
         side,
@@ -59,10 +54,7 @@ fn take(segment: &[u8], f: usize, access: u8) -> File
     ensures { λ r. ⌜ r ≡ taken (now (segment .entry)) f access ⌝ }
 {
     let file = take_file(segment, f);
-    if access != PURGES {
-        return file;
-    }
-    if count_side(segment, f, CLOSED) != PLACES as u16 {
+    if !purges(segment, f, access) {
         return file;
     }
     let ring = file.ring;
@@ -90,7 +82,7 @@ pub fn open_reader(
     Answer::Opened { acc, id: 0 }
 }
 
-// "A writer puts an open record."
+// "A writer puts an open record"
 pub fn open_writer(
     segment: &mut [u8],
     blocks: &mut [u8],

@@ -5,9 +5,9 @@ ghost use lib.ListN.{length};
 ghost use Rattle.rules.specs.Limits.{files, places};
 ghost use Rattle.segment.specs.Layout.{segmentBytes};
 ghost use Rattle.opening.specs.Finding.{freePlace, rowHolds, idHeld, nextId};
-use judges::sides::CLOSED;
-use judges::sides::WRITER;
 use kinds::limits::PLACES;
+use kinds::sides::CLOSED;
+use kinds::sides::WRITER;
 use segment::PlaceRow;
 
 // "Accessor: the smallest free place."

@@ -1,6 +1,4 @@
 // Build and open. What is asked has been judged and is not refused; here it is done.
-ghost use mathlib.Core.Path.{_≡_};
-ghost use Rattle.rules.specs.Open.{shareOf};
 ghost use Rattle.rules.specs.Calls.{ask};
 ghost use Rattle.rules.specs.Calls as calls;
 ghost use Rattle.rules.specs.Desk.{Desk, fileOf};
@@ -11,6 +9,7 @@ ghost use Rattle.midst.specs.Outcome.{Sound, Accepted, Done};
 mod entering;
 mod finding;
 
+use accessors::share_of;
 use blocks::memory::clear;
 use entering::open_reader;
 use entering::open_writer;
@@ -53,16 +52,8 @@ pub fn build(
     clear(blocks, f);
     words::zero(buffers, FILE_BUFFERS * f, FILE_BUFFERS);
     segment::write_file(segment, f, row);
-    Answer::Built {
-        capacity: capacity(factor, count),
-    }
-}
-
-// "Share 0 counts as 1".
-fn share_of(share: u8) -> u16
-    ensures { λ r. ⌜ r ≡ shareOf share ⌝ }
-{
-    if share == 0 { 1 } else { share as u16 }
+    let room = capacity(factor, count) as u16;
+    Answer::Built { capacity: room }
 }
 
 // An accessor of file f is opened: access 0 reads, any other writes. Multiaccess has been judged, and nothing goes by it here.

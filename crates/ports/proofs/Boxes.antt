@@ -8,8 +8,8 @@ use lib.Dec.{ltb}
 use lib.ListN.{length, getD, set, take, drop, length-set, length-map, take-append-drop}
 use lib.Seq.{take-length, split-at}
 use Rattle.rules.specs.Limits.{entries}
-use Rattle.tally.proofs.Counts.{count-head}
-use Rattle.segment.specs.Layout.{listCount, linkAt, rowAt, rowWords}
+use Rattle.occurrences.proofs.Counts.{count-head}
+use Rattle.segment.specs.Layout.{listCount, linkAt, rowAt, rowWidth}
 use Rattle.segment.specs.Table.{nth, putNth, row, dataOf}
 use Rattle.segment.proofs.Apart.{Slot, slot-link, dataOf-slot, row-slot}
 use Rattle.ports.specs.Slots.{seek, insert, unlink, append}
@@ -24,7 +24,7 @@ use Rattle.ports.proofs.Maps.{map-all, map-at, map-cut, map-putIn, map-
 -- t is as s but for heads and links
 pub record Rest (s t : List ℕ) : Type 0 where
   pub same-data : (z : ℕ) → dataOf t z ≡ dataOf s z
-  pub same-rows : (i : ℕ) → row t (rowAt i) rowWords ≡ row s (rowAt i) rowWords
+  pub same-rows : (i : ℕ) → row t (rowAt i) (rowWidth i) ≡ row s (rowAt i) (rowWidth i)
 
 insert-rest : (s : List ℕ) (p e : ℕ) → Slot p → e < entries → Rest s (insert s p e)
 unfolding insert

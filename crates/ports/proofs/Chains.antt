@@ -1,15 +1,15 @@
 -- What a change of the segment does to one chain of entries, and where the walks along it come to.
-use Prim.Native.Nat.{ℕ, _+_, _-_, _≤_, _<_}
+use Prim.Native.Nat.{ℕ, _-_, _≤_, _<_}
 use mathlib.Core.Path.{_≡_, refl, sym, _∙_}
 use mathlib.Core.List.{List, [], _∷_, _++_}
 use native.Mathlib.Omega.{arith}
 use borrow.Author.Tests.{lt-ltb, le-ltb}
 use lib.ListN.{length}
 use Rattle.rules.specs.Limits.{entries}
-use Rattle.tally.specs.Count.{count}
-use Rattle.tally.proofs.Counts.{count-head, count-append, count-apart, bit-eq}
-use Rattle.tally.proofs.Pigeons.{Below}
-use Rattle.segment.specs.Layout.{linkAt, segmentBytes}
+use Rattle.occurrences.specs.Count.{count}
+use Rattle.occurrences.proofs.Counts.{count-head, count-append, count-apart, bit-eq}
+use Rattle.occurrences.proofs.Pigeons.{Below}
+use Rattle.segment.specs.Layout.{linkAt, segmentBytes, fileRows}
 use Rattle.segment.specs.Table.{nth, putNth}
 use Rattle.segment.proofs.Rows.{length-putNth, nth-same, nth-other}
 use Rattle.segment.proofs.Apart.{Slot, slot-link}
@@ -76,7 +76,7 @@ end-is s p (x ∷ xs) n c h = end-step s p x (sym (c .0)) n (omega arith) (c .1)
 
 -- an entry is put in
 module _ (s : List ℕ) (size : length s ≡ segmentBytes) (e : ℕ) (small : e < entries) where
-  insert-here : (q : ℕ) → q < 1362 → nth (insert s q e) q ≡ e
+  insert-here : (q : ℕ) → q < fileRows → nth (insert s q e) q ≡ e
   unfolding insert
   insert-here q h = nth-same (putNth s (linkAt e) (nth s q)) q e (rw length-putNth (omega arith))
 
@@ -89,7 +89,7 @@ module _ (s : List ℕ) (size : length s ≡ segmentBytes) (e : ℕ) (small : e 
   insert-other q r d f = nth-other (putNth s (linkAt e) (nth s q)) q e r d ∙ nth-other s (linkAt e) (nth s q) r f
 
   -- one that is in no slot of the chain, behind xs
-  pub chain-insert : (p : ℕ) (xs ys : List ℕ) → p < 1362 → Chain s p (xs ++ ys) → ((z : ℕ) → count z (xs ++ ys) ≤ 1) → count e (xs ++ ys) ≡ 0
+  pub chain-insert : (p : ℕ) (xs ys : List ℕ) → p < fileRows → Chain s p (xs ++ ys) → ((z : ℕ) → count z (xs ++ ys) ≤ 1) → count e (xs ++ ys) ≡ 0
       → Off p (xs ++ ys) → (p ≡ linkAt e → ⊥) → Chain (insert s (slotAt p xs) e) p (xs ++ e ∷ ys)
   unfolding Chain count
   chain-insert p [] ys h c n a o d = (
@@ -117,7 +117,7 @@ unfolding unlink
 unlink-none s q h = rw (le-ltb (nth s q) entries h)
 
 -- the one behind xs
-pub chain-unlink : (s : List ℕ) → length s ≡ segmentBytes → (p : ℕ) (xs : List ℕ) (e : ℕ) (ys : List ℕ) → p < 1362 → Chain s p (xs ++ e ∷ ys)
+pub chain-unlink : (s : List ℕ) → length s ≡ segmentBytes → (p : ℕ) (xs : List ℕ) (e : ℕ) (ys : List ℕ) → p < fileRows → Chain s p (xs ++ e ∷ ys)
     → ((z : ℕ) → count z (xs ++ e ∷ ys) ≤ 1) → Off p (xs ++ e ∷ ys) → Chain (putNth s (slotAt p xs) (nth s (linkAt e))) p (xs ++ ys)
 unfolding Chain count
 chain-unlink s size p [] e ys h c n o =

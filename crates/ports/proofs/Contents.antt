@@ -7,9 +7,9 @@ use native.Mathlib.Decide.{ℕ-discrete}
 use lib.ListN.{length, getD, set, length-set}
 use lib.Seq.{getD-set-same, getD-set-other}
 use Rattle.rules.specs.Limits.{entries}
-use Rattle.tally.specs.Count.{count}
-use Rattle.tally.proofs.Counts.{bit-eq, count-head, count-at}
-use Rattle.segment.specs.Layout.{listCount, dataWords, rowAt, rowCount, rowWords}
+use Rattle.occurrences.specs.Count.{count}
+use Rattle.occurrences.proofs.Counts.{bit-eq, count-head, count-at}
+use Rattle.segment.specs.Layout.{listCount, dataWords, rowCount, rowAt, rowWidth}
 use Rattle.segment.specs.Table.{row, fill, dataOf, putData}
 use Rattle.segment.proofs.Apart.{dataOf-same, dataOf-other, row-putData, row-fill-same, row-fill-other, dataOf-fill}
 use Rattle.ports.specs.Lists.{Boxes}
@@ -71,7 +71,7 @@ module _ {s hand : List ℕ} {hm ls : List (List ℕ)} {ms : List (List (List �
           ∙ B .boxes j g)
 
   -- row i
-  pub fill-boxes : (i : ℕ) (r : List ℕ) → i < rowCount → length r ≡ rowWords → Boxes (fill s (rowAt i) r) hand hm ls ms (set rs i r)
+  pub fill-boxes : (i : ℕ) (r : List ℕ) → i < rowCount → length r ≡ rowWidth i → Boxes (fill s (rowAt i) r) hand hm ls ms (set rs i r)
   fill-boxes i r h n =
       record {
         lists = fill-lists (B .lists) i r;
@@ -82,6 +82,6 @@ module _ {s hand : List ℕ} {hm ls : List (List ℕ)} {ms : List (List (List �
         rowed = length-set rs i r ∙ B .rowed;
       }
     where
-      go : (j : ℕ) → j < rowCount → Dec (j ≡ i) → row (fill s (rowAt i) r) (rowAt j) rowWords ≡ getD (set rs i r) j []
+      go : (j : ℕ) → j < rowCount → Dec (j ≡ i) → row (fill s (rowAt i) r) (rowAt j) (rowWidth j) ≡ getD (set rs i r) j []
       go j k (yes e) = rw (e, getD-set-same rs i r [] (rw (B .rowed) h)) (row-fill-same s i r n (B .lists .size) h)
       go j k (no d) = rw (getD-set-other rs i j r [] d) (row-fill-other s i r n j d ∙ B .rows j k)

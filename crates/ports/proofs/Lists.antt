@@ -8,9 +8,9 @@ use lib.Dec.{ltb}
 use lib.ListN.{length, getD, set, length-set}
 use lib.Seq.{getD-set-same, getD-set-other}
 use Rattle.rules.specs.Limits.{entries}
-use Rattle.tally.specs.Count.{count}
-use Rattle.tally.proofs.Counts.{bit-le, bit-eq, bit-lt, count-head, count-append, count-apart, total-set, total-one, total-two}
-use Rattle.tally.proofs.Pigeons.{holes}
+use Rattle.occurrences.specs.Count.{count}
+use Rattle.occurrences.proofs.Counts.{bit-le, bit-eq, bit-lt, count-head, count-append, count-apart, total-set, total-one, total-two}
+use Rattle.occurrences.proofs.Pigeons.{holes}
 use Rattle.segment.specs.Layout.{listCount, linkAt, dataWords, rowAt, segmentBytes}
 use Rattle.segment.specs.Table.{nth, putNth, fill, putData}
 use Rattle.segment.proofs.Rows.{length-putNth, length-fill, nth-other}

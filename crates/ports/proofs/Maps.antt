@@ -6,8 +6,8 @@ use native.Mathlib.Omega.{arith}
 use native.Mathlib.Decide.{ℕ-discrete}
 use lib.ListN.{length, getD, set, take, drop}
 use lib.Seq.{getD-set-same, getD-set-other}
-use Rattle.tally.specs.Count.{count}
-use Rattle.tally.proofs.Counts.{bit-eq, count-head, count-at}
+use Rattle.occurrences.specs.Count.{count}
+use Rattle.occurrences.proofs.Counts.{bit-eq, count-head, count-at}
 use Rattle.ports.specs.Index.{cut, putIn}
 
 module _ {A B : Type 0} where

@@ -5,8 +5,8 @@ use mathlib.Core.List.{List, [], _∷_, map}
 use lib.Dec.{ltb}
 use lib.ListN.{length, getD}
 use Rattle.rules.specs.Limits.{entries}
-use Rattle.tally.specs.Count.{bit, count, total}
-use Rattle.segment.specs.Layout.{listCount, nil, linkAt, rowCount, rowWords, rowAt, segmentBytes}
+use Rattle.occurrences.specs.Count.{bit, count, total}
+use Rattle.segment.specs.Layout.{listCount, nil, linkAt, rowCount, rowAt, rowWidth, segmentBytes}
 use Rattle.segment.specs.Table.{nth, row, dataOf}
 
 -- from slot p the links lead through the entries xs, in this order, and then to nil
@@ -14,7 +14,7 @@ unfoldable pub Chain : List ℕ → ℕ → List ℕ → Type 0
 Chain s p [] = nth s p ≡ nil
 Chain s p (x ∷ xs) = (nth s p ≡ x) × (x < entries) × Chain s (linkAt x) xs
 
--- the segment holds the lists ls, one for each head, and "each ten-word entry is always on exactly one list", or in hand
+-- the segment holds the lists ls, one for each head, and "Each ten-word entry is always on exactly one list", or in hand
 pub record Lists (s hand : List ℕ) (ls : List (List ℕ)) : Type 0 where
   pub size : length s ≡ segmentBytes
   pub heads : length ls ≡ listCount
@@ -27,5 +27,5 @@ pub record Boxes (s hand : List ℕ) (hm : List (List ℕ)) (ls : List (List ℕ
   pub held : map (dataOf s) hand ≡ hm
   pub boxes : (l : ℕ) → l < listCount → map (dataOf s) (getD ls l []) ≡ getD ms l []
   pub sized : length ms ≡ listCount
-  pub rows : (i : ℕ) → i < rowCount → row s (rowAt i) rowWords ≡ getD rs i []
+  pub rows : (i : ℕ) → i < rowCount → row s (rowAt i) (rowWidth i) ≡ getD rs i []
   pub rowed : length rs ≡ rowCount

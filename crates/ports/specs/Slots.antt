@@ -1,5 +1,5 @@
 -- What each operation on lists does to the segment's bytes. A slot is the number of a word that holds an entry's number or nil: a head, or an
--- entry's link. A word below 128 is an entry's number; any other ends the list, so no memory can lead a walk out of the segment.
+-- entry's link. A word below `entries` is an entry's number; any other ends the list, so no memory can lead a walk out of the segment.
 use Prim.Native.Nat.{ℕ, zero, suc}
 use mathlib.Core.Bool.{Bool, cond}
 use mathlib.Core.List.{List}

@@ -1,11 +1,11 @@
-// The 82 lists of the segment. A slot is the number of a word that holds an entry's number or nil: a list's head, or an entry's link; the first
-// of a list is its head, whose number is the list's. Slots are below 1362, where the rows begin.
-// Whatever is not below 128 ends a walk, and no walk goes on for more than 128 links: no memory can lead one out of the segment or round a ring.
+// The lists of the segment. A slot is the number of a word that holds an entry's number or nil: a list's head, or an entry's link; the first
+// of a list is its head, whose number is the list's. Slots lie before the rows.
+// Whatever is no entry's number ends a walk, and no walk goes on for more links than there are entries: no memory can lead one out of the segment or round a ring.
 ghost use mathlib.Core.Path.{_≡_};
 ghost use Prim.Native.Nat.{_<_};
 ghost use lib.ListN.{length};
 ghost use Rattle.rules.specs.Limits.{entries};
-ghost use Rattle.segment.specs.Layout.{freeList, segmentBytes};
+ghost use Rattle.segment.specs.Layout.{freeList, segmentBytes, fileRows};
 ghost use Rattle.segment.specs.Table.{nth};
 ghost use Rattle.segment.specs.Fields.{entryWords};
 ghost use Rattle.ports.specs.Slots.{endSlot, seek, has, over, insert, unlink, append, taken, released};
@@ -15,8 +15,8 @@ use segment::layout;
 // The slot at the end of the list at slot l.
 fn end_slot(s: &[u8], l: usize) -> usize
     requires { ⌜ length (now s) ≡ segmentBytes ⌝ }
-    requires { ⌜ l < 1362 ⌝ }
-    ensures { λ r. ⌜ (r ≡ endSlot (now (s .entry)) l entries) × (r < 1362) ⌝ }
+    requires { ⌜ l < fileRows ⌝ }
+    ensures { λ r. ⌜ (r ≡ endSlot (now (s .entry)) l entries) × (r < fileRows) ⌝ }
 {
     let mut p = l;
     let mut n = layout::ENTRIES;
@@ -34,8 +34,8 @@ fn end_slot(s: &[u8], l: usize) -> usize
 // The first slot of the list at slot l whose entry is of the place, or the list's end.
 pub fn seek_place(s: &[u8], l: usize, place: u16) -> usize
     requires { ⌜ length (now s) ≡ segmentBytes ⌝ }
-    requires { ⌜ l < 1362 ⌝ }
-    ensures { λ r. ⌜ (r ≡ seek (has 0 place) (now (s .entry)) l entries) × (r < 1362) ⌝ }
+    requires { ⌜ l < fileRows ⌝ }
+    ensures { λ r. ⌜ (r ≡ seek (has 0 place) (now (s .entry)) l entries) × (r < fileRows) ⌝ }
 {
     let mut p = l;
     let mut n = layout::ENTRIES;
@@ -56,8 +56,8 @@ pub fn seek_place(s: &[u8], l: usize, place: u16) -> usize
 // The first slot of the list at slot l whose entry has more seconds, or the list's end: a timer of as many goes in there, behind its equals.
 pub fn seek_over(s: &[u8], l: usize, seconds: u16) -> usize
     requires { ⌜ length (now s) ≡ segmentBytes ⌝ }
-    requires { ⌜ l < 1362 ⌝ }
-    ensures { λ r. ⌜ (r ≡ seek (over 7 seconds) (now (s .entry)) l entries) × (r < 1362) ⌝ }
+    requires { ⌜ l < fileRows ⌝ }
+    ensures { λ r. ⌜ (r ≡ seek (over 7 seconds) (now (s .entry)) l entries) × (r < fileRows) ⌝ }
 {
     let mut p = l;
     let mut n = layout::ENTRIES;
@@ -78,7 +78,7 @@ pub fn seek_over(s: &[u8], l: usize, seconds: u16) -> usize
 // Entry e is put in at slot p: in front of the list where p is its head.
 pub fn insert_at(s: &mut [u8], p: usize, e: u16)
     requires { ⌜ length (now s) ≡ segmentBytes ⌝ }
-    requires { ⌜ p < 1362 ⌝ }
+    requires { ⌜ p < fileRows ⌝ }
     requires { ⌜ e < entries ⌝ }
     ensures { λ _. ⌜ now (s .exit) ≡ insert (now (s .entry)) p e ⌝ }
 {
@@ -90,7 +90,7 @@ pub fn insert_at(s: &mut [u8], p: usize, e: u16)
 // What slot p holds is taken out and handed back: the first of the list where p is its head. At the end of a list nothing changes.
 pub fn unlink_at(s: &mut [u8], p: usize) -> u16
     requires { ⌜ length (now s) ≡ segmentBytes ⌝ }
-    requires { ⌜ p < 1362 ⌝ }
+    requires { ⌜ p < fileRows ⌝ }
     ensures { λ r. ⌜ (r ≡ nth (now (s .entry)) p) × (now (s .exit) ≡ unlink (now (s .entry)) p) ⌝ }
 {
     let e = segment::get(s, p);
@@ -104,7 +104,7 @@ pub fn unlink_at(s: &mut [u8], p: usize) -> u16
 // Entry e is put in at the end of the list at slot l.
 pub fn append_to(s: &mut [u8], l: usize, e: u16)
     requires { ⌜ length (now s) ≡ segmentBytes ⌝ }
-    requires { ⌜ l < 1362 ⌝ }
+    requires { ⌜ l < fileRows ⌝ }
     requires { ⌜ e < entries ⌝ }
     ensures { λ _. ⌜ now (s .exit) ≡ append (now (s .entry)) l e ⌝ }
 {
@@ -112,7 +112,7 @@ pub fn append_to(s: &mut [u8], l: usize, e: u16)
     insert_at(s, p, e);
 }
 
-// The first free entry is taken and filled, and its number handed back; 128 or more, and nothing changes, where none is free.
+// The first free entry is taken and filled, and its number handed back; no entry's number, and nothing changes, where none is free.
 pub fn take_entry(s: &mut [u8], m: Entry) -> u16
     requires { ⌜ length (now s) ≡ segmentBytes ⌝ }
     ensures { λ r. ⌜ (r ≡ nth (now (s .entry)) freeList) × (now (s .exit) ≡ taken (now (s .entry)) (entryWords m)) ⌝ }

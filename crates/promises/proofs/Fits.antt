@@ -17,7 +17,7 @@ use Rattle.rules.specs.Look.{oldest, lookFile, lookReq}
 use Rattle.rules.specs.Look as looking
 use Rattle.rules.specs.Sheet.{sheet}
 use Rattle.rules.specs.Sheet as sheets
-use Rattle.rules.specs.Calls.{askBuilt, askUnbuilt, ask, refusal}
+use Rattle.rules.specs.Calls.{askBuilt, askUnbuilt, ask, refusal, onAcc}
 use Rattle.rules.specs.Calls as calls
 use Rattle.rules.specs.Desk.{Desk, asked, Responded, answered, respond, replyBytes, fileOf}
 use Rattle.rules.specs.Desk as rules
@@ -61,8 +61,8 @@ module _ (b : Built) (k : Fine b) where
   req-short (readDone st log v) h = by-cases (eqb st 0) (λ z. rw (lookReq, z) (h .0)) (λ z. rw (lookReq, z) file-short)
   req-short (writeDone st log) h = file-short
 
-  look-short : (p : ℕ) → length (replyBytes (looking.look p b .reply)) ≤ bufferBytes
-  unfolding looking.look leaves replyBytes
+  look-short : (p : ℕ) → length (replyBytes (onAcc (calls.look p) p (λ a. looking.look a b) b .reply)) ≤ bufferBytes
+  unfolding onAcc refusal looking.look leaves replyBytes
   look-short p =
       opt (λ (o : Out). length (replyBytes (o .reply)) ≤ bufferBytes) (accAt b p) (λ _. omega arith)
       (λ a e. both (λ (o : Out). length (replyBytes (o .reply)) ≤ bufferBytes) (a .writer) (λ _. omega arith) (λ _. req-short (a .req) (request-bounded b p a (k .bounds) e)))

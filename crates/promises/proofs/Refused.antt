@@ -8,7 +8,7 @@ use Rattle.rules.specs.Allocation.{Alloc, allocAsked}
 use Rattle.memory.specs.Fine.{StandsFor}
 use Rattle.midst.specs.Outcome.{replyStatus, statusOf, refusalOf}
 use Rattle.midst.proofs.Refused.{stands-refused}
-use Rattle.midst.proofs.Stayed.{still-stays}
+use Rattle.midst.proofs.StandsBehind.{still-stays}
 use Rattle.promises.specs.Promise.{Memories, Standing, Seen, stands, replyOf, Behind}
 use Rattle.promises.proofs.Same.{behind-same}
 

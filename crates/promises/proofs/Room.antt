@@ -1,5 +1,5 @@
 -- The answer to an event has room in the 264 bytes that it is lent.
-use Prim.Native.Nat.{ℕ, _+_, _*_, _≤_, _<_}
+use Prim.Native.Nat.{ℕ, _*_, _≤_, _<_}
 use mathlib.Core.Path.{_≡_, refl, ap, subst}
 use mathlib.Core.Bool.{Bool, cond, _&&_, _||_}
 use mathlib.Core.List.{List, [], _++_, append-nil}
@@ -8,7 +8,7 @@ use native.Mathlib.Omega.{arith}
 use borrow.Author.Tests.{ltb-true}
 use lib.Dec.{ltb, leb, eqb}
 use lib.ListN.{length, take, drop, length-append, length-take}
-use Rattle.words.specs.Word.{word}
+use Rattle.words.specs.Word.{word, Bytes}
 use Rattle.kinds.specs.declared.Answer.{Answer}
 use Rattle.kinds.specs.declared.Answer.the-variants.{Opened, Read, Written, Controlled, Collected, Closed, Passed, Counted, Status}
 use Rattle.kinds.specs.declared.Answer.the-variants as answer
@@ -26,12 +26,12 @@ use Rattle.rules.specs.Requests.{accAt, isIdle, writers, readers, fits, opened,
 use Rattle.rules.specs.Settle.{handed}
 use Rattle.rules.specs.Answers.{answerBytes}
 use Rattle.rules.specs.Frames.{frameOf}
-use Rattle.rules.specs.Reply.{Reply, answers, Out, leaves, done, status, unmade}
-use Rattle.rules.specs.Open.{build, shareOf, otherShare, crowded, openReader, openWriter, roomToOpen, open′}
+use Rattle.rules.specs.Reply.{Reply, answers, Out, leaves, answering, status, unmade}
+use Rattle.rules.specs.Open.{build, sharingOf, otherShare, crowded, openReader, openWriter, roomToOpen, openFile}
 use Rattle.rules.specs.Transfer.{mayWait, readOn, read, isNil, writeOn, write, collected, collect}
 use Rattle.rules.specs.Controls.{switched, ofReader, abort, whileIdle, control}
 use Rattle.rules.specs.Close.{close}
-use Rattle.rules.specs.Look.{counts}
+use Rattle.rules.specs.Counts.{counts}
 use Rattle.rules.specs.Calls.{Ask, refusal, onAcc, askBuilt, askUnbuilt, ask}
 use Rattle.rules.specs.Calls as calls
 use Rattle.rules.specs.Desk.{Desk, Responded, on, frameAsks, fileOf, replyBytes, asked, answered, respond}
@@ -41,7 +41,6 @@ use Rattle.laws.specs.Outstanding.{reqOf}
 use Rattle.laws.specs.Bounds.{Bounded, Bounds}
 use Rattle.laws.specs.Runs.{OnFile}
 use Rattle.laws.proofs.Calls.{readable-bytes}
-use Rattle.memory.specs.Stands.{Bytes}
 use Rattle.memory.specs.Fine.{Fine}
 use Rattle.promises.specs.Promise.{Memories, Standing, Seen, stands, lent, replyOf, givenSize, Promise}
 use Rattle.promises.specs.Promise as host
@@ -86,8 +85,8 @@ handed-short : (typed : Bool) (n : ℕ) (r : Rec) → n ≤ mostReadBytes → le
 unfolding handed
 handed-short typed n r h = omega (arith, h, take-short n (cond typed (word (r .typ) ++ word (r .wid) ++ r .body) (r .body)))
 
-done-short : (a : Answer) (b : Built) → ShortOut (done a b)
-unfolding done leaves
+done-short : (a : Answer) (b : Built) → ShortOut (answering a b)
+unfolding answering leaves
 done-short a b = plain a
 
 status-short : (op st : ℕ) (b : Built) → ShortOut (status op st b)
@@ -129,11 +128,11 @@ build-short r b n x =
     (λ _. both ShortOut (fitsShare r b (dataBlocks n b x)) (λ _. done-short _ _) (λ _. plain _))
     (λ _. plain _)
 
-open-short : (access share multi : ℕ) (b : Built) → ShortOut (open′ access share multi b)
-unfolding open′ openReader openWriter
+open-short : (access share multi : ℕ) (b : Built) → ShortOut (openFile access share multi b)
+unfolding openFile openReader openWriter
 open-short access share multi b =
     both ShortOut (leb access mostMode && leb share mostMode && leb multi mostMode)
-    (λ _. both ShortOut (eqb multi 3 || ltb 0 (countAcc (otherShare (shareOf share)) (b .accs)) || crowded (ltb 0 access) (shareOf share) b)
+    (λ _. both ShortOut (eqb multi 3 || ltb 0 (countAcc (otherShare (sharingOf share)) (b .accs)) || crowded (ltb 0 access) (sharingOf share) b)
     (λ _. status-short 2 40 b)
     (λ _. both ShortOut (leb places (opened b)) (λ _. status-short 2 41 b)
     (λ _. both ShortOut (ltb 0 access)
@@ -298,7 +297,7 @@ seen-short xs blocks buffers none S fr = omega arith
 seen-short xs blocks buffers (some v) (stands d s S) fr = event-fits d (S .fine) fr
 
 -- the answer of an event call has at most 264 bytes, whatever the memories
-pub answer-fits : (m m′ : Memories) (memory fr memory′ : List ℕ) (n : ℕ) → Bytes (m .segment) → Bytes (m .blocks) → Bytes (m .buffers)
+answer-fits : (m m′ : Memories) (memory fr memory′ : List ℕ) (n : ℕ) → Bytes (m .segment) → Bytes (m .blocks) → Bytes (m .buffers)
     → Promise m (host.event memory fr) (host.answer n memory′) m′ → n ≤ answerRoom
 unfolding Promise host.answered lent replyOf replyBytes givenSize
 answer-fits m m′ memory fr memory′ n bs bb bf P =
@@ -308,3 +307,8 @@ answer-fits m m′ memory fr memory′ n bs bb bf P =
     both (λ (w : Option Standing). length (replyBytes (replyOf w (desk.event fr))) ≤ answerRoom) (eqb (length memory) answerRoom)
     (λ _. seen-short (m .segment) (m .blocks) (m .buffers) v S fr) (λ _. omega arith) in
     omega (arith, e, k)
+
+-- so that who keeps the promise can say it with the promise
+pub with-room : (m m′ : Memories) (memory fr memory′ : List ℕ) (n : ℕ) → Bytes (m .segment) → Bytes (m .blocks) → Bytes (m .buffers)
+    → Promise m (host.event memory fr) (host.answer n memory′) m′ → Promise m (host.event memory fr) (host.answer n memory′) m′ × (n ≤ answerRoom)
+with-room m m′ memory fr memory′ n bs bb bf P = (P, answer-fits m m′ memory fr memory′ n bs bb bf P)

@@ -8,7 +8,7 @@ use Rattle.rules.specs.Desk.{Desk, Call, asked, fileOf, respond}
 use Rattle.rules.specs.Allocation.{Alloc, allocAsked}
 use Rattle.laws.specs.Queues.{Agree}
 use Rattle.laws.proofs.Files.{on-file}
-use Rattle.memory.specs.Stands.{Bytes}
+use Rattle.words.specs.Word.{Bytes}
 use Rattle.memory.specs.Covers.{Alike}
 use Rattle.memory.specs.Fine.{Fine, StandsFor}
 use Rattle.memory.proofs.Once.{agreed-covers}

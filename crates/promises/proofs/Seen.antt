@@ -6,10 +6,10 @@ use mathlib.Core.Option.{Option, none, some}
 use Prim.Native.Nat.{ℕ}
 use Rattle.rules.specs.Desk.{Desk}
 use Rattle.rules.specs.Allocation.{Alloc}
-use Rattle.memory.specs.Stands.{Bytes}
+use Rattle.words.specs.Word.{Bytes}
 use Rattle.memory.specs.Fine.{StandsFor}
 use Rattle.sound.specs.Sound.{soundly}
-use Rattle.sound.proofs.desk.Both.{sound-stands, stands-sound}
+use Rattle.decision.proofs.desk.Both.{sound-stands, stands-sound}
 use Rattle.promises.specs.Promise.{Standing, Seen, unsound, stands}
 
 module _ {xs blocks buffers : List ℕ} where

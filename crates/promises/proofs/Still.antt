@@ -1,6 +1,6 @@
 -- Look and save leave the desk and the allocation as they are, and so the memories.
 use Prim.Native.Nat.{ℕ}
-use mathlib.Core.Path.{_≡_, refl, sym, ap, _∙_}
+use mathlib.Core.Path.{_≡_, refl, ap, _∙_}
 use mathlib.Core.Bool.{Bool, true, false}
 use mathlib.Core.List.{List, []}
 use mathlib.Core.Option.{Option, none, some}
@@ -8,14 +8,14 @@ use lib.Dec.{ltb, leb, eqb}
 use lib.ListN.{length, set}
 use borrow.Author.Tests.{ltb-true}
 use Rattle.rules.specs.Limits.{files}
-use Rattle.rules.specs.State.{Hap, Req, idle, reading, writing, readDone, writeDone, Built, File, unbuilt, built}
+use Rattle.rules.specs.State.{Req, idle, reading, writing, readDone, writeDone, Built, File, unbuilt, built}
 use Rattle.rules.specs.Requests.{accAt}
 use Rattle.rules.specs.Reply.{Reply, Out, hushed, leaves, unmade}
 use Rattle.rules.specs.Look.{oldest, lookFile, lookReq}
 use Rattle.rules.specs.Look as looking
 use Rattle.rules.specs.Sheet.{sheet}
 use Rattle.rules.specs.Sheet as sheets
-use Rattle.rules.specs.Calls.{Ask, askBuilt, askUnbuilt, ask}
+use Rattle.rules.specs.Calls.{Ask, askBuilt, askUnbuilt, ask, onAcc}
 use Rattle.rules.specs.Calls as calls
 use Rattle.rules.specs.Desk.{Desk, Call, asked, on, answered, respond, fileOf}
 use Rattle.rules.specs.Desk as rules
@@ -25,8 +25,9 @@ use Rattle.laws.specs.Runs.{OnFile}
 use Rattle.laws.specs.Entries.{Calm, Agreed}
 use Rattle.laws.proofs.Allocated.{happens-here}
 use Rattle.midst.proofs.Begins.{file-here}
-use Rattle.midst.proofs.Stayed.{still-stays}
+use Rattle.midst.proofs.StandsBehind.{still-stays}
 use Rattle.promises.specs.Promise.{Memories, Standing, Seen, stands, Behind, lent}
+use Rattle.midst.proofs.RowUntouched.{hushed-past}
 
 Still : Built → Out → Type 0
 Still b o = (o .file ≡ built (hushed b)) × (o .haps ≡ b .past)
@@ -47,8 +48,8 @@ req-still (writing w d) b = file-still b
 req-still (readDone st l d) b = both (Still b) (eqb st 0) (λ _. leaves-still _ b) (λ _. file-still b)
 req-still (writeDone st l) b = file-still b
 
-look-still : (p : ℕ) (b : Built) → Still b (looking.look p b)
-unfolding looking.look
+look-still : (p : ℕ) (b : Built) → Still b (onAcc (calls.look p) p (λ a. looking.look a b) b)
+unfolding onAcc looking.look
 look-still p b = opt (Still b) (accAt b p) (λ _. leaves-still _ b) (λ a _. both (Still b) (a .writer) (λ _. leaves-still _ b) (λ _. req-still (a .req) b))
 
 save-still : (n : ℕ) (b : Built) → Still b (sheets.save n b)
@@ -58,10 +59,6 @@ save-still n b = both (Still b) (leb (length (sheet (b .geo) (b .store .recs))) 
 -- what is asked changes no file at rest
 pub Idle : Ask → Type 0
 Idle q = (x : File) → Calm x → (ask x q .file ≡ x) × (ask x q .haps ≡ [])
-
-hushed-past : (b : Built) → b .past ≡ [] → hushed b ≡ b
-unfolding hushed
-hushed-past b e = ap (λ (hs : List Hap). record { geo = b .geo; store = b .store; accs = b .accs; rq = b .rq; wq = b .wq; timers = b .timers; past = hs }) (sym e)
 
 pub idle-look : (p : ℕ) → Idle (calls.look p)
 unfolding Idle ask askBuilt askUnbuilt unmade OnFile Still

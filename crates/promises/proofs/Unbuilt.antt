@@ -1,25 +1,20 @@
 -- A file that is not built behind a call was not built before it.
 use Prim.Native.Nat.{ℕ, _<_}
 use mathlib.Core.Path.{_≡_, refl, sym, ap, _∙_}
-use mathlib.Core.Bool.{Bool, true, false, true≢false}
+use mathlib.Core.Bool.{true≢false}
 use lib.Dec.{eqb}
 use lib.ListN.{length}
 use borrow.Author.Tests.{lt-ltb, eqb-true}
 use Rattle.rules.specs.Limits.{files}
 use Rattle.rules.specs.State.{Built, File, unbuilt, built}
-use Rattle.rules.specs.Reply.{done, leaves}
-use Rattle.rules.specs.Close.{timePasses}
 use Rattle.rules.specs.Calls.{Ask, ask}
-use Rattle.rules.specs.Desk.{Desk, Call, Asked, on, time, bad, asked, answered, respond, fileOf, fileTime}
+use Rattle.rules.specs.Desk.{Desk, Call, Asked, on, time, bad, asked, answered, respond, fileOf}
+use Rattle.rules.specs.Time.{fileTime}
 use Rattle.rules.proofs.Split.{by-cases, pick-true}
 use Rattle.laws.specs.Runs.{call, Proper}
 use Rattle.laws.proofs.Proper.{ProperAsked, asked-proper}
 use Rattle.laws.proofs.Isolation.{ownFile, answered-named, answered-other, answered-time}
-use Rattle.midst.proofs.Stayed.{stays-built}
-
-is-built : File → Bool
-is-built unbuilt = false
-is-built (built b) = true
+use Rattle.midst.proofs.StandsBehind.{stays-built, is-built}
 
 pub not-both : (x : File) (b : Built) → x ≡ built b → x ≡ unbuilt → ⊥
 unfolding is-built
@@ -30,7 +25,7 @@ asks-unbuilt unbuilt q k h = refl
 asks-unbuilt (built b) q k h = unfold ask in absurd (not-both (ask (built b) q .file) _ (stays-built b q k .is) h)
 
 pub time-unbuilt : (e : ℕ) (x : File) → fileTime e x ≡ unbuilt → x ≡ unbuilt
-unfolding fileTime timePasses done leaves
+unfolding fileTime
 time-unbuilt e unbuilt h = refl
 time-unbuilt e (built b) h = absurd (not-both (fileTime e (built b)) _ refl h)
 

@@ -8,10 +8,10 @@ use lib.Dec.{ltb}
 use lib.ListN.{length, take, drop, length-drop, drop-of-length-le}
 use lib.Seq.{drop-drop}
 use borrow.Author.Tests.{ltb-true, ltb-false, eqb-true, eq-eqb}
-use Rattle.rules.specs.Limits.{lineBytes}
-use Rattle.rules.specs.Line.{isLine, bytesOf}
+use Rattle.rules.specs.Limits.{sheetLineBytes}
+use Rattle.rules.specs.Line.{isLine, bytesOf, Lines, linesFrom, linesOf}
 use Rattle.rules.specs.State.{Rec}
-use Rattle.rules.specs.Sheet.{Lines, linesFrom, linesOf, allLines, goodRec, goodRecs, recOf}
+use Rattle.rules.specs.Sheet.{allLines, goodRec, goodRecs, recOf}
 use Rattle.rules.proofs.Split.{by-cases, and-true, true-and}
 use Rattle.hex.proofs.Lines as hex
 use Rattle.reader.specs.Frames.{lineLength, frameAt, nextAt}
@@ -22,12 +22,12 @@ use Rattle.reader.proofs.Records.{rec-good, from-on, from-cons, from-en
 
 -- a frame that says something is a line's, and LF ends it
 pub frame-there : (t : List ℕ) (at : ℕ) → 1 ≤ length (frameAt t at)
-    → (lineLength (drop at t) < length (drop at t)) × (isLine lineBytes (take (lineLength (drop at t)) (drop at t)) ≡ true) × (frameAt t at ≡ bytesOf (take (lineLength (drop at t)) (drop at t)))
+    → (lineLength (drop at t) < length (drop at t)) × (isLine sheetLineBytes (take (lineLength (drop at t)) (drop at t)) ≡ true) × (frameAt t at ≡ bytesOf (take (lineLength (drop at t)) (drop at t)))
 unfolding frameAt
 frame-there t at h =
     let u = drop at t in
     by-cases (ltb (lineLength u) (length u))
-    (λ e. by-cases (isLine lineBytes (take (lineLength u) u))
+    (λ e. by-cases (isLine sheetLineBytes (take (lineLength u) u))
     (λ k. (ltb-true (lineLength u) (length u) e, k, frame-line u (ltb-true (lineLength u) (length u) e) ∙ hex.frame-line (take (lineLength u) u) k))
     (λ k. absurd (omega (arith, ap length (frame-line u (ltb-true (lineLength u) (length u) e) ∙ hex.frame-none (take (lineLength u) u) k)))))
     (λ e. absurd (omega (arith, ap length (frame-none u (ltb-false (lineLength u) (length u) e)))))
@@ -46,14 +46,14 @@ pub record Lined (r : ℕ) (l : Lines) (n : ℕ) : Type 0 where
   pub count : length (l .whole) ≡ n
   pub good : goodRecs r (map bytesOf (l .whole)) ≡ true
 
-lined-on : (r n : ℕ) (line : List ℕ) (l : Lines) → isLine lineBytes line ≡ true → goodRec r (bytesOf line) ≡ true → Lined r l n → Lined r (onto line l) (suc n)
+lined-on : (r n : ℕ) (line : List ℕ) (l : Lines) → isLine sheetLineBytes line ≡ true → goodRec r (bytesOf line) ≡ true → Lined r l n → Lined r (onto line l) (suc n)
 unfolding allLines goodRecs
 lined-on r n line l e g L = record { whole = true-and _ _ e (L .whole); rest = L .rest; count = ap suc (L .count); good = true-and _ _ g (L .good) }
 
-lined-off : (r n : ℕ) (line : List ℕ) (l : Lines) → Lined r (onto line l) (suc n) → (isLine lineBytes line ≡ true) × (goodRec r (bytesOf line) ≡ true) × Lined r l n
+lined-off : (r n : ℕ) (line : List ℕ) (l : Lines) → Lined r (onto line l) (suc n) → (isLine sheetLineBytes line ≡ true) × (goodRec r (bytesOf line) ≡ true) × Lined r l n
 unfolding allLines goodRecs
 lined-off r n line l L =
-    let p = and-true (isLine lineBytes line) (allLines (l .whole)) (L .whole) in
+    let p = and-true (isLine sheetLineBytes line) (allLines (l .whole)) (L .whole) in
     let q = and-true (goodRec r (bytesOf line)) (goodRecs r (map bytesOf (l .whole))) (L .good) in
     let c = L .count in
     (p .0, q .0, record { whole = p .1; rest = L .rest; count = omega arith; good = q .1 })
@@ -94,7 +94,7 @@ unlined r t (suc n) at h L =
     (λ e. on (ltb-true _ _ e) (lined-off r n _ _ (rw (lines-at t at (ltb-true _ _ e)) at L)) (unlined r t n (nextAt t at) (behind-within t at h)))
     (λ e. let c = rw (lines-none (drop at t) (ltb-false _ _ e)) at (L .count) in absurd (omega arith))
   where
-    on : (k : lineLength (drop at t) < length (drop at t)) → (isLine lineBytes (take (lineLength (drop at t)) (drop at t)) ≡ true) × (goodRec r (bytesOf (take (lineLength (drop at t)) (drop at t))) ≡ true) × Lined r (linesOf (drop (nextAt t at) t)) n → (Lined r (linesOf (drop (nextAt t at) t)) n → goodFrom r t (nextAt t at) n ≡ true) → goodFrom r t at (suc n) ≡ true
+    on : (k : lineLength (drop at t) < length (drop at t)) → (isLine sheetLineBytes (take (lineLength (drop at t)) (drop at t)) ≡ true) × (goodRec r (bytesOf (take (lineLength (drop at t)) (drop at t))) ≡ true) × Lined r (linesOf (drop (nextAt t at) t)) n → (Lined r (linesOf (drop (nextAt t at) t)) n → goodFrom r t (nextAt t at) n ≡ true) → goodFrom r t at (suc n) ≡ true
     on k p i =
         let g : frameAt t at ≡ bytesOf (take (lineLength (drop at t)) (drop at t)) = unfold frameAt in frame-line (drop at t) k ∙ hex.frame-line _ (p .0) in
         from-on r t at n (rw g (p .1)) ∙ i (p .2)

@@ -6,7 +6,7 @@ use mathlib.Core.Path.{_≡_, ap, _∙_}
 use native.Mathlib.Omega.{arith}
 use lib.Dec.{eqb}
 use lib.ListN.{length, take, drop}
-use Rattle.rules.specs.Sheet.{Lines, linesFrom, linesOf}
+use Rattle.rules.specs.Line.{Lines, linesFrom, linesOf}
 use Rattle.rules.proofs.Split.{by-cases, pick-true, pick-false}
 use Rattle.reader.specs.Frames.{lineLength}
 use Rattle.reader.proofs.Frames.{length-lf, length-on}

@@ -13,14 +13,10 @@ use Rattle.rules.specs.State.{Rec}
 use Rattle.rules.specs.Sheet.{goodRec, recOf}
 use Rattle.rules.proofs.Split.{bothc}
 use Rattle.reader.specs.declared.Next.{Next}
-use Rattle.reader.specs.Frames.{frameAt, nextAt, nextOf}
+use Rattle.reader.specs.Frames.{frameAt, nextOf, recIn}
 use Rattle.reader.specs.Sheets.{mostSize, recsFrom, goodFrom}
 use Rattle.reader.proofs.Frames.{frame-read}
 use Rattle.reader.proofs.Records.{rec-good, recs-step, from-step, from-bad, good-step}
-
--- the record in the first bytes of a memory
-abbrev pub recIn : List ℕ → ℕ → Rec
-recIn frame size = record { typ = wordAt frame 0; wid = wordAt frame 2; body = take (size - 4) (drop 4 frame) }
 
 word-front : (xs ys : List ℕ) (a : ℕ) → a + 2 ≤ length xs → wordAt (xs ++ ys) a ≡ wordAt xs a
 word-front xs ys a h = rw (List·getD-append xs ys 0 a (omega arith), List·getD-append xs ys 0 (a + 1) (omega arith))

@@ -9,10 +9,10 @@ use lib.Dec.{ltb, eqb}
 use lib.ListN.{length, getD, take, drop, length-map}
 use borrow.Author.Tests.{ltb-true, ltb-false, eqb-true, eq-eqb}
 use Rattle.words.specs.Word.{wordAt}
-use Rattle.rules.specs.Limits.{lineBytes}
-use Rattle.rules.specs.Line.{isLine, bytesOf}
+use Rattle.rules.specs.Limits.{sheetLineBytes}
+use Rattle.rules.specs.Line.{isLine, bytesOf, Lines, linesOf}
 use Rattle.rules.specs.Open.{geoOf}
-use Rattle.rules.specs.Sheet.{Sheet, Lines, linesOf, allLines, goodHead, goodRecs, recOf, framesSheet, readSheet}
+use Rattle.rules.specs.Sheet.{Sheet, allLines, goodHead, goodRecs, recOf, framesSheet, readSheet}
 use Rattle.rules.proofs.Split.{by-cases, pick-true, and-true, true-and}
 use Rattle.hex.proofs.Lines as hex
 use Rattle.reader.specs.Frames.{lineLength, frameAt, nextAt}
@@ -58,10 +58,10 @@ lines-read t s e =
 
 -- the first line of a sheet, and those behind it
 first-line : (line : List ℕ) (l all : Lines) (s : Sheet) → all ≡ onto line l → length (all .rest) ≡ 0 → allLines (all .whole) ≡ true → framesSheet (map bytesOf (all .whole)) ≡ some s
-    → (isLine lineBytes line ≡ true) × (goodHead (bytesOf line) (length (l .whole)) ≡ true) × Lined (wordAt (bytesOf line) 1) l (length (l .whole))
+    → (isLine sheetLineBytes line ≡ true) × (goodHead (bytesOf line) (length (l .whole)) ≡ true) × Lined (wordAt (bytesOf line) 1) l (length (l .whole))
 unfolding allLines
 first-line line l all s e r w f =
-    let p = and-true (isLine lineBytes line) (allLines (l .whole)) (rw e at w) in
+    let p = and-true (isLine sheetLineBytes line) (allLines (l .whole)) (rw e at w) in
     let q = frames-read (bytesOf line) (map bytesOf (l .whole)) s (rw e at f) in
     (p .0, rw (length-map (l .whole) bytesOf) at (q .0), record { whole = p .1; rest = rw e at r; count = refl; good = q .1 })
 
@@ -105,7 +105,7 @@ sheet-good t s e =
     line : List ℕ
     line = take (lineLength t) t
 
-    on : lineLength t < length t → (isLine lineBytes line ≡ true) × (goodHead (bytesOf line) (length (l .whole)) ≡ true) × Lined (wordAt (bytesOf line) 1) l (length (l .whole)) → Good t
+    on : lineLength t < length t → (isLine sheetLineBytes line ≡ true) × (goodHead (bytesOf line) (length (l .whole)) ≡ true) × Lined (wordAt (bytesOf line) 1) l (length (l .whole)) → Good t
     on k q =
         let g : frameAt t 0 ≡ bytesOf line = unfold frameAt in frame-line t k ∙ hex.frame-line line (q .0) in
         let o : goodHead (frameAt t 0) (length (l .whole)) ≡ true = rw g (q .1) in
@@ -118,6 +118,7 @@ pub record Reads (t : List ℕ) (s : Sheet) : Type 0 where
   pub words : 1 ≤ headOf t .words
   pub geo : s .geo ≡ record { words = headOf t .words; factor = headOf t .factor; blocks = headOf t .blocks }
   pub held : length (s .recs) ≡ headOf t .held
+  pub next : headOf t .at ≡ nextAt t 0
   pub at : headOf t .at ≤ length t
   pub recs : s .recs ≡ recsFrom t (headOf t .at) (headOf t .held)
   pub good : goodFrom (headOf t .words) t (headOf t .at) (headOf t .held) ≡ true
@@ -130,6 +131,7 @@ reads t G =
       words = rw e (head-words (frameAt t 0) (wordAt (frameAt t 0) 6) (G .0));
       geo = rw e;
       held = rw e (length-recs t (wordAt (frameAt t 0) 6) (nextAt t 0));
+      next = rw e;
       at = head-within t;
       recs = rw e;
       good = rw e (G .1);

@@ -1,11 +1,15 @@
 -- Frame after frame of a text, from a cursor on.
-use Prim.Native.Nat.{ℕ, suc, _+_}
+use Prim.Native.Nat.{ℕ, suc, _+_, _-_}
 use mathlib.Core.Bool.{true, false}
 use mathlib.Core.List.{List, [], _∷_}
 use lib.Dec.{ltb, eqb}
 use lib.ListN.{length, take, drop}
+use denote.Ref.{now}
+use Rattle.words.specs.Word.{wordAt}
+use Rattle.rules.specs.State.{Rec}
 use Rattle.rules.specs.Line.{lineFrame}
 use Rattle.reader.specs.declared.Next.{Next}
+use Rattle.reader.specs.declared.Reader.{Reader}
 
 -- the bytes before a text's first LF: all of them where there is none
 unfoldable pub lineLength : List ℕ → ℕ
@@ -32,3 +36,11 @@ nextAt t at = at + lineSpan (drop at t)
 
 abbrev pub nextOf : List ℕ → ℕ → Next
 nextOf t at = record { size = length (frameAt t at); at = nextAt t at }
+
+-- a reader that has handed out the frame of its line
+abbrev pub behind : Reader → Reader
+behind r = record { text = r .text; at = nextAt (now (r .text)) (r .at); size = length (frameAt (now (r .text)) (r .at)) }
+
+-- the record in the first bytes of a memory
+abbrev pub recIn : List ℕ → ℕ → Rec
+recIn frame size = record { typ = wordAt frame 0; wid = wordAt frame 2; body = take (size - 4) (drop 4 frame) }

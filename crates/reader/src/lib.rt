@@ -1,16 +1,18 @@
-// "The sheet is read by a reader over the lent text that hands out frame after frame": here the text and a cursor. And whether a text is a sheet.
+// "The sheet is read by a reader over the lent text that hands out frame after frame": the text and a cursor, and a struct of them. And whether a text is a sheet.
 use geometry::capacity;
 use geometry::fits_share;
 use geometry::in_range;
 use kinds::limits::LEAST_CAPACITY;
 use kinds::limits::MOST_TYPE;
+use kinds::limits::SHEET_LINE_BYTES;
+use kinds::records::DATA;
 ghost use mathlib.Core.Path.{_≡_};
 ghost use Prim.Native.Nat.{_≤_};
 ghost use lib.ListN.{length};
 ghost use lib.Seq.{sets};
-ghost use Rattle.rules.specs.Limits.{lineBytes};
+ghost use Rattle.rules.specs.Limits.{sheetLineBytes};
 ghost use Rattle.rules.specs.Sheet.{goodRec, readSheet};
-ghost use Rattle.reader.specs.Frames.{lineEnd, frameAt, nextOf};
+ghost use Rattle.reader.specs.Frames.{lineEnd, frameAt, nextOf, behind};
 ghost use Rattle.reader.specs.Sheets.{goodNumbers, noHead, saysHead, headOf, mostSize, goodFrom, isSome};
 
 // A line ends with LF.
@@ -36,13 +38,17 @@ pub const ID: usize = 2;
 
 pub const RECORD_HEAD: usize = 4;
 
-// The type of a data record.
-const DATA: u16 = 0;
-
 // How long a frame is, and the cursor behind its line.
 pub struct Next {
     pub size: usize,
     pub at: usize,
+}
+
+// A reader over the lent text: where the next line begins, and how long the frame is that was handed out last.
+pub struct Reader<'a> {
+    pub text: &'a [u8],
+    pub at: usize,
+    pub size: usize,
 }
 
 // What a sheet's first frame says, and the cursor behind it. No good head has 0 words.
@@ -71,10 +77,10 @@ fn line_end(text: &[u8], at: usize) -> usize
 
 // The frame of the line at the cursor stands from the first byte of `frame`. A line that says none, or that no LF ends, is an empty frame.
 pub fn next_frame(text: &[u8], at: usize, frame: &mut [u8]) -> Next
-    requires { ⌜ (at ≤ length (now text)) × (lineBytes ≤ length (now frame)) ⌝ }
+    requires { ⌜ (at ≤ length (now text)) × (sheetLineBytes ≤ length (now frame)) ⌝ }
     ensures next { λ r. ⌜ r ≡ nextOf (now (text .entry)) at ⌝ }
     ensures bytes { λ _. ⌜ now (frame .exit) ≡ sets (now (frame .entry)) 0 (frameAt (now (text .entry)) at) ⌝ }
-    ensures bound { λ r. ⌜ (r .size ≤ lineBytes) × (r .at ≤ length (now (text .entry))) ⌝ }
+    ensures bound { λ r. ⌜ (r .size ≤ sheetLineBytes) × (r .at ≤ length (now (text .entry))) ⌝ }
 {
     let end = line_end(text, at);
     if end == text.len() {
@@ -82,6 +88,30 @@ pub fn next_frame(text: &[u8], at: usize, frame: &mut [u8]) -> Next
     }
     let size = hex::decode(&text[at..end], frame);
     Next { size, at: end + 1 }
+}
+
+// A reader at the text's first line.
+pub fn open<'a>(text: &'a [u8]) -> Reader<'a>
+    ensures { λ r. ⌜ r ≡ record { text = text .entry; at = 0; size = 0 } ⌝ }
+{
+    Reader {
+        text,
+        at: 0,
+        size: 0,
+    }
+}
+
+// The next frame is handed out, as by next_frame, and the reader stands behind its line.
+pub fn hand_out<'a>(reader: Reader<'a>, frame: &mut [u8]) -> Reader<'a>
+    requires { ⌜ (reader .at ≤ length (now (reader .text))) × (sheetLineBytes ≤ length (now frame)) ⌝ }
+    ensures { λ r. ⌜ (r ≡ behind (reader .entry)) × (now (frame .exit) ≡ sets (now (frame .entry)) 0 (frameAt (now (reader .entry .text)) (reader .entry .at))) × (r .size ≤ sheetLineBytes) × (r .at ≤ length (now (r .text))) ⌝ }
+{
+    let next = next_frame(reader.text, reader.at, frame);
+    Reader {
+        text: reader.text,
+        at: next.at,
+        size: next.size,
+    }
 }
 
 // "R and B in range, C ≥ 3, D × block size ≤ 2,048, records ≤ C". One record in one extent is in range.
@@ -95,7 +125,7 @@ fn good_numbers(words: u16, factor: u8, blocks: u16, held: u16) -> bool
         return false;
     }
     let room = capacity(factor, blocks);
-    LEAST_CAPACITY <= room && held <= room
+    LEAST_CAPACITY <= room && held as u32 <= room
 }
 
 // Of a frame that is not the first of a sheet.
@@ -142,7 +172,7 @@ pub fn read_head(text: &[u8]) -> Head
     ensures { λ r. ⌜ r ≡ headOf (now (text .entry)) ⌝ }
     ensures { λ r. ⌜ r .at ≤ length (now (text .entry)) ⌝ }
 {
-    let mut frame = [0u8; 261];
+    let mut frame = [0u8; SHEET_LINE_BYTES];
     let next = next_frame(text, 0, &mut frame);
     let size = next.size;
     head_of(&frame[0..size], next.at)
@@ -178,7 +208,7 @@ fn good_record(frame: &[u8], words: u16) -> bool
 
 // Whether so many good records stand from the cursor on, and nothing behind them.
 fn good_records(text: &[u8], words: u16, start: usize, held: u16, frame: &mut [u8]) -> bool
-    requires { ⌜ (start ≤ length (now text)) × (lineBytes ≤ length (now frame)) ⌝ }
+    requires { ⌜ (start ≤ length (now text)) × (sheetLineBytes ≤ length (now frame)) ⌝ }
     ensures { λ r. ⌜ r ≡ goodFrom words (now (text .entry)) start held ⌝ }
 {
     let mut at = start;
@@ -199,7 +229,7 @@ fn good_records(text: &[u8], words: u16, start: usize, held: u16, frame: &mut [u
 pub fn is_sheet(text: &[u8]) -> bool
     ensures { λ r. ⌜ r ≡ isSome (readSheet (now (text .entry))) ⌝ }
 {
-    let mut frame = [0u8; 261];
+    let mut frame = [0u8; SHEET_LINE_BYTES];
     let head = read_head(text);
     if head.words == 0 {
         return false;

@@ -40,9 +40,9 @@ unfoldable pub disarmed : List ℕ → ℕ → List ℕ
 disarmed s place =
     cond (ltb (entryOf s timerList place) entries) (released (out s timerList place) (entryOf s timerList place)) (out s timerList place)
 
--- the request of a place leaves list l and stands on the reply port, with the data m
+-- the request of a place, whose entry stands at slot p, leaves its list and stands on the reply port, with the data m
 unfoldable pub completed : List ℕ → ℕ → ℕ → List ℕ → List ℕ
-completed s l place m = insert (putData (disarmed (out s l place) place) (entryOf s l place) m) (replyPort place) (entryOf s l place)
+completed s p place m = insert (putData (disarmed (unlink s p) place) (nth s p) m) (replyPort place) (nth s p)
 
 -- it leaves list l and its entry is freed, the timer's first
 unfoldable pub cancelled : List ℕ → ℕ → ℕ → List ℕ

@@ -4,7 +4,7 @@ ghost use mathlib.Core.Path.{_≡_};
 ghost use Prim.Native.Nat.{_<_};
 ghost use lib.ListN.{length};
 ghost use Rattle.rules.specs.Limits.{entries};
-ghost use Rattle.segment.specs.Layout.{listCount, segmentBytes, freeList, replyPort, timerList};
+ghost use Rattle.segment.specs.Layout.{listCount, fileRows, segmentBytes, freeList, replyPort, deskPlaces};
 ghost use Rattle.segment.specs.Table.{nth};
 ghost use Rattle.segment.specs.Fields.{entryWords};
 ghost use Rattle.requests.specs.Moves.{entryOf, out, armed, queued, waiting, disarmed, completed, cancelled, collected};
@@ -76,14 +76,14 @@ fn disarm(s: &mut [u8], place: u16)
     }
 }
 
-// The request of m's place, which waits in list l, is completed as m: it stands on the place's reply port.
-pub fn complete(s: &mut [u8], l: usize, m: Entry)
+// The request of m's place, whose entry stands at slot p, is completed as m: it stands on the place's reply port.
+pub fn complete(s: &mut [u8], p: usize, m: Entry)
     requires { ⌜ length (now s) ≡ segmentBytes ⌝ }
-    requires { ⌜ (l < listCount) × (m .place < 64) × (entryOf (now s) l (m .place) < entries) ⌝ }
-    ensures { λ _. ⌜ now (s .exit) ≡ completed (now (s .entry)) l (m .place) (entryWords m) ⌝ }
+    requires { ⌜ (p < fileRows) × (m .place < deskPlaces) × (nth (now s) p < entries) ⌝ }
+    ensures { λ _. ⌜ now (s .exit) ≡ completed (now (s .entry)) p (m .place) (entryWords m) ⌝ }
 {
     let place = m.place;
-    let e = take_out(s, l, place);
+    let e = ports::unlink_at(s, p);
     disarm(s, place);
     segment::write_entry(s, e, m);
     ports::insert_at(s, layout::REPLY_PORTS + place as usize, e);
@@ -103,7 +103,7 @@ pub fn cancel(s: &mut [u8], l: usize, place: u16)
 // The completed request of a place is gone from its reply port.
 pub fn collect(s: &mut [u8], place: u16)
     requires { ⌜ length (now s) ≡ segmentBytes ⌝ }
-    requires { ⌜ (place < 64) × (nth (now s) (replyPort place) < entries) ⌝ }
+    requires { ⌜ (place < deskPlaces) × (nth (now s) (replyPort place) < entries) ⌝ }
     ensures { λ _. ⌜ now (s .exit) ≡ collected (now (s .entry)) place ⌝ }
 {
     let e = ports::unlink_at(s, layout::REPLY_PORTS + place as usize);

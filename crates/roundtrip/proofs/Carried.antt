@@ -9,7 +9,7 @@ use borrow.Author.Tests.{leb-true}
 use Rattle.words.proofs.Parts.{part-same}
 use Rattle.rules.specs.Limits.{files}
 use Rattle.rules.specs.State.{Built, unbuilt, built}
-use Rattle.rules.specs.Reply.{Reply, shows, Out, leaves}
+use Rattle.rules.specs.Reply.{shows, Out, leaves}
 use Rattle.rules.specs.Sheet.{sheet}
 use Rattle.rules.specs.Sheet as sheets
 use Rattle.rules.specs.Calls.{ask, askBuilt}
@@ -20,9 +20,9 @@ use Rattle.rules.specs.Allocation.{Alloc}
 use Rattle.rules.proofs.Split.{both}
 use Rattle.memory.specs.Fine.{StandsFor}
 use Rattle.midst.specs.Outcome.{replyStatus}
-use Rattle.promises.specs.Promise.{Memories, Given, status, written, givenStatus, givenSize, givenMemory, stands, replyOf, shown, said, Behind, Promise}
+use Rattle.promises.specs.Promise.{Memories, status, written, givenStatus, givenSize, givenMemory, stands, replyOf, shown, said, Behind, Promise}
 use Rattle.promises.specs.Promise as host
-use Rattle.roundtrip.specs.Trip.{Trip, DeskTrip}
+use Rattle.roundtrip.specs.Trip.{DeskTrip}
 use Rattle.roundtrip.specs.Carried.{Carried}
 use Rattle.roundtrip.proofs.Trip.{saves, trip}
 use Rattle.roundtrip.proofs.Stands.{stands-written}

@@ -7,14 +7,14 @@ use native.Mathlib.Omega.{arith}
 use lib.Dec.{eqb}
 use lib.ListN.{length, getD}
 use borrow.Author.Tests.{le-leb, eq-eqb, eqb-false}
-use Rattle.words.specs.Word.{word, wordAt}
+use Rattle.words.specs.Word.{word, wordAt, Bytes}
 use Rattle.rules.specs.Limits.{mostWords, mostFactor, leastCapacity, mostType, shareWords}
 use Rattle.rules.specs.Geometry.{capacity, within, fitsShare}
 use Rattle.rules.specs.State.{Rec, Geo}
 use Rattle.rules.specs.Sheet.{headFrame, recFrame, goodHead, goodRec, goodRecs, recOf}
 use Rattle.rules.proofs.Split.{by-cases, true-and}
 use Rattle.shares.specs.Groups.{All}
-use Rattle.shares.specs.Laid.{Bytes, GoodRec}
+use Rattle.shares.specs.Laid.{GoodRec}
 use Rattle.laws.specs.Changes.{GoodGeo, GoodRecs}
 use Rattle.roundtrip.specs.Trip.{Plain}
 

@@ -5,8 +5,7 @@ use mathlib.Core.List.{List, [], _∷_, _++_, append-nil, append-assoc}
 use native.Mathlib.Omega.{arith}
 use lib.Dec.{ltb, eqb}
 use borrow.Author.Tests.{ne-eqb}
-use Rattle.rules.specs.Line.{digitOf, digitsOf, lineOf}
-use Rattle.rules.specs.Sheet.{linesFrom, linesOf}
+use Rattle.rules.specs.Line.{digitOf, digitsOf, lineOf, linesFrom, linesOf}
 use Rattle.rules.proofs.Split.{bothc, pick-false}
 
 -- a digit is no LF

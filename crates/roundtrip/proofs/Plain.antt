@@ -4,11 +4,10 @@ use mathlib.Core.List.{List, [], _∷_}
 use native.Mathlib.Omega.{arith}
 use lib.ListN.{take, drop}
 use lib.Seq.{getD-drop}
-use Rattle.words.specs.Word.{wordAt}
+use Rattle.words.specs.Word.{wordAt, Bytes}
 use Rattle.rules.specs.State.{Geo}
 use Rattle.rules.specs.Store.{blockBytes}
 use Rattle.shares.specs.Groups.{All}
-use Rattle.shares.specs.Laid.{Bytes}
 use Rattle.shares.specs.Back.{recAt, next, recsAt, blockRecs, ringRecs, readBack}
 use Rattle.shares.proofs.Groups.{all-append, all-take, all-drop}
 use Rattle.roundtrip.specs.Trip.{Plain}

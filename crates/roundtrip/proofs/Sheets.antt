@@ -8,16 +8,15 @@ use native.Mathlib.Omega.{arith}
 use native.Mathlib.Nat.{mul-add}
 use lib.Dec.{eqb}
 use lib.ListN.{length, length-map}
-use Rattle.words.specs.Word.{wordAt}
-use Rattle.rules.specs.Limits.{lineBytes}
+use Rattle.words.specs.Word.{wordAt, Bytes}
+use Rattle.rules.specs.Limits.{sheetLineBytes}
 use Rattle.rules.specs.Geometry.{capacity}
 use Rattle.rules.specs.State.{Rec, Geo}
 use Rattle.rules.specs.Open.{geoOf}
-use Rattle.rules.specs.Line.{digitsOf, bytesOf}
-use Rattle.rules.specs.Sheet.{headFrame, recFrame, recLines, sheet, Lines, linesFrom, linesOf, allLines, goodHead, goodRecs, framesSheet, readSheet}
+use Rattle.rules.specs.Line.{digitsOf, bytesOf, Lines, linesFrom, linesOf}
+use Rattle.rules.specs.Sheet.{headFrame, recFrame, recLines, sheet, allLines, goodHead, goodRecs, framesSheet, readSheet}
 use Rattle.rules.proofs.Split.{true-and, pick-true}
 use Rattle.shares.specs.Groups.{All}
-use Rattle.shares.specs.Laid.{Bytes}
 use Rattle.laws.specs.Changes.{GoodGeo, GoodRecs}
 use Rattle.hex.proofs.Trip.{bytes-digits, line-digits}
 use Rattle.roundtrip.specs.Trip.{Plain, Written}
@@ -28,12 +27,12 @@ use Rattle.roundtrip.proofs.Frames.{bytes-head, length-head, head-words
 -- lines of bytes, each frame no longer than a line
 unfoldable Framed : List (List ℕ) → Type 0
 Framed [] = Unit {0}
-Framed (f ∷ fs) = Bytes f × (length f ≤ lineBytes) × Framed fs
+Framed (f ∷ fs) = Bytes f × (length f ≤ sheetLineBytes) × Framed fs
 
 lines-framed : (fs : List (List ℕ)) → Framed fs → allLines (map digitsOf fs) ≡ true
 unfolding Framed allLines Bytes
 lines-framed [] h = refl
-lines-framed (f ∷ fs) h = true-and _ _ (line-digits lineBytes f (h .0) (h .1)) (lines-framed fs (h .2))
+lines-framed (f ∷ fs) h = true-and _ _ (line-digits sheetLineBytes f (h .0) (h .1)) (lines-framed fs (h .2))
 
 frames-back : (fs : List (List ℕ)) → Framed fs → map bytesOf (map digitsOf fs) ≡ fs
 unfolding Framed Bytes
@@ -67,7 +66,7 @@ blocks-word : (g : Geo) → GoodGeo g → g .blocks < 65536
 blocks-word g k = omega (arith, share-words g k)
 
 module _ (g : Geo) (rs : List Rec) (h : Written (record { geo = g; recs = rs })) where
-  recs-framed : (words : ℕ) (l : List Rec) → 4 + 2 * words ≤ lineBytes → GoodRecs words l → All Plain l → Framed (map recFrame l)
+  recs-framed : (words : ℕ) (l : List Rec) → 4 + 2 * words ≤ sheetLineBytes → GoodRecs words l → All Plain l → Framed (map recFrame l)
   unfolding Framed GoodRecs All
   recs-framed words [] m k p = tt
   recs-framed words (r ∷ l) m k p = (bytes-rec r (k .0 .0) (p .0), omega (arith, length-rec r, k .0 .1), recs-framed words l m (k .1) (p .1))

@@ -12,7 +12,8 @@ use Rattle.rules.specs.Sheet.{sheet, readSheet}
 use Rattle.rules.specs.Desk.{Desk, fileOf}
 use Rattle.rules.specs.Allocation.{Alloc}
 use Rattle.shares.specs.Groups.{All, Small}
-use Rattle.shares.specs.Laid.{Bytes, GoodRec}
+use Rattle.shares.specs.Laid.{GoodRec}
+use Rattle.words.specs.Word.{Bytes}
 use Rattle.shares.specs.Back.{usedRecs}
 use Rattle.shares.proofs.Groups.{all-drop}
 use Rattle.shares.proofs.Says.{small-recs}
@@ -21,7 +22,6 @@ use Rattle.shares.proofs.Back.{back}
 use Rattle.laws.specs.Runs.{OnFile}
 use Rattle.laws.specs.Changes.{GoodRecs, GoodSheet}
 use Rattle.laws.proofs.Room.{good-sized}
-use Rattle.memory.specs.Stands as memory
 use Rattle.memory.specs.Stands.{shareAt, FileBytes}
 use Rattle.memory.specs.Fine.{Fine, StandsFor}
 use Rattle.roundtrip.specs.Trip.{Written, sheetOf, Trip, sheetRoom}
@@ -59,7 +59,7 @@ fine-written b k h =
 
 module _ (xs blocks buffers : List ℕ) (d : Desk) (s : Alloc) (f : ℕ) (b : Built) (h : StandsFor xs blocks buffers d s) (l : f < files) (e : fileOf d f ≡ built b) where
   share-bytes : Bytes (b .store .share)
-  unfolding Bytes memory.Bytes FileBytes shareAt
+  unfolding Bytes FileBytes shareAt
   share-bytes =
       let k : FileBytes (built b) (shareAt f blocks) _ = rw e at (h .stands .bodies .each f l) in
       rw (← k .0) (part-bytes shareBytes (shareBytes * f) blocks (h .stands .bodies .blocks-bytes))

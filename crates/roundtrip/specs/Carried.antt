@@ -10,11 +10,11 @@ use Rattle.promises.specs.Promise.{Memories, save, written, Promise}
 -- the file b was saved as a text; loaded into file g of desk c it gave a status and left the memories m
 pub record Carried (b : Built) (text : List ℕ) (c : Desk) (g status : ℕ) (m : Memories) : Type 0 where
   pub loads : status ≡ 0
-  -- "A saved sheet loads back to the same geometry and records"
+  -- a saved sheet loads back to the same geometry and records
   pub back : Built
   pub leaves : fileOf (respond c (load g text) .desk) g ≡ built back
   pub geo : back .geo ≡ b .geo
   pub recs : back .store .recs ≡ b .store .recs
-  -- "and saving that gives the same sheet", in any output that the sheet fits
+  -- and saving that gives the same sheet, in any output that the sheet fits
   pub again : (output output′ : List ℕ) (st n : ℕ) (m′ : Memories) → Promise m (save g output) (written st n output′) m′ → length text ≤ length output
       → (st ≡ 0) × (n ≡ length text) × (take n output′ ≡ text)

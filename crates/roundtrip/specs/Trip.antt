@@ -1,7 +1,8 @@
--- "A saved sheet loads back to the same geometry and records, and saving that gives the same sheet": what this says of a file.
+-- A saved sheet loads back to the same geometry and records, and saving that gives the same sheet (condition 2): what this says of a file.
 use mathlib.Core.Path.{_≡_}
 use mathlib.Core.List.{List, []}
-use Prim.Native.Nat.{ℕ, _<_}
+use Prim.Native.Nat.{ℕ, _*_, _<_}
+use Rattle.rules.specs.Limits.{shareBytes}
 use Rattle.rules.specs.State.{Rec, Built, unbuilt, built}
 use Rattle.rules.specs.Reply.{shows}
 use Rattle.rules.specs.Sheet.{Sheet}
@@ -9,7 +10,7 @@ use Rattle.rules.specs.Calls.{ask, load, save}
 use Rattle.rules.specs.Desk.{Desk, fileOf, respond}
 use Rattle.rules.specs.Desk as calls
 use Rattle.shares.specs.Groups.{All}
-use Rattle.shares.specs.Laid.{Bytes}
+use Rattle.words.specs.Word.{Bytes}
 use Rattle.laws.specs.Changes.{GoodSheet}
 
 -- a record whose ID is a word and whose data are bytes
@@ -50,4 +51,4 @@ pub record DeskTrip (d : Desk) (f : ℕ) (b : Built) (c : Desk) (g n : ℕ) : Ty
 
 -- output that is long enough for every sheet: two digits for each byte of the share
 abbrev pub sheetRoom : ℕ
-sheetRoom = 8192
+sheetRoom = 2 * shareBytes

@@ -24,7 +24,7 @@ unfoldable pub bufferAt : ℕ → ℕ → List Exchange → List ℕ
 bufferAt f p l = take bufferBytes (drop (bufferBytes * (8 * f + p)) (buffers (played l)))
 
 -- R 2, B 2, two data blocks of 12 words: "word 0 records put, word 1 words used with these two"; a record is "a word with the bytes that follow
--- (4 + data), a type word, the writer's ID, and data, padded with one zero byte if odd"
+-- (4 + data), a type word (0 data, 1 open, 2 close), the writer's ID, and data, padded with one zero byte if odd"
 pub two-blocks : shareAt 1 (
     "0101000202000201" ⇒ "01000004"
     ∷ "0201030100" ⇒ "0200000001"

@@ -37,7 +37,7 @@ pub worked : program (lines (
 unfolding All Plays
 worked = refl
 
--- "After the third line the sheet is .."
+-- "After the third line the sheet is"
 pub sheet-after-third : Holds (
     "0100000401000101" ⇒ "01000003"
     ∷ "0200030100" ⇒ "0200000001"

@@ -1,17 +1,16 @@
 -- Beside the definition: which entry each request and each timer holds, the order of the free list, and the desk-wide order of the timers.
--- "Freed entries go to the front of the free list and are taken from there. A request takes its own entry before its timer's and frees the timer's
+-- Freed entries "go to the front of the free list and are taken from there. A request takes its own entry before its timer's and frees the timer's
 -- first."
-use mathlib.Core.Bool.{Bool, true, false, cond}
-use mathlib.Core.List.{List, [], _∷_, _++_, map}
-use mathlib.Core.Option.{Option, none, some}
+use mathlib.Core.Bool.{cond}
+use mathlib.Core.List.{List, [], _∷_, map}
 use Prim.Native.Nat.{ℕ, zero, suc, _+_, _*_}
 use lib.Dec.{ltb}
 use lib.ListN.{getD, set, drop, replicate}
 use Rattle.rules.specs.Limits.{files, places, entries}
-use Rattle.rules.specs.State.{Req, idle, reading, writing, readDone, writeDone, Acc, Timer, Hap, puts, gone, purges, waits, arms, ends, cancels, collects, Built, File, unbuilt, built}
+use Rattle.rules.specs.State.{Req, idle, reading, writing, readDone, writeDone, Timer, Hap, puts, gone, purges, waits, arms, ends, cancels, collects, Built, File, unbuilt, built}
 use Rattle.rules.specs.Requests.{withoutTimer, armIn}
-use Rattle.rules.specs.Close.{due, minus}
-use Rattle.rules.specs.Desk.{Desk, Call, Asked, on, time, bad, fileOf, freshDesk, asked, respond, happens}
+use Rattle.rules.specs.Time.{due, minus}
+use Rattle.rules.specs.Desk.{Desk, Call, Asked, on, time, bad, asked, respond, happens}
 
 -- what a place holds: nothing; its request's entry; that and its timer's
 pub data Held : Type 0 where
@@ -42,7 +41,7 @@ freshAlloc = record { free = upFrom 0 entries; held = replicate (files * places)
 unfoldable pub heldAt : Alloc → ℕ → Held
 heldAt s i = getD (s .held) i nothing
 
--- the entry that is taken next
+-- the entry that is taken next; where none is left 0, which no run comes to (law `fed`)
 unfoldable pub front : Alloc → ℕ
 front s = getD (s .free) 0 0
 
@@ -100,7 +99,8 @@ unfoldable pub endAll : List ℕ → Alloc → Alloc
 endAll [] s = s
 endAll (i ∷ l) s = endAll l (endsAt i s)
 
--- time: the due timers go in the order of the desk, the others lose e
+-- time is no fold over the files' happenings: it passes in all files at once, and the due timers go in the order of the desk's clock; the others
+-- lose e
 unfoldable pub allocTime : ℕ → Alloc → Alloc
 allocTime e s = let t : Alloc = endAll (due e (s .clock)) s in withClock (map (minus e) (t .clock)) t
 
@@ -116,6 +116,7 @@ allocAfter d (c ∷ cs) s = allocAfter (respond d c .desk) cs (allocAsked d (ask
 
 -- the lists
 
+-- the entry that is held for the request, and for its timer; 0 where there is none, which no list of a run asks for (law `held`)
 unfoldable pub ownEntry : Held → ℕ
 ownEntry nothing = 0
 ownEntry (own e) = e

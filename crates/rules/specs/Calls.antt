@@ -14,6 +14,7 @@ use Rattle.rules.specs.Controls as controls
 use Rattle.rules.specs.Close as closing
 use Rattle.rules.specs.Sheet as sheets
 use Rattle.rules.specs.Look as looking
+use Rattle.rules.specs.Counts as counting
 
 pub data Ask : Type 0 where
   -- R B N X
@@ -55,16 +56,16 @@ onAcc q p f b = elim (accAt b p) [ none ↦ leaves (refusal q 32) b | some a ↦
 -- 31: for build and load, already built
 unfoldable pub askBuilt : Built → Ask → Out
 askBuilt b (build r f n x) = leaves (refusal (build r f n x) 31) b
-askBuilt b (opens a s m) = opening.open′ a s m b
+askBuilt b (opens a s m) = opening.openFile a s m b
 askBuilt b (read p n) = onAcc (read p n) p (λ a. transfer.read p a n b) b
 askBuilt b (write p n d) = onAcc (write p n d) p (λ a. transfer.write p a n d b) b
 askBuilt b (control p c) = onAcc (control p c) p (λ a. controls.control p a c b) b
 askBuilt b (collect p) = onAcc (collect p) p (λ a. transfer.collect p (a .req) b) b
 askBuilt b (close p) = onAcc (close p) p (λ a. closing.close p a (a .req) b) b
-askBuilt b counts = looking.counts b
+askBuilt b counts = counting.counts b
 askBuilt b (load t) = leaves (refusal (load t) 31) b
 askBuilt b (save n) = sheets.save n b
-askBuilt b (look p) = looking.look p b
+askBuilt b (look p) = onAcc (look p) p (λ a. looking.look a b) b
 
 -- 31: not built
 unfoldable pub askUnbuilt : Ask → Out

@@ -1,5 +1,5 @@
 -- Control: the six controls of an accessor.
-use mathlib.Core.Bool.{Bool, true, false, _&&_}
+use mathlib.Core.Bool.{Bool, true, false}
 use mathlib.Core.Option.{Option, none, some}
 use Prim.Native.Nat.{ℕ}
 use lib.Dec.{leb, eqb}
@@ -8,28 +8,25 @@ use Rattle.kinds.specs.declared.Control.{Control}
 use Rattle.kinds.specs.declared.Control.the-variants.{Timeout, Verify, Abort, Extended, Typed, Keep}
 use Rattle.rules.specs.State.{Req, idle, reading, writing, readDone, writeDone, Acc, Built}
 use Rattle.rules.specs.Requests.{alterAcc, isIdle, cancel}
-use Rattle.rules.specs.Reply.{Out, done, status}
+use Rattle.rules.specs.Reply.{Out, answering, status}
 
 unfoldable pub setTimeout : ℕ → Acc → Acc
-setTimeout v a = record { writer = a .writer; ident = a .ident; share = a .share; timeout = v; extended = a .extended; typed = a .typed; keep = a .keep; first = a .first; req = a .req }
+setTimeout v a = record { writer = a .writer; ident = a .ident; sharing = a .sharing; timeout = v; extended = a .extended; typed = a .typed; keep = a .keep; first = a .first; req = a .req }
 
 unfoldable pub setExtended : Bool → Acc → Acc
-setExtended v a = record { writer = a .writer; ident = a .ident; share = a .share; timeout = a .timeout; extended = v; typed = a .typed; keep = a .keep; first = a .first; req = a .req }
+setExtended v a = record { writer = a .writer; ident = a .ident; sharing = a .sharing; timeout = a .timeout; extended = v; typed = a .typed; keep = a .keep; first = a .first; req = a .req }
 
 unfoldable pub setTyped : Bool → Acc → Acc
-setTyped v a = record { writer = a .writer; ident = a .ident; share = a .share; timeout = a .timeout; extended = a .extended; typed = v; keep = a .keep; first = a .first; req = a .req }
+setTyped v a = record { writer = a .writer; ident = a .ident; sharing = a .sharing; timeout = a .timeout; extended = a .extended; typed = v; keep = a .keep; first = a .first; req = a .req }
 
 unfoldable pub setKeep : Bool → Acc → Acc
-setKeep v a = record { writer = a .writer; ident = a .ident; share = a .share; timeout = a .timeout; extended = a .extended; typed = a .typed; keep = v; first = a .first; req = a .req }
-
-unfoldable pub unchanged : Acc → Acc
-unchanged a = a
+setKeep v a = record { writer = a .writer; ident = a .ident; sharing = a .sharing; timeout = a .timeout; extended = a .extended; typed = a .typed; keep = v; first = a .first; req = a .req }
 
 -- a setting of an accessor, "with 0 or 1": 35 any other number
 unfoldable pub switched : ℕ → ℕ → (Bool → Acc → Acc) → Built → Out
-switched p v set b = elim (leb v 1) [ true ↦ done Controlled (alterAcc p (set (eqb v 1)) b) | false ↦ status 5 35 b ]
+switched p v set b = elim (leb v 1) [ true ↦ answering Controlled (alterAcc p (set (eqb v 1)) b) | false ↦ status 5 35 b ]
 
--- "34: 46 or 47 by a writer"
+-- 34: "46 or 47 by a writer"
 unfoldable pub ofReader : Acc → Built → Out → Out
 ofReader a b o = elim (a .writer) [ true ↦ status 5 34 b | false ↦ o ]
 
@@ -37,19 +34,19 @@ ofReader a b o = elim (a .writer) [ true ↦ status 5 34 b | false ↦ o ]
 -- nothing outstanding
 unfoldable pub abort : ℕ → Req → Built → Out
 abort p idle b = status 5 39 b
-abort p (reading w l k) b = done Controlled (cancel p b)
-abort p (writing w d) b = done Controlled (cancel p b)
+abort p (reading w l k) b = answering Controlled (cancel p b)
+abort p (writing w d) b = answering Controlled (cancel p b)
 abort p (readDone st l d) b = status 5 2 b
 abort p (writeDone st l) b = status 5 2 b
 
--- "33: control (not 43) while a request is outstanding"
+-- 33: "control (not 43) while a request is outstanding"
 unfoldable pub whileIdle : Acc → Built → Out → Out
 whileIdle a b o = elim (isIdle (a .req)) [ false ↦ status 5 33 b | true ↦ o ]
 
 -- "6 verify (nothing to do here)"; "6 and 43 take any parameter"; "Any other code, 48 too, is refused 35"
 unfoldable pub control : ℕ → Acc → Option Control → Built → Out
-control p a (some (Timeout v)) b = whileIdle a b (done Controlled (alterAcc p (setTimeout v) b))
-control p a (some (Verify v)) b = whileIdle a b (done Controlled (alterAcc p unchanged b))
+control p a (some (Timeout v)) b = whileIdle a b (answering Controlled (alterAcc p (setTimeout v) b))
+control p a (some (Verify v)) b = whileIdle a b (answering Controlled b)
 control p a (some (Abort v)) b = abort p (a .req) b
 control p a (some (Extended v)) b = whileIdle a b (switched p v setExtended b)
 control p a (some (Typed v)) b = whileIdle a b (ofReader a b (switched p v setTyped b))

@@ -1,5 +1,5 @@
--- Counts: "A count is signed: n ≥ 0 is n words, below 0 it is −n bytes." Here it is as it stands in the frame, 0 to 65,535.
-use mathlib.Core.Bool.{Bool, true, false, cond}
+-- The count of a read or a write: "A count is signed: n ≥ 0 is n words, below 0 it is −n bytes." Here it is as it stands in the frame, 0 to 65,535.
+use mathlib.Core.Bool.{Bool, cond}
 use Prim.Native.Nat.{ℕ, _+_, _-_, _*_, _/_}
 use lib.Dec.{ltb, leb}
 use Rattle.rules.specs.Limits.{mostReadWords, mostReadBytes}

@@ -1,7 +1,7 @@
 -- The desk: eight files; `respond` to a call; runs from a fresh desk; the event program.
-use mathlib.Core.Bool.{Bool, true, false, cond}
+use mathlib.Core.Bool.{true, false}
 use mathlib.Core.List.{List, [], _∷_, _++_, map}
-use mathlib.Core.Option.{Option, none, some}
+use mathlib.Core.Option.{none, some}
 use Prim.Native.Nat.{ℕ}
 use lib.Dec.{ltb, eqb}
 use lib.ListN.{length, getD, set, drop, replicate}
@@ -13,10 +13,9 @@ use Rattle.rules.specs.Limits.{files}
 use Rattle.rules.specs.State.{Hap, File, unbuilt}
 use Rattle.rules.specs.Frames.{frameOf}
 use Rattle.rules.specs.Answers.{answerBytes}
-use Rattle.rules.specs.Line.{lineFrame, lineOf}
-use Rattle.rules.specs.Sheet.{Lines, linesOf}
+use Rattle.rules.specs.Line.{Lines, linesOf, lineFrame, lineOf}
 use Rattle.rules.specs.Reply.{Reply, answers, shows, Out}
-use Rattle.rules.specs.Close.{timePasses}
+use Rattle.rules.specs.Time.{fileTime, timeHaps}
 use Rattle.rules.specs.Calls.{Ask, build, opens, read, write, control, collect, close, counts, refusal, ask}
 use Rattle.rules.specs.Calls as calls
 
@@ -67,9 +66,6 @@ freshDesk = replicate files unbuilt
 unfoldable pub fileOf : Desk → ℕ → File
 fileOf d f = getD d f unbuilt
 
-unfoldable pub fileTime : ℕ → File → File
-fileTime e x = timePasses e x .file
-
 pub record Responded : Type 0 where
   pub reply : Reply
   pub desk : Desk
@@ -100,7 +96,7 @@ after d (c ∷ cs) = after (respond d c .desk) cs
 -- what a call does to file f, in order
 unfoldable pub happens : ℕ → Desk → Asked → List Hap
 happens f d (on g q) = elim (eqb g f) [ true ↦ ask (fileOf d f) q .haps | false ↦ [] ]
-happens f d (time e) = timePasses e (fileOf d f) .haps
+happens f d (time e) = timeHaps e (fileOf d f)
 happens f d bad = []
 
 unfoldable pub history : ℕ → Desk → List Call → List Hap

@@ -11,7 +11,7 @@ use Rattle.kinds.specs.declared.Frame.{Frame}
 use Rattle.kinds.specs.declared.Frame.the-variants.{Event, Code, Shape}
 use Rattle.rules.specs.Count.{countBytes}
 
--- "Controls: 4 timeout seconds; 6 verify; 43 abort; 45, 46, 47"
+-- "Controls: 4 timeout seconds; 6 verify (nothing to do here); 43 abort; 45, 46, 47"
 unfoldable pub controlFrame : ℕ → ℕ → ℕ → ℕ → Frame
 controlFrame file acc code param =
     cond (eqb code 4) (Event (Control file acc (Timeout param)))

@@ -4,13 +4,13 @@ use Prim.Native.Nat.{ℕ, _+_, _-_, _*_, _/_}
 use lib.Dec.{leb}
 use Rattle.rules.specs.Limits.{mostWords, mostFactor, mostRecords, mostExtents, shareWords}
 
--- how many times m holds n, rounded up
-unfoldable pub upTo : ℕ → ℕ → ℕ
-upTo n m = (n + (m - 1)) / m
+-- n divided by m, rounded up
+unfoldable pub dividedUp : ℕ → ℕ → ℕ
+dividedUp n m = (n + (m - 1)) / m
 
 -- "Take N+2; round up to whole blocks; add one label block; round up to a multiple of X. Data blocks D = that less one"
 unfoldable pub dataBlocks : ℕ → ℕ → ℕ → ℕ
-dataBlocks n b x = upTo (upTo (n + 2) b + 1) x * x - 1
+dataBlocks n b x = dividedUp (dividedUp (n + 2) b + 1) x * x - 1
 
 -- "capacity C = B × D"
 unfoldable pub capacity : ℕ → ℕ → ℕ

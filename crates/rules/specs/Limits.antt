@@ -32,24 +32,38 @@ shareWords = 2048
 abbrev pub shareBytes : ℕ
 shareBytes = 2 * shareWords
 
--- "64 record buffers of 260 bytes"
-abbrev pub bufferBytes : ℕ
-bufferBytes = 260
+-- what a read hands out: under control 46 "type and ID words before the data"
+abbrev pub headerWords : ℕ
+headerWords = 2
 
 -- "Read counts run from −260 to 130"
 abbrev pub mostReadWords : ℕ
-mostReadWords = 130
+mostReadWords = headerWords + mostWords
 
 abbrev pub mostReadBytes : ℕ
-mostReadBytes = 260
+mostReadBytes = 2 * mostReadWords
 
--- "264 bytes for its answer"
+-- "64 record buffers of 260 bytes"
+abbrev pub bufferBytes : ℕ
+bufferBytes = mostReadBytes
+
+-- "264 bytes for its answer": behind "03 00 log(2)" the longest record that is read
+abbrev pub answerHead : ℕ
+answerHead = 4
+
 abbrev pub answerRoom : ℕ
-answerRoom = 264
+answerRoom = answerHead + bufferBytes
 
--- "Upper-case digits, at most 261 bytes": the event program's lines
+-- "Upper-case digits, at most 261 bytes": behind "04 file acc count(2)" the longest record that is written. The event program's lines
+abbrev pub writeHead : ℕ
+writeHead = 5
+
 abbrev pub lineBytes : ℕ
-lineBytes = 261
+lineBytes = writeHead + 2 * mostWords
+
+-- and a sheet's: "Lines are hexadecimal as above"
+abbrev pub sheetLineBytes : ℕ
+sheetLineBytes = writeHead + 2 * mostWords
 
 -- "access, share and multiaccess: 0 to 3"
 abbrev pub mostMode : ℕ
@@ -61,7 +75,3 @@ leastCapacity = 3
 
 abbrev pub mostType : ℕ
 mostType = 2
-
--- the numbers of refusals begin here; what a request completes with, 0, 2 or 22, is below
-abbrev pub leastRefusal : ℕ
-leastRefusal = 29

@@ -1,4 +1,4 @@
--- "A hexadecimal frame a line": upper-case digits, two a byte.
+-- Events, "a hexadecimal frame a line": upper-case digits, two a byte.
 use mathlib.Core.Bool.{Bool, true, false, cond}
 use mathlib.Core.List.{List, [], _∷_, _++_}
 use Prim.Native.Nat.{ℕ, _+_, _-_, _*_, _/_, _%_}
@@ -38,3 +38,19 @@ lineFrame s = cond (isLine lineBytes s) (bytesOf s) []
 -- "each ended by LF"
 unfoldable pub lineOf : List ℕ → List ℕ
 lineOf xs = digitsOf xs ++ (10 ∷ [])
+
+-- the lines of a text, and what stands behind its last LF
+pub record Lines : Type 0 where
+  pub whole : List (List ℕ)
+  pub rest : List ℕ
+
+unfoldable pub linesFrom : List ℕ → List ℕ → Lines
+linesFrom line [] = record { whole = []; rest = line }
+linesFrom line (x ∷ t) =
+    elim (eqb x 10) [
+      | true ↦ let l : Lines = linesFrom [] t in record { whole = line ∷ l .whole; rest = l .rest }
+      | false ↦ linesFrom (line ++ (x ∷ [])) t
+    ]
+
+unfoldable pub linesOf : List ℕ → Lines
+linesOf t = linesFrom [] t

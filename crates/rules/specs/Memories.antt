@@ -5,7 +5,7 @@ use Prim.Native.Nat.{ℕ, _-_, _*_}
 use lib.ListN.{length}
 use Rattle.words.specs.Word.{zeros}
 use Rattle.rules.specs.Limits.{places, shareBytes, bufferBytes}
-use Rattle.rules.specs.State.{Req, idle, reading, writing, readDone, writeDone, Acc, Built, File, unbuilt, built}
+use Rattle.rules.specs.State.{Req, idle, reading, writing, readDone, writeDone, Acc, File, unbuilt, built}
 use Rattle.rules.specs.Desk.{Desk}
 
 -- "blocks (eight shares of 4,096 bytes)": a file's share, from 4,096 × file on

@@ -11,9 +11,9 @@ use Rattle.rules.specs.Limits.{places, mostMode}
 use Rattle.rules.specs.Geometry.{dataBlocks, capacity, inRange, fitsShare}
 use Rattle.rules.specs.State.{Rec, idle, Acc, Geo, Store, purges, Built}
 use Rattle.rules.specs.Store.{used, emptyStore, purge}
-use Rattle.rules.specs.Requests.{countAcc, writers, readers, opened, room, withStore, withAccs, say, putRec}
+use Rattle.rules.specs.Requests.{countAcc, writers, readers, opened, capacityOf, withStore, withAccs, say, putRec}
 use Rattle.rules.specs.Settle.{settle}
-use Rattle.rules.specs.Reply.{answers, Out, done, status, unmade}
+use Rattle.rules.specs.Reply.{answers, Out, answering, status, unmade}
 
 -- a new file, with no accessor
 unfoldable pub newFile : Geo → Store → Built
@@ -30,16 +30,16 @@ build r b n x =
       | false ↦ unmade (answers (Status 1 35) [])
       | true ↦ elim (fitsShare r b d) [
         | false ↦ unmade (answers (Status 1 38) [])
-        | true ↦ done (answer.Built (capacity b d)) (newFile (geoOf r b d) emptyStore)
+        | true ↦ answering (answer.Built (capacity b d)) (newFile (geoOf r b d) emptyStore)
       ]
     ]
 
 -- "Share 0 counts as 1"
-unfoldable pub shareOf : ℕ → ℕ
-shareOf s = cond (eqb s 0) 1 s
+unfoldable pub sharingOf : ℕ → ℕ
+sharingOf s = cond (eqb s 0) 1 s
 
 unfoldable pub otherShare : ℕ → Acc → Bool
-otherShare s a = not (eqb (a .share) s)
+otherShare s a = not (eqb (a .sharing) s)
 
 -- "1 (one reader, one writer), 2 is one reader and many writers, 3 is many of both": a second accessor the share forbids
 unfoldable pub crowded : Bool → ℕ → Built → Bool
@@ -58,12 +58,12 @@ unfoldable pub freeIdFrom : ℕ → ℕ → List (Option Acc) → ℕ
 freeIdFrom zero n l = n
 freeIdFrom (suc k) n l = elim (eqb (countAcc (holdsId n) l) 0) [ true ↦ n | false ↦ freeIdFrom k (n + 1) l ]
 
--- "Writer ID: the smallest number from 1 that no open writer of the file holds": with eight places eight steps are enough
+-- "Writer ID: the smallest number from 1 that no open writer of the file holds": with eight places eight steps are enough (law `smallest-id`)
 unfoldable pub freeId : List (Option Acc) → ℕ
 freeId l = freeIdFrom places 1 l
 
 unfoldable pub newAcc : Bool → ℕ → ℕ → Acc
-newAcc writer n s = record { writer = writer; ident = n; share = s; timeout = 0; extended = false; typed = false; keep = false; first = true; req = idle }
+newAcc writer n s = record { writer = writer; ident = n; sharing = s; timeout = 0; extended = false; typed = false; keep = false; first = true; req = idle }
 
 unfoldable pub enter : Acc → Built → Built
 enter a b = withAccs (set (b .accs) (firstFree (b .accs)) (some a)) b
@@ -80,23 +80,24 @@ purged access b =
     ]
 
 unfoldable pub openReader : ℕ → Built → Out
-openReader s b = done (Opened (firstFree (b .accs)) 0) (settle (enter (newAcc false 0 s) b))
+openReader s b = answering (Opened (firstFree (b .accs)) 0) (settle (enter (newAcc false 0 s) b))
 
 -- "A writer puts an open record"
 unfoldable pub openWriter : ℕ → Built → Out
 openWriter s b =
     let n : ℕ = freeId (b .accs) in
-    done (Opened (firstFree (b .accs)) n) (settle (enter (newAcc true n s) (putRec (openRec n) b)))
+    answering (Opened (firstFree (b .accs)) n) (settle (enter (newAcc true n s) (putRec (openRec n) b)))
 
 -- "and needs used + W + 2 ≤ C, with W before it and after any purge"
 unfoldable pub roomToOpen : ℕ → Built → Bool
-roomToOpen access b = leb (used (purged access b .store) + writers b + 2) (room b)
+roomToOpen access b = leb (used (purged access b .store) + writers b + 2) (capacityOf b)
 
--- open: 35 a number above 3, 40 a share that forbids it, 41 eight accessors open, 42 no room for the open record; "Access 0 reads"
-unfoldable pub open′ : ℕ → ℕ → ℕ → Built → Out
-open′ access share multi b =
+-- open: 35 a number above 3, 40 a share that forbids it, 41 eight accessors open, 42 no room for the open record; "Access 0 reads";
+-- "Multiaccess 0 counts as 2", and nothing tells 1 from 2
+unfoldable pub openFile : ℕ → ℕ → ℕ → Built → Out
+openFile access share multi b =
     let writer : Bool = ltb 0 access in
-    let s : ℕ = shareOf share in
+    let s : ℕ = sharingOf share in
     elim (leb access mostMode && leb share mostMode && leb multi mostMode) [
       | false ↦ status 2 35 b
       | true ↦ elim (eqb multi 3 || ltb 0 (countAcc (otherShare s) (b .accs)) || crowded writer s b) [

@@ -24,13 +24,13 @@ hushed b = record { geo = b .geo; store = b .store; accs = b .accs; rq = b .rq; 
 unfoldable pub leaves : Reply → Built → Out
 leaves r b = record { reply = r; file = built (hushed b); haps = b .past }
 
--- done, with nothing behind it
-unfoldable pub done : Answer → Built → Out
-done a b = leaves (answers a []) b
+-- an answer with nothing behind it
+unfoldable pub answering : Answer → Built → Out
+answering a b = leaves (answers a []) b
 
 -- "Any other status: operation and status only."
 unfoldable pub status : ℕ → ℕ → Built → Out
-status op st b = done (Status op st) b
+status op st b = answering (Status op st) b
 
 -- of a file that is not built
 unfoldable pub unmade : Reply → Out

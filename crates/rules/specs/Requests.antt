@@ -1,8 +1,8 @@
 -- Accessors and their requests: who is open, what fits, and how a request waits, completes, or is cancelled.
-use mathlib.Core.Bool.{Bool, true, false, cond, not}
+use mathlib.Core.Bool.{Bool, true, false, cond, not, _&&_}
 use mathlib.Core.List.{List, [], _∷_, _++_, map}
 use mathlib.Core.Option.{Option, none, some}
-use Prim.Native.Nat.{ℕ, zero, suc, _+_, _-_}
+use Prim.Native.Nat.{ℕ, zero, suc, _+_}
 use lib.Dec.{leb, eqb}
 use lib.ListN.{getD}
 use Rattle.rules.specs.Geometry.{capacity}
@@ -38,12 +38,12 @@ opened b = countAcc anyAcc (b .accs)
 unfoldable pub accAt : Built → ℕ → Option Acc
 accAt b p = getD (b .accs) p none
 
-unfoldable pub room : Built → ℕ
-room b = capacity (b .geo .factor) (b .geo .blocks)
+unfoldable pub capacityOf : Built → ℕ
+capacityOf b = capacity (b .geo .factor) (b .geo .blocks)
 
 -- "With W writers open, a data record fits exactly when used + W + 1 ≤ C: one place is kept for each close record."
 unfoldable pub fits : Built → Bool
-fits b = leb (used (b .store) + writers b + 1) (room b)
+fits b = leb (used (b .store) + writers b + 1) (capacityOf b)
 
 -- the file with one part set anew
 
@@ -90,11 +90,11 @@ isIdle (readDone st l d) = false
 isIdle (writeDone st l) = false
 
 unfoldable pub withReq : Req → Acc → Acc
-withReq q a = record { writer = a .writer; ident = a .ident; share = a .share; timeout = a .timeout; extended = a .extended; typed = a .typed; keep = a .keep; first = a .first; req = q }
+withReq q a = record { writer = a .writer; ident = a .ident; sharing = a .sharing; timeout = a .timeout; extended = a .extended; typed = a .typed; keep = a .keep; first = a .first; req = q }
 
--- an accepted read or write spends control 47 and the first operation
+-- an accepted read or write is no longer to be the first; 47: "The setting is spent by that read", so a write leaves it
 unfoldable pub begun : Acc → Acc
-begun a = record { writer = a .writer; ident = a .ident; share = a .share; timeout = a .timeout; extended = a .extended; typed = a .typed; keep = false; first = false; req = a .req }
+begun a = record { writer = a .writer; ident = a .ident; sharing = a .sharing; timeout = a .timeout; extended = a .extended; typed = a .typed; keep = a .writer && a .keep; first = false; req = a .req }
 
 unfoldable pub without : ℕ → List ℕ → List ℕ
 without p [] = []
@@ -109,11 +109,11 @@ unfoldable pub armIn : Timer → List Timer → List Timer
 armIn t [] = t ∷ []
 armIn t (u ∷ l) = cond (leb (u .left) (t .left)) (u ∷ armIn t l) (t ∷ u ∷ l)
 
--- every change of a request: it is q now, and the queues are r and w
+-- a request that begins or ceases to wait: it is q now, and the queues are r and w
 unfoldable pub requeue : ℕ → Req → List ℕ → List ℕ → Built → Built
 requeue p q r w b = alterAcc p (withReq q) (withQueues r w b)
 
--- the request at p leaves its queue and is q now, "the timer goes"
+-- the request at p leaves its queue and is q now, and its timer "goes when it completes"
 unfoldable pub leave : ℕ → Req → Built → Built
 leave p q b = withTimers (withoutTimer p (b .timers)) (requeue p q (without p (b .rq)) (without p (b .wq)) b)
 
@@ -143,11 +143,11 @@ arm p n b =
       | false ↦ say (arms p n ∷ []) (withTimers (armIn (record { place = p; left = n }) (b .timers)) b)
     ]
 
--- the request q at p begins to wait, behind those of its side
-unfoldable pub wait : Bool → ℕ → ℕ → Req → Built → Built
+-- the request q at p, of a writer or of a reader, begins to wait, behind those of its side
+unfoldable pub wait : (writer : Bool) (p seconds : ℕ) → Req → Built → Built
 wait true p n q b = arm p n (say (waits p ∷ []) (requeue p q (b .rq) (b .wq ++ (p ∷ [])) b))
 wait false p n q b = arm p n (say (waits p ∷ []) (requeue p q (b .rq ++ (p ∷ [])) (b .wq) b))
 
 -- a completed request is collected
 unfoldable pub freed : ℕ → Built → Built
-freed p b = say (collects p ∷ []) (requeue p idle (b .rq) (b .wq) b)
+freed p b = say (collects p ∷ []) (alterAcc p (withReq idle) b)

@@ -1,7 +1,7 @@
 -- "then the file settles: while something can be done, serve the first waiting reader, else the first waiting writer."
 use mathlib.Core.Bool.{Bool, true, false, cond}
 use mathlib.Core.List.{List, [], _∷_, _++_}
-use mathlib.Core.Option.{Option, none, some}
+use mathlib.Core.Option.{none, some}
 use Prim.Native.Nat.{ℕ, zero, suc, _+_}
 use lib.ListN.{length, take}
 use Rattle.words.specs.Word.{word}
@@ -31,7 +31,7 @@ still b = record { file = b; moved = false }
 unfoldable pub onward : Built → Turn
 onward b = record { file = b; moved = true }
 
--- the waiting read q of the accessor a at p; "also as first waiting reader whenever the file settles" open and close records at the head go
+-- the waiting read q of the accessor a at p; "as first waiting reader whenever the file settles" open and close records at the head go
 unfoldable pub serveReader : ℕ → Acc → Req → Built → Turn
 serveReader p a (reading words limit keep) b =
     let f : Found = fetch (b .geo) (a .typed) keep (b .store) in

@@ -6,11 +6,11 @@ use Prim.Native.Nat.{ℕ, _+_, _*_}
 use lib.Dec.{leb, eqb}
 use lib.ListN.{length, drop, getD}
 use Rattle.words.specs.Word.{word, wordAt}
-use Rattle.rules.specs.Limits.{mostWords, mostFactor, lineBytes, leastCapacity, mostType}
+use Rattle.rules.specs.Limits.{mostWords, mostFactor, sheetLineBytes, leastCapacity, mostType}
 use Rattle.rules.specs.Geometry.{capacity, within, fitsShare}
-use Rattle.rules.specs.State.{Rec, Geo, Store, puts, Built}
+use Rattle.rules.specs.State.{Rec, Geo, puts, Built}
 use Rattle.rules.specs.Store.{emptyStore, putAll}
-use Rattle.rules.specs.Line.{bytesOf, isLine, lineOf}
+use Rattle.rules.specs.Line.{Lines, linesOf, bytesOf, isLine, lineOf}
 use Rattle.rules.specs.Requests.{say}
 use Rattle.rules.specs.Open.{newFile, geoOf}
 use Rattle.rules.specs.Reply.{shows, Out, leaves, unmade}
@@ -29,25 +29,9 @@ recLines (r ∷ l) = lineOf (recFrame r) ++ recLines l
 unfoldable pub sheet : Geo → List Rec → List ℕ
 sheet g l = lineOf (headFrame g (length l)) ++ recLines l
 
--- the lines of a text, and what stands behind its last LF
-pub record Lines : Type 0 where
-  pub whole : List (List ℕ)
-  pub rest : List ℕ
-
-unfoldable pub linesFrom : List ℕ → List ℕ → Lines
-linesFrom line [] = record { whole = []; rest = line }
-linesFrom line (x ∷ t) =
-    elim (eqb x 10) [
-      | true ↦ let l : Lines = linesFrom [] t in record { whole = line ∷ l .whole; rest = l .rest }
-      | false ↦ linesFrom (line ++ (x ∷ [])) t
-    ]
-
-unfoldable pub linesOf : List ℕ → Lines
-linesOf t = linesFrom [] t
-
 unfoldable pub allLines : List (List ℕ) → Bool
 allLines [] = true
-allLines (l ∷ ls) = isLine lineBytes l && allLines ls
+allLines (l ∷ ls) = isLine sheetLineBytes l && allLines ls
 
 -- "R and B in range, C ≥ 3, D × block size ≤ 2,048, records ≤ C, as many frames as it says"
 unfoldable pub goodHead : List ℕ → ℕ → Bool

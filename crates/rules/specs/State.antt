@@ -27,20 +27,20 @@ pub record Store : Type 0 where
 -- "One outstanding request per accessor, until collected."
 pub data Req : Type 0 where
   idle : Req
-  -- a waiting read: counted in words?, at most so many bytes, under control 47?
-  reading : Bool → ℕ → Bool → Req
-  -- a waiting write: counted in words?, the data
-  writing : Bool → List ℕ → Req
-  -- a completed read: status, log, data
-  readDone : ℕ → ℕ → List ℕ → Req
-  -- a completed write: status, log
-  writeDone : ℕ → ℕ → Req
+  -- a waiting read: whether it counts in words, at most how many bytes, whether under control 47
+  reading : (words : Bool) (limit : ℕ) (keep : Bool) → Req
+  -- a waiting write: whether it counts in words, and the data
+  writing : (words : Bool) (bytes : List ℕ) → Req
+  -- a completed read
+  readDone : (status log : ℕ) (bytes : List ℕ) → Req
+  -- a completed write
+  writeDone : (status log : ℕ) → Req
 
 pub record Acc : Type 0 where
   pub writer : Bool
   -- the writer's ID, 0 for a reader
   pub ident : ℕ
-  pub share : ℕ
+  pub sharing : ℕ
   -- control 4
   pub timeout : ℕ
   -- controls 45, 46, 47
@@ -51,12 +51,13 @@ pub record Acc : Type 0 where
   pub first : Bool
   pub req : Req
 
--- the remaining timeout of the request at a place
+-- the remaining timeout of the request at a place: among a file's timers a place of the file, on the desk's clock (`Allocation`) one of the desk
 pub record Timer : Type 0 where
   pub place : ℕ
   pub left : ℕ
 
--- what happens to a file in a call; what is stated beside the definition is a fold over it
+-- what happens to a file in a call, in order; what is stated beside the definition is a fold over it, but for the passing of time, which goes over
+-- all files at once (`Allocation.allocTime`)
 pub data Hap : Type 0 where
   -- a record was put; was handed to a read or discarded; all records were purged
   puts : Rec → Hap

@@ -1,14 +1,14 @@
 -- The ring of blocks: records put, gone and purged, and the bytes of the file's share.
-use mathlib.Core.Bool.{Bool, true, false, cond}
+use mathlib.Core.Bool.{Bool, true, false, cond, _||_}
 use mathlib.Core.List.{List, [], _∷_, _++_}
 use mathlib.Core.Option.{Option, none, some}
-use Prim.Native.Nat.{ℕ, _+_, _-_, _*_, _/_, _%_}
+use Prim.Native.Nat.{ℕ, zero, suc, _+_, _-_, _*_, _/_, _%_}
 use lib.Dec.{eqb}
 use lib.ListN.{length, drop}
 use lib.Seq.{sets}
 use Rattle.words.specs.Word.{word, wordAt, zeros}
 use Rattle.rules.specs.Limits.{shareBytes}
-use Rattle.rules.specs.Geometry.{upTo, blockSize}
+use Rattle.rules.specs.Geometry.{dividedUp, blockSize}
 use Rattle.rules.specs.State.{Rec, Geo, Store}
 
 -- "Used = records put since the start of the oldest block still holding one."
@@ -25,7 +25,7 @@ emptyStore = record { block = 0; spent = 0; recs = []; share = zeros shareBytes 
 unfoldable pub pad : ℕ → List ℕ
 pad n = cond (eqb (n % 2) 0) [] (0 ∷ [])
 
--- "a word with the bytes that follow (4 + data), a type word, the writer's ID, and data"
+-- "a word with the bytes that follow (4 + data), a type word (0 data, 1 open, 2 close), the writer's ID, and data"
 unfoldable pub recordBytes : Rec → List ℕ
 recordBytes r = word (4 + length (r .body)) ++ (word (r .typ) ++ (word (r .wid) ++ (r .body ++ pad (length (r .body)))))
 
@@ -51,12 +51,11 @@ unfoldable pub tail : Geo → Store → ℕ
 tail g s = (s .block + used s / g .factor) % g .blocks * blockBytes g
 
 -- "a block is zeroed again when its first record is put"; "A block takes at most B records."
+unfoldable pub readied : Geo → Store → List ℕ
+readied g s = elim (eqb (used s % g .factor) 0) [ true ↦ sets (s .share) (tail g s) (zeroed (blockBytes g)) | false ↦ s .share ]
+
 unfoldable pub inscribed : Geo → Rec → Store → List ℕ
-inscribed g r s =
-    elim (eqb (used s % g .factor) 0) [
-      | true ↦ added (sets (s .share) (tail g s) (zeroed (blockBytes g))) (tail g s) r
-      | false ↦ added (s .share) (tail g s) r
-    ]
+inscribed g r s = added (readied g s) (tail g s) r
 
 unfoldable pub put : Geo → Rec → Store → Store
 put g r s = record { block = s .block; spent = s .spent; recs = s .recs ++ (r ∷ []); share = inscribed g r s }
@@ -66,32 +65,30 @@ unfoldable pub putAll : Geo → List Rec → Store → Store
 putAll g [] s = s
 putAll g (r ∷ rest) s = putAll g rest (put g r s)
 
--- the oldest record is gone and `rest` stays: "A file that becomes empty has used = 0 and goes on at the next block", and so does one whose
--- oldest block is spent
-unfoldable pub advance : Geo → Store → List Rec → Store
-advance g s [] = record { block = (s .block + 1) % g .blocks; spent = 0; recs = []; share = s .share }
-advance g s (r ∷ rest) =
-    elim (eqb (s .spent + 1) (g .factor)) [
-      | true ↦ record { block = (s .block + 1) % g .blocks; spent = 0; recs = r ∷ rest; share = s .share }
-      | false ↦ record { block = s .block; spent = s .spent + 1; recs = r ∷ rest; share = s .share }
+-- the oldest record is gone: "A file that becomes empty has used = 0 and goes on at the next block", and so does one whose oldest block is spent
+unfoldable pub advance : Geo → Store → Store
+advance g s =
+    elim (eqb (length (s .recs)) 1 || eqb (s .spent + 1) (g .factor)) [
+      | true ↦ record { block = (s .block + 1) % g .blocks; spent = 0; recs = drop 1 (s .recs); share = s .share }
+      | false ↦ record { block = s .block; spent = s .spent + 1; recs = drop 1 (s .recs); share = s .share }
     ]
 
--- open and close records at the head of the records `l` of s go
-unfoldable pub discardFrom : Geo → List Rec → Store → Store
-discardFrom g [] s = s
-discardFrom g (r ∷ rest) s = elim (eqb (r .typ) 0) [ true ↦ s | false ↦ discardFrom g rest (advance g s rest) ]
+unfoldable pub advanceBy : ℕ → Geo → Store → Store
+advanceBy zero g s = s
+advanceBy (suc n) g s = advanceBy n g (advance g s)
 
-unfoldable pub discard : Geo → Store → Store
-discard g s = discardFrom g (s .recs) s
-
--- the records that `discard` drops
+-- the open and close records at the head
 unfoldable pub dropped : List Rec → List Rec
 dropped [] = []
 dropped (r ∷ rest) = elim (eqb (r .typ) 0) [ true ↦ [] | false ↦ r ∷ dropped rest ]
 
+-- they go
+unfoldable pub discard : Geo → Store → Store
+discard g s = advanceBy (length (dropped (s .recs))) g s
+
 -- all records go; "goes on at the next block" behind the last record's
 unfoldable pub purge : Geo → Store → Store
-purge g s = record { block = (s .block + upTo (used s) (g .factor)) % g .blocks; spent = 0; recs = []; share = s .share }
+purge g s = record { block = (s .block + dividedUp (used s) (g .factor)) % g .blocks; spent = 0; recs = []; share = s .share }
 
 -- what a read finds: the store behind it, the record, if there is one, and the records that went, in their order
 pub record Found : Type 0 where
@@ -99,20 +96,22 @@ pub record Found : Type 0 where
   pub got : Option Rec
   pub went : List Rec
 
--- the head record is taken; under control 47 it stays
-unfoldable pub takeHead : Geo → Bool → Store → List Rec → List Rec → Found
-takeHead g keep s went [] = record { store = s; got = none; went = went }
-takeHead g keep s went (r ∷ rest) =
-    elim keep [
-      | true ↦ record { store = s; got = some r; went = went }
-      | false ↦ record { store = advance g s rest; got = some r; went = went ++ (r ∷ []) }
+unfoldable pub headOf : List Rec → Option Rec
+headOf [] = none
+headOf (r ∷ l) = some r
+
+-- the head record is taken, behind those that went; under control 47 it stays
+unfoldable pub takeHead : Geo → Bool → List Rec → Store → Found
+takeHead g keep went s =
+    elim (headOf (s .recs)) [
+      | none ↦ record { store = s; got = none; went = went }
+      | some r ↦ elim keep [
+        | true ↦ record { store = s; got = some r; went = went }
+        | false ↦ record { store = advance g s; got = some r; went = went ++ (r ∷ []) }
+      ]
     ]
 
--- "An ordinary read discards open and close records at the head, then takes the first data record. With control 46 it takes the head record of
+-- "An ordinary read discards open and close records at the head", "then takes the first data record. With control 46 it takes the head record of
 -- any type"
 unfoldable pub fetch : Geo → Bool → Bool → Store → Found
-fetch g typed keep s =
-    elim typed [
-      | true ↦ takeHead g keep s [] (s .recs)
-      | false ↦ takeHead g keep (discard g s) (dropped (s .recs)) (discard g s .recs)
-    ]
+fetch g typed keep s = elim typed [ true ↦ takeHead g keep [] s | false ↦ takeHead g keep (dropped (s .recs)) (discard g s) ]

@@ -1,8 +1,8 @@
 -- Read, write and collect.
-use mathlib.Core.Bool.{Bool, true, false, cond, _&&_, _||_}
-use mathlib.Core.List.{List, [], _∷_, _++_}
-use mathlib.Core.Option.{Option, none, some}
-use Prim.Native.Nat.{ℕ, _+_, _*_}
+use mathlib.Core.Bool.{Bool, true, false, _&&_, _||_}
+use mathlib.Core.List.{List, [], _∷_}
+use mathlib.Core.Option.{none, some}
+use Prim.Native.Nat.{ℕ, _*_}
 use lib.Dec.{ltb, leb, eqb}
 use lib.ListN.{length}
 use Rattle.kinds.specs.declared.Answer.the-variants.{Read, Written, Collected}
@@ -11,10 +11,10 @@ use Rattle.rules.specs.Store.{fetch, Found}
 use Rattle.rules.specs.Count.{inWords, countBytes, readable, logOf}
 use Rattle.rules.specs.Requests.{writers, readers, fits, alterAcc, putRec, behind, isIdle, begun, wait, freed}
 use Rattle.rules.specs.Settle.{handed, dataRec, settle}
-use Rattle.rules.specs.Reply.{answers, Out, leaves, done, status}
+use Rattle.rules.specs.Reply.{answers, Out, leaves, answering, status}
 
--- "A read that can't be served waits if the other side has an accessor, or extended wait (45) is on, or it is this accessor's first read or
--- write. Otherwise it ends with status 2."
+-- "A read that can't be served, or a write that doesn't fit or has writers waiting ahead, waits if the other side has an accessor, or extended wait
+-- (45) is on, or it is this accessor's first read or write. Otherwise it ends with status 2."
 unfoldable pub mayWait : ℕ → Acc → Bool
 mayWait others a = ltb 0 others || a .extended || a .first
 
@@ -51,7 +51,7 @@ isNil (x ∷ l) = false
 unfoldable pub writeOn : ℕ → Acc → ℕ → List ℕ → Built → Out
 writeOn p a n d b =
     elim (fits b && isNil (b .wq)) [
-      | true ↦ done (Written (logOf (inWords n) (length d))) (settle (alterAcc p begun (putRec (dataRec a d) b)))
+      | true ↦ answering (Written (logOf (inWords n) (length d))) (settle (alterAcc p begun (putRec (dataRec a d) b)))
       | false ↦ elim (mayWait (readers b) a) [
         | true ↦ status 4 1 (settle (wait true p (a .timeout) (writing (inWords n) d) (alterAcc p begun b)))
         | false ↦ status 4 2 (settle (alterAcc p begun b))

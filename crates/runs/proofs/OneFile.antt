@@ -7,9 +7,8 @@ use native.Mathlib.Omega.{arith}
 use lib.Dec.{ltb, eqb}
 use lib.ListN.{length}
 use borrow.Author.Tests.{lt-ltb, le-ltb, eqb-true}
-use Rattle.words.specs.Word.{zeros}
-use Rattle.rules.specs.Limits.{files, places, entries, shareBytes, bufferBytes}
-use Rattle.rules.specs.State.{Timer, File, unbuilt, built}
+use Rattle.rules.specs.Limits.{files, places, entries}
+use Rattle.rules.specs.State.{Timer, File}
 use Rattle.rules.specs.Memories.{shareOf, buffersOf}
 use Rattle.rules.specs.Desk.{Desk, fileOf}
 use Rattle.rules.specs.Allocation.{Alloc, placeOf, upFrom}
@@ -17,20 +16,22 @@ use Rattle.rules.proofs.Split.{pick-true, pick-false}
 use Rattle.laws.specs.Queues.{Agree}
 use Rattle.laws.specs.Entries.{local, sieve, timersOf}
 use Rattle.laws.proofs.Files.{on-file}
-use Rattle.segment.specs.Layout.{listCount, readQueue, writeQueue, replyPort, linkAt, rowWords, rowAt, fileRow, placeRow}
+use Rattle.segment.specs.Layout.{listCount, readQueue, writeQueue, replyPort, linkAt, placeWidth, placeRowAt}
 use Rattle.segment.specs.Layout as layout
 use Rattle.segment.specs.Table.{nth, row, dataOf}
 use Rattle.ports.specs.Lists.{Chain}
 use Rattle.ports.proofs.Lists.{short}
-use Rattle.memory.specs.Image.{accOf, reqOf, fileWords, placeWords, rqOf, wqOf, queueWords, portWords, timerWords, listOf, boxOf}
-use Rattle.memory.specs.Stands.{FileBytes}
+use Rattle.memory.specs.Image.{accOf, fileWords, placeWords, rqOf, wqOf, queueWords, portWords, timerWords, listOf, boxOf}
+use Rattle.laws.specs.Outstanding.{reqOf}
 use Rattle.memory.specs.Fine.{Fine}
 use Rattle.memory.proofs.Boxes.{getD-listsOf, segment-boxes}
-use Rattle.memory.proofs.Image.{placeAcc-of, rowOf-file, rowOf-acc, boxOf-read, boxOf-write, boxOf-port, boxOf-timers}
+use Rattle.memory.proofs.Image.{placeAcc-of, boxOf-read, boxOf-write, boxOf-port, boxOf-timers}
+use Rattle.memory.proofs.Segments.{segment-file, segment-place}
 use Rattle.memory.proofs.Once.{agreed-once}
 use Rattle.promises.specs.Promise.{Memories}
 use Rattle.runs.specs.Run.{Holds}
 use Rattle.runs.specs.OneFile.{walk, listed, timersOn, OneFile, fileIn}
+use Rattle.memory.proofs.Bodies.{file-blank}
 
 -- a walk over a list
 
@@ -86,11 +87,6 @@ imageOf f x =
       timers = map (λ t. timerWords (placed f t)) (timersOf x);
     }
 
-file-blank : (x : File) (s b : List ℕ) → FileBytes x s b → (x ≡ unbuilt → (s ≡ zeros shareBytes) × (b ≡ zeros (places * bufferBytes))) → (s ≡ shareOf x) × (b ≡ buffersOf x)
-unfolding FileBytes shareOf buffersOf
-file-blank unbuilt s b h u = u refl
-file-blank (built c) s b h u = h
-
 module _ (m : Memories) (d : Desk) (s : Alloc) (H : Holds m d s) where
   -- what is read of list l
   listed-box : (l : ℕ) → l < listCount → listed (m .segment) l ≡ boxOf d s l
@@ -106,8 +102,8 @@ module _ (m : Memories) (d : Desk) (s : Alloc) (H : Holds m d s) where
     unfolding placeOf
     low p k = omega arith
 
-    rows : (p : ℕ) → p < 0 + places → row (m .segment) (rowAt (placeRow (placeOf f p))) rowWords ≡ placeWords (accOf (fileOf d f) p)
-    rows p k = H .stands .stands .segment .rows (placeRow (placeOf f p)) (omega (arith, low p k)) ∙ rowOf-acc d f p k
+    rows : (p : ℕ) → p < 0 + places → row (m .segment) (placeRowAt (placeOf f p)) placeWidth ≡ placeWords (accOf (fileOf d f) p)
+    rows p k = segment-place (H .stands .stands .segment) (placeOf f p) (omega (arith, low p k)) ∙ ap placeWords (placeAcc-of d f p k)
 
     ports : (p : ℕ) → p < 0 + places → listed (m .segment) (replyPort (placeOf f p)) ≡ portWords (placeOf f p) (reqOf (accOf (fileOf d f) p))
     ports p k =
@@ -121,7 +117,7 @@ module _ (m : Memories) (d : Desk) (s : Alloc) (H : Holds m d s) where
     pub file-is : fileIn f m ≡ imageOf f (fileOf d f)
     unfolding fileIn imageOf
     file-is =
-        let own = H .stands .stands .segment .rows (fileRow f) (omega arith) ∙ rowOf-file d f h in
+        let own = segment-file (H .stands .stands .segment) f h in
         let (share, buffers) = file-blank (fileOf d f) _ _ (H .stands .stands .bodies .each f h) (H .blank f h) in
         let reads = listed-box (readQueue f) (omega arith) ∙ boxOf-read d s f h in
         let writes = listed-box (writeQueue f) (omega arith) ∙ boxOf-write d s f h in

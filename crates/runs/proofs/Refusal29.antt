@@ -16,7 +16,7 @@ use Rattle.rules.specs.Look.{oldest, lookFile, lookReq}
 use Rattle.rules.specs.Look as looking
 use Rattle.rules.specs.Sheet.{sheet, readSheet}
 use Rattle.rules.specs.Sheet as sheets
-use Rattle.rules.specs.Calls.{Ask, askBuilt, askUnbuilt, ask, refusal}
+use Rattle.rules.specs.Calls.{Ask, askBuilt, askUnbuilt, ask, refusal, onAcc}
 use Rattle.rules.specs.Calls as calls
 use Rattle.rules.specs.Desk.{Desk, Call, on, asked, Responded, answered, respond, replyBytes, fileOf, freshDesk, after}
 use Rattle.rules.specs.Desk as rules
@@ -51,8 +51,8 @@ req-other (writing w d) b = file-other b
 req-other (readDone st l d) b = both OtherOut (eqb st 0) (λ _. refl) (λ _. file-other b)
 req-other (writeDone st l) b = file-other b
 
-look-other : (p : ℕ) (b : Built) → OtherOut (looking.look p b)
-unfolding looking.look leaves Other replyStatus
+look-other : (p : ℕ) (b : Built) → OtherOut (onAcc (calls.look p) p (λ a. looking.look a b) b)
+unfolding onAcc refusal looking.look leaves Other replyStatus
 look-other p b = opt OtherOut (accAt b p) (λ _. refl) (λ a _. both OtherOut (a .writer) (λ _. refl) (λ _. req-other (a .req) b))
 
 save-other : (n : ℕ) (b : Built) → OtherOut (sheets.save n b)

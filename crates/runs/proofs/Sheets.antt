@@ -1,4 +1,4 @@
--- "A saved sheet loads back to the same geometry and records, and saving that gives the same sheet", over runs: whatever run came before, what save wrote
+-- A saved sheet loads back to the same geometry and records, and saving that gives the same sheet, over runs: whatever run came before, what save wrote
 -- loads into any file that is not built then, in this or any other run.
 use Prim.Native.Nat.{ℕ, _<_}
 use mathlib.Core.Path.{_≡_, refl, sym, ap}

@@ -1,5 +1,5 @@
--- Condition 2: "Every answer, stored record, waiting request and running timeout is what the manual and document 01 say for the calls made since the desk
--- was fresh."
+-- Condition 2: every answer, stored record, waiting request and running timeout is what the manual and document 01 say for the calls made since the desk
+-- was fresh.
 use mathlib.Core.Path.{_≡_}
 use mathlib.Core.List.{List, [], _∷_, _++_}
 use lib.ListN.{getD, drop}

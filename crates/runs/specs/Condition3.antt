@@ -1,6 +1,6 @@
--- Condition 3, isolation: "One file, two runs from a fresh desk with the same passages of time and the same calls naming that file in the same order; calls
+-- Condition 3, isolation: one file, two runs from a fresh desk with the same passages of time and the same calls naming that file in the same order; calls
 -- naming other files may differ in any way. Then all answers to calls naming our file agree, refusals included, and so do its records, accessors, waiting
--- requests, remaining timeouts, blocks and record buffers at the end, although all files draw entries from one free list."
+-- requests, remaining timeouts, blocks and record buffers at the end, although all files draw entries from one free list.
 use Prim.Native.Nat.{ℕ, _<_}
 use mathlib.Core.Path.{_≡_}
 use mathlib.Core.Bool.{Bool, true, false, _&&_, _||_}
@@ -35,7 +35,7 @@ sortOf (host.look f p memory) = look f p (length memory)
 sortOf (host.save f output) = save f (length output)
 sortOf (host.load f text) = load f text
 
--- "calls naming that file", of wrong lengths too
+-- calls naming that file, of wrong lengths too
 unfoldable pub namesFile : ℕ → Sort → Bool
 namesFile f made = false
 namesFile f (event n frame) = names f (asked (rules.event frame))
@@ -48,7 +48,7 @@ isTime (on g q) = false
 isTime (time e) = true
 isTime bad = false
 
--- "passages of time": those that are not refused for the length of the answer memory
+-- passages of time: those that are not refused for the length of the answer memory
 unfoldable pub passes : Sort → Bool
 passes made = false
 passes (event n frame) = eqb n answerRoom && isTime (asked (rules.event frame))
@@ -75,7 +75,7 @@ pub record Found : Type 0 where
 unfoldable pub found : Given → Found
 found g = record { status = givenStatus g; size = givenSize g; bytes = take (givenSize g) (givenMemory g) }
 
--- "all answers to calls naming our file"
+-- all answers to calls naming our file
 unfoldable pub finds : ℕ → List HostCall → List Given → List Found
 finds f [] gs = []
 finds f (x ∷ xs) [] = []

@@ -7,7 +7,7 @@ use lib.Dec.{ltb, eqb}
 use lib.ListN.{getD}
 use Rattle.rules.specs.Limits.{places, entries}
 use Rattle.rules.specs.Allocation.{placeOf, upFrom}
-use Rattle.segment.specs.Layout.{readQueue, writeQueue, replyPort, timerList, linkAt, rowWords, rowAt, fileRow, placeRow}
+use Rattle.segment.specs.Layout.{readQueue, writeQueue, replyPort, timerList, linkAt, fileWidth, placeWidth, fileRowAt, placeRowAt}
 use Rattle.segment.specs.Table.{nth, row, dataOf}
 use Rattle.memory.specs.Stands.{shareAt, buffersAt}
 use Rattle.promises.specs.Promise.{Memories}
@@ -39,8 +39,8 @@ pub record OneFile : Type 0 where
 unfoldable pub fileIn : ℕ → Memories → OneFile
 fileIn f m =
     record {
-      own = row (m .segment) (rowAt (fileRow f)) rowWords;
-      accessors = map (λ p. row (m .segment) (rowAt (placeRow (placeOf f p))) rowWords) (upFrom 0 places);
+      own = row (m .segment) (fileRowAt f) fileWidth;
+      accessors = map (λ p. row (m .segment) (placeRowAt (placeOf f p)) placeWidth) (upFrom 0 places);
       share = shareAt f (m .blocks);
       buffers = buffersAt f (m .buffers);
       reads = listed (m .segment) (readQueue f);

@@ -26,11 +26,10 @@ use Rattle.memory.specs.Fine.{StandsFor}
 use Rattle.midst.specs.declared.File as hand
 use Rattle.midst.specs.File.{fileOfRow}
 use Rattle.midst.specs.Outcome.{replyStatus}
-use Rattle.judges.specs.Accessors.{wordsAt}
-use Rattle.judges.proofs.Names.{words-low}
-use Rattle.judges.proofs.Files.{is-built, not-built}
-use Rattle.tallies.specs.Tallies.{FileStands}
-use Rattle.tallies.proofs.Counted.{row-is, share-is, room}
+use Rattle.accessors.specs.Accessors.{wordsAt}
+use Rattle.accessors.proofs.Names.{words-low, is-built, not-built}
+use Rattle.midst.specs.FileStands.{FileStands}
+use Rattle.midst.proofs.FileStands.{row-is, share-is, room}
 use Rattle.sound.specs.Sound.{soundly}
 use Rattle.promises.specs.Promise.{Memories, Given, written, Standing, Seen, replyOf, shown, Promise}
 use Rattle.promises.specs.Promise as host

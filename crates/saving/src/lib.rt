@@ -1,10 +1,10 @@
 // "Save also gives the length, 0 if refused; output behind it stays."
-mod sheet;
+mod writing;
 
-use judges::accessors::words_of;
-use judges::refusals;
-use sheet::sheet_length;
-use sheet::write_sheet;
+use accessors::words_of;
+use kinds::refusals;
+use writing::sheet_length;
+use writing::write_sheet;
 ghost use mathlib.Core.Path.{_≡_};
 ghost use mathlib.Core.List.{List};
 ghost use Prim.Native.Nat.{ℕ, _≤_};
@@ -14,7 +14,7 @@ ghost use Rattle.rules.specs.Sheet as sheets;
 ghost use Rattle.rules.specs.Desk.{Desk, fileOf};
 ghost use Rattle.rules.specs.Allocation.{Alloc};
 ghost use Rattle.memory.specs.Fine.{StandsFor};
-ghost use Rattle.tallies.specs.Tallies.{FileStands};
+ghost use Rattle.midst.specs.FileStands.{FileStands};
 ghost use Rattle.promises.specs.Promise.{written, shown, Promise};
 ghost use Rattle.promises.specs.Promise as host;
 

@@ -5,7 +5,7 @@ use lib.ListN.{getD}
 use Rattle.segment.specs.declared.Entry.{Entry}
 use Rattle.segment.specs.declared.FileRow.{FileRow}
 use Rattle.segment.specs.declared.PlaceRow.{PlaceRow}
-use Rattle.segment.specs.Layout.{fileRow, placeRow, rowAt, rowWords}
+use Rattle.segment.specs.Layout.{fileWidth, placeWidth, fileRowAt, placeRowAt}
 use Rattle.segment.specs.Table.{row, dataOf}
 
 -- an entry's data, with one word to spare
@@ -65,7 +65,7 @@ unfoldable pub entryAt : List ℕ → ℕ → Entry
 entryAt s e = entryOf (dataOf s e)
 
 unfoldable pub fileAt : List ℕ → ℕ → FileRow
-fileAt s f = fileRowOf (row s (rowAt (fileRow f)) rowWords)
+fileAt s f = fileRowOf (row s (fileRowAt f) fileWidth)
 
 unfoldable pub placeAt : List ℕ → ℕ → PlaceRow
-placeAt s i = placeRowOf (row s (rowAt (placeRow i)) rowWords)
+placeAt s i = placeRowOf (row s (placeRowAt i) placeWidth)

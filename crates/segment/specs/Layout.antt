@@ -1,58 +1,95 @@
--- Where each word of the segment lies, counted in words: 82 list heads, 128 entries of ten words, a row of eight words for each file and for each
--- accessor place.
-use Prim.Native.Nat.{ℕ, _+_, _*_}
+-- Where each word of the segment lies, counted in words and computed from the counts and the widths of its parts: list heads, entries, a row for
+-- each file and for each accessor place. The limits of document 01 come from the rules; the widths stand here, and src/layout.rt has the same names.
+use Prim.Native.Nat.{ℕ, _+_, _-_, _*_}
+use mathlib.Core.Bool.{cond}
+use lib.Dec.{ltb}
+use Rattle.rules.specs.Limits.{files, places, entries}
 
--- the lists: free; a read queue and a write queue for each file; a reply port for each of the 64 places; the timer list
-abbrev pub listCount : ℕ
-listCount = 82
+-- the lists: free; a read queue and a write queue for each file; a reply port for each place of the desk; the timer list
+abbrev pub deskPlaces : ℕ
+deskPlaces = files * places
 
 abbrev pub freeList : ℕ
 freeList = 0
 
-abbrev pub readQueue : ℕ → ℕ
-readQueue f = 1 + f
+abbrev pub readQueues : ℕ
+readQueues = freeList + 1
 
-abbrev pub writeQueue : ℕ → ℕ
-writeQueue f = 9 + f
+abbrev pub writeQueues : ℕ
+writeQueues = readQueues + files
 
-abbrev pub replyPort : ℕ → ℕ
-replyPort i = 17 + i
+abbrev pub replyPorts : ℕ
+replyPorts = writeQueues + files
 
 abbrev pub timerList : ℕ
-timerList = 81
+timerList = replyPorts + deskPlaces
+
+abbrev pub listCount : ℕ
+listCount = timerList + 1
+
+abbrev pub readQueue : ℕ → ℕ
+readQueue f = readQueues + f
+
+abbrev pub writeQueue : ℕ → ℕ
+writeQueue f = writeQueues + f
+
+abbrev pub replyPort : ℕ → ℕ
+replyPort i = replyPorts + i
 
 -- a list ends at this word; whatever is not an entry's number ends a walk
 abbrev pub nil : ℕ
 nil = 65535
 
--- an entry's link, and the nine words of data behind it
-abbrev pub linkAt : ℕ → ℕ
-linkAt e = 82 + 10 * e
-
-abbrev pub dataAt : ℕ → ℕ
-dataAt e = 83 + 10 * e
-
+-- "entries of ten 16-bit words": an entry's link, and its data behind it
 abbrev pub dataWords : ℕ
 dataWords = 9
 
--- the rows: those of the files, then those of the places
+abbrev pub entryWidth : ℕ
+entryWidth = 1 + dataWords
+
+abbrev pub linkAt : ℕ → ℕ
+linkAt e = listCount + entryWidth * e
+
+abbrev pub dataAt : ℕ → ℕ
+dataAt e = listCount + 1 + entryWidth * e
+
+-- the rows: those of the files, then those of the places, each kind with a width of its own. Heads and links lie before them
+abbrev pub fileWidth : ℕ
+fileWidth = 8
+
+abbrev pub placeWidth : ℕ
+placeWidth = 8
+
+abbrev pub fileRows : ℕ
+fileRows = listCount + entryWidth * entries
+
+abbrev pub placeRows : ℕ
+placeRows = fileRows + fileWidth * files
+
+abbrev pub segmentWords : ℕ
+segmentWords = placeRows + placeWidth * deskPlaces
+
+abbrev pub segmentBytes : ℕ
+segmentBytes = 2 * segmentWords
+
+abbrev pub fileRowAt : ℕ → ℕ
+fileRowAt f = fileRows + fileWidth * f
+
+abbrev pub placeRowAt : ℕ → ℕ
+placeRowAt i = placeRows + placeWidth * i
+
+-- all rows by one number: where row i begins, and how wide it is
 abbrev pub rowCount : ℕ
-rowCount = 72
-
-abbrev pub rowWords : ℕ
-rowWords = 8
-
-abbrev pub rowAt : ℕ → ℕ
-rowAt i = 1362 + 8 * i
+rowCount = files + deskPlaces
 
 abbrev pub fileRow : ℕ → ℕ
 fileRow f = f
 
 abbrev pub placeRow : ℕ → ℕ
-placeRow i = 8 + i
+placeRow i = files + i
 
-abbrev pub segmentWords : ℕ
-segmentWords = 1938
+unfoldable pub rowAt : ℕ → ℕ
+rowAt i = cond (ltb i files) (fileRowAt i) (placeRowAt (i - files))
 
-abbrev pub segmentBytes : ℕ
-segmentBytes = 3876
+unfoldable pub rowWidth : ℕ → ℕ
+rowWidth i = cond (ltb i files) fileWidth placeWidth

@@ -1,27 +1,34 @@
-// Where each word of the segment lies, counted in words; specs/Layout.antt has the same numbers.
+// Where each word of the segment lies, counted in words and computed from the counts and the widths of its parts; specs/Layout.antt has the same.
+pub use kinds::limits::ENTRIES;
+use kinds::limits::FILES;
+use kinds::limits::PLACES;
 
 // The lists. A queue's or a port's number is the first one's and the file's or the place's.
+pub const DESK_PLACES: usize = FILES * PLACES;
+
 pub const FREE_LIST: usize = 0;
 
-pub const READ_QUEUES: usize = 1;
+pub const READ_QUEUES: usize = FREE_LIST + 1;
 
-pub const WRITE_QUEUES: usize = 9;
+pub const WRITE_QUEUES: usize = READ_QUEUES + FILES;
 
-pub const REPLY_PORTS: usize = 17;
+pub const REPLY_PORTS: usize = WRITE_QUEUES + FILES;
 
-pub const TIMER_LIST: usize = 81;
+pub const TIMER_LIST: usize = REPLY_PORTS + DESK_PLACES;
 
-// A word from here on is no entry's number and ends a list; NIL is the one that is stored.
-pub const ENTRIES: u16 = 128;
+pub const LISTS: usize = TIMER_LIST + 1;
 
+// A word from ENTRIES on is no entry's number and ends a list; NIL is the one that is stored.
 pub const NIL: u16 = 65535;
 
 // An entry: its link, and its data behind.
-pub const LINKS: usize = 82;
+pub const DATA_WORDS: usize = 9;
 
-pub const DATA: usize = 83;
+pub const ENTRY_WORDS: usize = 1 + DATA_WORDS;
 
-pub const ENTRY_WORDS: usize = 10;
+pub const LINKS: usize = LISTS;
+
+pub const DATA: usize = LINKS + 1;
 
 pub const ENTRY_PLACE: usize = 0;
 
@@ -39,12 +46,14 @@ pub const ENTRY_SIZE: usize = 6;
 
 pub const ENTRY_SECONDS: usize = 7;
 
-// The rows: those of the files, then those of the places.
-pub const FILE_ROWS: usize = 1362;
+// The rows: those of the files, then those of the places, each kind with a width of its own.
+pub const FILE_ROW_WORDS: usize = 8;
 
-pub const PLACE_ROWS: usize = 1426;
+pub const PLACE_ROW_WORDS: usize = 8;
 
-pub const ROW_WORDS: usize = 8;
+pub const FILE_ROWS: usize = LINKS + ENTRY_WORDS * ENTRIES as usize;
+
+pub const PLACE_ROWS: usize = FILE_ROWS + FILE_ROW_WORDS * FILES;
 
 pub const FILE_WORDS: usize = 0;
 
@@ -74,5 +83,7 @@ pub const PLACE_KEEP: usize = 6;
 
 pub const PLACE_FIRST: usize = 7;
 
-// The whole, in bytes.
-pub const SEGMENT_BYTES: usize = 3876;
+// The whole.
+pub const SEGMENT_WORDS: usize = PLACE_ROWS + PLACE_ROW_WORDS * DESK_PLACES;
+
+pub const SEGMENT_BYTES: usize = 2 * SEGMENT_WORDS;

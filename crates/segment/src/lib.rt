@@ -3,7 +3,8 @@
 ghost use mathlib.Core.Path.{_≡_};
 ghost use Prim.Native.Nat.{_+_, _<_, _≤_};
 ghost use lib.ListN.{length};
-ghost use Rattle.segment.specs.Layout.{linkAt, dataAt, dataWords, rowAt, rowWords, fileRow, placeRow, segmentWords, segmentBytes};
+ghost use Rattle.rules.specs.Limits.{files, entries};
+ghost use Rattle.segment.specs.Layout.{deskPlaces, linkAt, dataAt, dataWords, fileWidth, placeWidth, fileRows, fileRowAt, placeRowAt, segmentWords, segmentBytes};
 ghost use Rattle.segment.specs.Table.{nth, putNth, row, fill, putData};
 ghost use Rattle.segment.specs.Fields.{entryWords, fileWords, placeWords, entryAt, fileAt, placeAt};
 
@@ -64,19 +65,17 @@ pub fn put(s: &mut [u8], k: usize, v: u16)
     words::put(s, 2 * k, v);
 }
 
-// The eight words from word k on.
-fn get_row(s: &[u8], k: usize) -> [u16; 8]
+// The words from word k on are copied, as many as there is room for.
+fn get_row(s: &[u8], k: usize, vs: &mut [u16])
     requires { ⌜ length (now s) ≡ segmentBytes ⌝ }
-    requires { ⌜ k + rowWords ≤ segmentWords ⌝ }
-    ensures { λ r. ⌜ r ≡ row (now (s .entry)) k rowWords ⌝ }
+    requires { ⌜ k + length (now vs) ≤ segmentWords ⌝ }
+    ensures { λ _. ⌜ now (vs .exit) ≡ row (now (s .entry)) k (length (now (vs .entry))) ⌝ }
 {
-    let mut r = [0u16; 8];
     let mut i = 0;
-    while i < layout::ROW_WORDS {
-        r[i] = get(s, k + i);
+    while i < vs.len() {
+        vs[i] = get(s, k + i);
         i += 1;
     }
-    r
 }
 
 // The words vs are stored from word k on.
@@ -94,41 +93,42 @@ fn put_row(s: &mut [u8], k: usize, vs: &[u16])
 
 // The word that is entry e's link.
 pub fn link_at(e: u16) -> usize
-    requires { ⌜ e < 128 ⌝ }
-    ensures { λ r. ⌜ (r ≡ linkAt e) × (r < 1362) ⌝ }
+    requires { ⌜ e < entries ⌝ }
+    ensures { λ r. ⌜ (r ≡ linkAt e) × (r < fileRows) ⌝ }
 {
     layout::LINKS + layout::ENTRY_WORDS * (e as usize)
 }
 
 // The first word of entry e's data, of file f's row, of place i's row.
 fn data_at(e: u16) -> usize
-    requires { ⌜ e < 128 ⌝ }
+    requires { ⌜ e < entries ⌝ }
     ensures { λ r. ⌜ (r ≡ dataAt e) × (r + dataWords ≤ segmentWords) ⌝ }
 {
     layout::DATA + layout::ENTRY_WORDS * (e as usize)
 }
 
 fn file_at(f: usize) -> usize
-    requires { ⌜ f < 8 ⌝ }
-    ensures { λ r. ⌜ (r ≡ rowAt (fileRow f)) × (r + rowWords ≤ segmentWords) ⌝ }
+    requires { ⌜ f < files ⌝ }
+    ensures { λ r. ⌜ (r ≡ fileRowAt f) × (r + fileWidth ≤ segmentWords) ⌝ }
 {
-    layout::FILE_ROWS + layout::ROW_WORDS * f
+    layout::FILE_ROWS + layout::FILE_ROW_WORDS * f
 }
 
 fn place_at(i: usize) -> usize
-    requires { ⌜ i < 64 ⌝ }
-    ensures { λ r. ⌜ (r ≡ rowAt (placeRow i)) × (r + rowWords ≤ segmentWords) ⌝ }
+    requires { ⌜ i < deskPlaces ⌝ }
+    ensures { λ r. ⌜ (r ≡ placeRowAt i) × (r + placeWidth ≤ segmentWords) ⌝ }
 {
-    layout::PLACE_ROWS + layout::ROW_WORDS * i
+    layout::PLACE_ROWS + layout::PLACE_ROW_WORDS * i
 }
 
 // Entry e's data.
 pub fn read_entry(s: &[u8], e: u16) -> Entry
     requires { ⌜ length (now s) ≡ segmentBytes ⌝ }
-    requires { ⌜ e < 128 ⌝ }
+    requires { ⌜ e < entries ⌝ }
     ensures { λ r. ⌜ r ≡ entryAt (now (s .entry)) e ⌝ }
 {
-    let w = get_row(s, data_at(e));
+    let mut w = [0u16; layout::DATA_WORDS];
+    get_row(s, data_at(e), &mut w);
     Entry {
         place: w[layout::ENTRY_PLACE],
         unit: w[layout::ENTRY_UNIT],
@@ -144,7 +144,7 @@ pub fn read_entry(s: &[u8], e: u16) -> Entry
 // Entry e's data become m.
 pub fn write_entry(s: &mut [u8], e: u16, m: Entry)
     requires { ⌜ length (now s) ≡ segmentBytes ⌝ }
-    requires { ⌜ e < 128 ⌝ }
+    requires { ⌜ e < entries ⌝ }
     ensures { λ _. ⌜ now (s .exit) ≡ putData (now (s .entry)) e (entryWords m) ⌝ }
 {
     let w = [
@@ -164,7 +164,7 @@ pub fn write_entry(s: &mut [u8], e: u16, m: Entry)
 // The place, and the seconds, of entry e alone.
 pub fn entry_place(s: &[u8], e: u16) -> u16
     requires { ⌜ length (now s) ≡ segmentBytes ⌝ }
-    requires { ⌜ e < 128 ⌝ }
+    requires { ⌜ e < entries ⌝ }
     ensures { λ r. ⌜ r ≡ entryAt (now (s .entry)) e .place ⌝ }
 {
     get(s, data_at(e) + layout::ENTRY_PLACE)
@@ -172,7 +172,7 @@ pub fn entry_place(s: &[u8], e: u16) -> u16
 
 pub fn entry_seconds(s: &[u8], e: u16) -> u16
     requires { ⌜ length (now s) ≡ segmentBytes ⌝ }
-    requires { ⌜ e < 128 ⌝ }
+    requires { ⌜ e < entries ⌝ }
     ensures { λ r. ⌜ r ≡ entryAt (now (s .entry)) e .seconds ⌝ }
 {
     get(s, data_at(e) + layout::ENTRY_SECONDS)
@@ -181,10 +181,11 @@ pub fn entry_seconds(s: &[u8], e: u16) -> u16
 // The row of file f.
 pub fn read_file(s: &[u8], f: usize) -> FileRow
     requires { ⌜ length (now s) ≡ segmentBytes ⌝ }
-    requires { ⌜ f < 8 ⌝ }
+    requires { ⌜ f < files ⌝ }
     ensures { λ r. ⌜ r ≡ fileAt (now (s .entry)) f ⌝ }
 {
-    let w = get_row(s, file_at(f));
+    let mut w = [0u16; layout::FILE_ROW_WORDS];
+    get_row(s, file_at(f), &mut w);
     FileRow {
         words: w[layout::FILE_WORDS],
         factor: w[layout::FILE_FACTOR],
@@ -198,8 +199,8 @@ pub fn read_file(s: &[u8], f: usize) -> FileRow
 // The row of file f becomes r.
 pub fn write_file(s: &mut [u8], f: usize, r: FileRow)
     requires { ⌜ length (now s) ≡ segmentBytes ⌝ }
-    requires { ⌜ f < 8 ⌝ }
-    ensures { λ _. ⌜ now (s .exit) ≡ fill (now (s .entry)) (rowAt (fileRow f)) (fileWords r) ⌝ }
+    requires { ⌜ f < files ⌝ }
+    ensures { λ _. ⌜ now (s .exit) ≡ fill (now (s .entry)) (fileRowAt f) (fileWords r) ⌝ }
 {
     let w = [r.words, r.factor, r.blocks, r.block, r.spent, r.held, 0, 0];
     put_row(s, file_at(f), &w);
@@ -208,10 +209,11 @@ pub fn write_file(s: &mut [u8], f: usize, r: FileRow)
 // The row of place i.
 pub fn read_place(s: &[u8], i: usize) -> PlaceRow
     requires { ⌜ length (now s) ≡ segmentBytes ⌝ }
-    requires { ⌜ i < 64 ⌝ }
+    requires { ⌜ i < deskPlaces ⌝ }
     ensures { λ r. ⌜ r ≡ placeAt (now (s .entry)) i ⌝ }
 {
-    let w = get_row(s, place_at(i));
+    let mut w = [0u16; layout::PLACE_ROW_WORDS];
+    get_row(s, place_at(i), &mut w);
     PlaceRow {
         side: w[layout::PLACE_SIDE],
         id: w[layout::PLACE_ID],
@@ -227,7 +229,7 @@ pub fn read_place(s: &[u8], i: usize) -> PlaceRow
 // The side of place i alone.
 pub fn place_side(s: &[u8], i: usize) -> u16
     requires { ⌜ length (now s) ≡ segmentBytes ⌝ }
-    requires { ⌜ i < 64 ⌝ }
+    requires { ⌜ i < deskPlaces ⌝ }
     ensures { λ r. ⌜ r ≡ placeAt (now (s .entry)) i .side ⌝ }
 {
     get(s, place_at(i) + layout::PLACE_SIDE)
@@ -236,8 +238,8 @@ pub fn place_side(s: &[u8], i: usize) -> u16
 // The row of place i becomes r.
 pub fn write_place(s: &mut [u8], i: usize, r: PlaceRow)
     requires { ⌜ length (now s) ≡ segmentBytes ⌝ }
-    requires { ⌜ i < 64 ⌝ }
-    ensures { λ _. ⌜ now (s .exit) ≡ fill (now (s .entry)) (rowAt (placeRow i)) (placeWords r) ⌝ }
+    requires { ⌜ i < deskPlaces ⌝ }
+    ensures { λ _. ⌜ now (s .exit) ≡ fill (now (s .entry)) (placeRowAt i) (placeWords r) ⌝ }
 {
     let w = [
         r.side,

@@ -1,7 +1,6 @@
 -- The first bytes of a memory: what is held of a line, what is filled of the output.
-use Prim.Native.Nat.{ℕ, suc, _+_, _-_, _≤_, _<_}
+use Prim.Native.Nat.{ℕ, _+_, _-_, _*_, _≤_, _<_}
 use mathlib.Core.Path.{_≡_, ap, sym, _∙_}
-use mathlib.Core.Bool.{Bool, true, false}
 use mathlib.Core.List.{List, [], _∷_, _++_}
 use native.Mathlib.Omega.{arith}
 use native.Mathlib.Numerals.{add-one}
@@ -9,8 +8,10 @@ use borrow.Author.Tests.{leb-true, leb-false, lt-leb}
 use lib.Dec.{leb}
 use lib.ListN.{length, set, take, drop, length-append, length-drop}
 use lib.Seq.{sets, sets-eq, length-take-le, take-all, take-suc-set, take-append-le, take-take, take-at}
+use Rattle.rules.specs.Limits.{lineBytes}
 use Rattle.rules.specs.Line.{isLine, lineFrame}
 use Rattle.rules.proofs.Split.{by-cases}
+use Rattle.serving.specs.Going.{mostHeld}
 
 -- output is filled from `used` on
 pub filled-more : (out vs : List ℕ) (used r : ℕ) → r ≡ used + length vs → used + length vs ≤ length out → take r (sets out used vs) ≡ take used out ++ vs
@@ -41,15 +42,15 @@ kept-more p m b =
     take-append-le m (take m p) (b ∷ []) (omega arith) ∙ take-take m m p (omega arith) ∙ sym (take-append-le m p (b ∷ []) (omega arith)))
 
 -- a digit more than the longest line has shows that it is none
-pub frame-kept : (p : List ℕ) → lineFrame (take 523 p) ≡ lineFrame p
+pub frame-kept : (p : List ℕ) → lineFrame (take mostHeld p) ≡ lineFrame p
 unfolding lineFrame isLine
 frame-kept p =
-    by-cases (leb (length p) 523)
-    (λ e. rw (take-all 523 p (leb-true _ _ e)))
+    by-cases (leb (length p) mostHeld)
+    (λ e. rw (take-all mostHeld p (leb-true _ _ e)))
     (λ e.
-    let k : 523 < length p = leb-false _ _ e in
-    let size = length-take-le 523 p (omega arith) in
-    rw (lt-leb (length (take 523 p)) 522 (omega arith), lt-leb (length p) 522 (omega arith)))
+    let k : mostHeld < length p = leb-false _ _ e in
+    let size = length-take-le mostHeld p (omega arith) in
+    rw (lt-leb (length (take mostHeld p)) (2 * lineBytes) (omega arith), lt-leb (length p) (2 * lineBytes) (omega arith)))
 
 -- nothing is held of a line only where it has no byte
 pub none-held : (line p : List ℕ) (n m : ℕ) → length line ≡ m → n ≤ m → 0 < m → take n line ≡ take m p → length p ≡ 0 → n ≡ 0

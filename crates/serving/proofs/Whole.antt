@@ -1,13 +1,11 @@
 -- What the program goes through is what the rules say that it prints, however the input is cut into reads.
 use Prim.Native.Nat.{ℕ}
 use mathlib.Core.Path.{_≡_, refl, ap, sym, _∙_}
-use mathlib.Core.Bool.{Bool, true, false}
 use mathlib.Core.List.{List, [], _∷_, _++_, map, append-assoc, append-nil}
 use lib.Dec.{eqb}
 use lib.ListN.{length}
-use Rattle.rules.specs.Line.{lineFrame, lineOf}
+use Rattle.rules.specs.Line.{lineFrame, lineOf, Lines, linesFrom, linesOf}
 use Rattle.rules.specs.Reply.{Reply}
-use Rattle.rules.specs.Sheet.{Lines, linesFrom, linesOf}
 use Rattle.rules.specs.Desk.{Desk, Call, event, freshDesk, respond, replies, after, replyBytes, inputLines, answerLines, program}
 use Rattle.rules.specs.Allocation.{allocAfter}
 use Rattle.rules.proofs.Split.{by-cases, pick-true, pick-false}

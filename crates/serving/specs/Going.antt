@@ -1,10 +1,11 @@
 -- How the event program goes through its input: byte by byte, whatever the sizes of the reads.
 use mathlib.Core.Path.{_≡_}
-use mathlib.Core.Bool.{Bool, true, false}
+use mathlib.Core.Bool.{true, false}
 use mathlib.Core.List.{List, [], _∷_, _++_}
-use Prim.Native.Nat.{ℕ}
+use Prim.Native.Nat.{ℕ, _+_, _*_}
 use lib.Dec.{eqb}
 use lib.ListN.{length, take}
+use Rattle.rules.specs.Limits.{lineBytes}
 use Rattle.rules.specs.Line.{lineFrame, lineOf}
 use Rattle.rules.specs.Desk.{Desk, Call, event, asked, freshDesk, Responded, respond, replyBytes}
 use Rattle.rules.specs.Allocation.{Alloc, freshAlloc, allocAsked}
@@ -12,7 +13,7 @@ use Rattle.memory.specs.Fine.{StandsFor}
 
 -- a digit more than the longest line has: so much of a line shows that it is none, whatever follows
 abbrev pub mostHeld : ℕ
-mostHeld = 523
+mostHeld = 2 * lineBytes + 1
 
 -- the output that is written at once
 abbrev pub outBytes : ℕ

@@ -1,5 +1,6 @@
 // From bytes of input to bytes of output: each line that ends is answered by the desk.
 use crate::held::keep;
+use kinds::limits::ANSWER_ROOM;
 use lines::answer_line;
 ghost use mathlib.Core.Path.{_≡_};
 ghost use Prim.Native.Nat.{_+_, _≤_, _<_};
@@ -12,10 +13,10 @@ ghost use Rattle.serving.specs.Served.{Kept};
 const LF: u8 = 10;
 
 // The digits of the longest answer, and LF.
-const MOST_ANSWER: usize = 529;
+const MOST_ANSWER: usize = 2 * ANSWER_ROOM + 1;
 
 // The output that is written at once.
-const OUT_BYTES: usize = 65536;
+pub const OUT_BYTES: usize = 65536;
 
 // How many bytes of the line are held, and how many of the output are filled.
 struct Filled {

@@ -4,9 +4,10 @@ ghost use mathlib.Core.List.{[], _∷_, _++_};
 ghost use Prim.Native.Nat.{_≤_};
 ghost use lib.ListN.{length, take};
 ghost use Rattle.serving.specs.Going.{mostHeld};
+use kinds::limits::LINE_BYTES;
 
 // A digit more than the longest line has: so much of a line shows that it is none, and no more of it is kept.
-const MOST_HELD: usize = 523;
+pub const MOST_HELD: usize = 2 * LINE_BYTES + 1;
 
 // One byte more of the line; how many are held then.
 pub fn keep(line: &mut [u8], held: usize, b: u8) -> usize

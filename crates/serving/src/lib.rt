@@ -146,8 +146,8 @@ pub fn serve(segment: &mut [u8], blocks: &mut [u8], buffers: &mut [u8], aloud: b
     ensures served { λ _. ⌜ Served (now (segment .entry)) (now (blocks .entry)) (now (buffers .entry)) (now (segment .exit)) (now (blocks .exit)) (now (buffers .exit)) ⌝ }
     ensures kept { λ _. ⌜ Kept (now (segment .entry)) (now (blocks .entry)) (now (buffers .entry)) (now (segment .exit)) (now (blocks .exit)) (now (buffers .exit)) ⌝ }
 {
-    let mut line = [0u8; 523];
-    let mut out = [0u8; 65536];
+    let mut line = [0u8; held::MOST_HELD];
+    let mut out = [0u8; feeding::OUT_BYTES];
     let mut chunk = [0u8; 65536];
     answer_all(
         segment,

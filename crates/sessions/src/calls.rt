@@ -77,7 +77,7 @@ fn tell_status(status: u8, given: usize, told: &mut [u8]) -> usize
     GIVEN + given
 }
 
-// Save: "? FILE". The sheet's frames.
+// Save, `? FILE`: the sheet's frames.
 pub fn tell_save(
     segment: &[u8],
     blocks: &[u8],
@@ -102,7 +102,7 @@ pub fn tell_save(
     tell_status(saved.status, saved.length - 1, told)
 }
 
-// Load: "+ FILE FRAME ..". Nothing is given.
+// Load, `+ FILE FRAME ..`: nothing is given.
 pub fn tell_load(
     segment: &mut [u8],
     blocks: &mut [u8],
@@ -118,7 +118,7 @@ pub fn tell_load(
     tell_status(status, 0, told)
 }
 
-// Look: "@ FILE READER". The bytes shown.
+// Look, `@ FILE READER`: the bytes shown.
 pub fn tell_look<'a>(
     segment: &[u8],
     blocks: &'a [u8],

@@ -10,8 +10,11 @@ use crate::calls::tell_load;
 use crate::calls::tell_look;
 use crate::calls::tell_save;
 use check::same;
+use kinds::limits::BLOCKS_BYTES;
+use kinds::limits::BUFFERS_BYTES;
 use libc::STDOUT_FILENO;
 use lines::answer_line;
+use segment::layout::SEGMENT_BYTES;
 ghost use Prim.Native.Nat.{ℕ, _+_, _≤_, _<_};
 ghost use lib.ListN.{length};
 
@@ -184,8 +187,8 @@ fn play_lines(segment: &mut [u8], blocks: &mut [u8], buffers: &mut [u8], table: 
 
 // The sessions of a table.
 pub fn play(table: &[u8]) {
-    let mut segment = [0u8; 3876];
-    let mut blocks = [0u8; 32768];
-    let mut buffers = [0u8; 16640];
+    let mut segment = [0u8; SEGMENT_BYTES];
+    let mut blocks = [0u8; BLOCKS_BYTES];
+    let mut buffers = [0u8; BUFFERS_BYTES];
     play_lines(&mut segment, &mut blocks, &mut buffers, table);
 }

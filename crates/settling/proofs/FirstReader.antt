@@ -1,43 +1,31 @@
 -- The first waiting reader: what the segment says of it, what it finds, and what serving it comes to.
-use Prim.Native.Nat.{ℕ, _+_, _*_, _≤_, _<_}
-use mathlib.Core.Path.{_≡_, refl, sym, ap, ap₂, _∙_, subst}
-use mathlib.Core.Bool.{Bool, true, false, cond}
+use Prim.Native.Nat.{ℕ, _≤_, _<_}
+use mathlib.Core.Path.{_≡_, refl, sym, ap, _∙_, subst}
+use mathlib.Core.Bool.{Bool, true, false}
 use mathlib.Core.List.{List, [], _∷_}
-use mathlib.Core.Option.{Option, none, some}
+use mathlib.Core.Option.{Option, some}
 use native.Mathlib.Omega.{arith}
 use lib.Dec.{eqb}
-use lib.ListN.{length}
-use lib.Seq.{sets}
-use Rattle.tally.specs.Count.{bit}
-use Rattle.rules.specs.Limits.{files, places, entries, bufferBytes, mostReadBytes}
-use Rattle.rules.specs.State.{Rec, Req, reading, readDone, Acc, Geo, Store, Built}
-use Rattle.rules.specs.Store.{advance, fetch, Found}
-use Rattle.rules.specs.Count.{logOf}
-use Rattle.rules.specs.Requests.{accAt, behind, finish}
-use Rattle.rules.specs.Settle.{handed, readResult, Turn, still, onward, serveReader, atHead}
+use Rattle.occurrences.specs.Count.{bit}
+use Rattle.rules.specs.Limits.{places, entries, mostReadBytes}
+use Rattle.rules.specs.State.{reading, Acc, Built}
+use Rattle.rules.specs.Requests.{accAt}
 use Rattle.rules.specs.Allocation.{placeOf}
-use Rattle.rules.specs.Memories.{lies}
-use Rattle.laws.specs.Outstanding.{waitsRead, waitsWrite}
+use Rattle.laws.specs.Outstanding.{reqOf}
 use Rattle.laws.specs.Bounds.{Bounded}
-use Rattle.laws.specs.Changes.{readEnds}
 use Rattle.laws.proofs.Bounds.{bounds-at}
-use Rattle.laws.proofs.Cases.{atHead-some}
-use Rattle.laws.proofs.Walk.{behind-at}
 use Rattle.segment.specs.declared.Entry.{Entry}
 use Rattle.segment.specs.declared.PlaceRow.{PlaceRow}
-use Rattle.segment.specs.Layout.{readQueue}
+use Rattle.segment.specs.Layout.{readQueue, deskPlaces}
 use Rattle.segment.specs.Table.{nth}
 use Rattle.segment.specs.Fields.{entryOf, entryAt, placeAt, placeRowOf}
-use Rattle.requests.specs.Moves as moves
-use Rattle.memory.specs.Image.{reqOf, reqWords, placeWords}
+use Rattle.memory.specs.Image.{reqWords, placeWords}
 use Rattle.memory.specs.Fine.{Fine}
 use Rattle.midst.specs.declared.File as hand
-use Rattle.midst.specs.File.{inHand}
 use Rattle.midst.specs.Mid.{Start, Mid}
 use Rattle.midst.proofs.Begins.{mid-place}
 use Rattle.midst.proofs.Heads.{reads-at, head-none, head-some}
-use Rattle.midst.proofs.Changes.{fine-knows, mid-below}
-use Rattle.midst.proofs.Requests.{step-finish-entry}
+use Rattle.midst.proofs.Changes.{mid-below}
 use Rattle.midst.proofs.Lists.{place-under}
 
 -- whether a word is 1, of a bit
@@ -91,7 +79,7 @@ module _ {f : ℕ} {o : Start} {xs blocks buffers : List ℕ} {x : hand.File} {b
     pub reader-below : r .place < places
     reader-below = mid-below M (r .place) (r .acc) (r .opens)
 
-    pub reader-place : placeOf f (r .place) < 64
+    pub reader-place : placeOf f (r .place) < deskPlaces
     reader-place = place-under f (r .place) (M .file) reader-below
 
     -- control 46, as its row has it
@@ -106,12 +94,5 @@ module _ {f : ℕ} {o : Start} {xs blocks buffers : List ℕ} {x : hand.File} {b
     unfolding Bounded
     reader-short = bounds-at (r .place) (r .acc) _ b (r .opens) (r .asks) (M .good .bounds)
 
-    pub reader-entry : moves.entryOf xs (readQueue f) (placeOf f (r .place)) < entries
-    unfolding waitsRead waitsWrite
-    reader-entry = step-finish-entry fine-knows M (r .place) (r .acc) (r .opens) false 0 _ (readDone 0 0 []) (r .asks) refl (readEnds (omega arith) (omega arith))
-
-    pub reader-under : (e : ℕ) (m : Entry) → e ≡ nth xs (readQueue f) → m ≡ entryAt xs e → m .place < 64
-    reader-under e m at em = subst (λ (n : Entry). n .place < 64) (sym (em ∙ ap (entryAt xs) at ∙ r .entry)) reader-place
-
-    pub reader-found : (e : ℕ) (m : Entry) → e ≡ nth xs (readQueue f) → m ≡ entryAt xs e → moves.entryOf xs (readQueue f) (m .place) < entries
-    reader-found e m at em = subst (λ (n : Entry). moves.entryOf xs (readQueue f) (n .place) < entries) (sym (em ∙ ap (entryAt xs) at ∙ r .entry)) reader-entry
+    pub reader-under : (e : ℕ) (m : Entry) → e ≡ nth xs (readQueue f) → m ≡ entryAt xs e → m .place < deskPlaces
+    reader-under e m at em = subst (λ (n : Entry). n .place < deskPlaces) (sym (em ∙ ap (entryAt xs) at ∙ r .entry)) reader-place

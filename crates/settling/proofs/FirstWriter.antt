@@ -1,34 +1,32 @@
 -- The first waiting writer: what the segment and its buffer say of it.
-use Prim.Native.Nat.{ℕ, _+_, _-_, _*_, _≤_, _<_}
+use Prim.Native.Nat.{ℕ, _-_, _*_, _≤_, _<_}
 use mathlib.Core.Path.{_≡_, refl, sym, ap, ap₂, _∙_, subst}
-use mathlib.Core.Bool.{Bool, true, false}
+use mathlib.Core.Bool.{Bool, true}
 use mathlib.Core.List.{List, [], _∷_, _++_}
 use mathlib.Core.Option.{Option, none, some}
 use native.Mathlib.Omega.{arith}
 use lib.ListN.{length, take, getD}
 use lib.Seq.{take-append-seam}
-use Rattle.tally.specs.Count.{bit}
+use Rattle.occurrences.specs.Count.{bit}
 use Rattle.words.specs.Word.{zeros}
-use Rattle.rules.specs.Limits.{files, places, entries, bufferBytes, mostWords}
-use Rattle.rules.specs.State.{Req, writing, writeDone, Acc, Built}
-use Rattle.rules.specs.Requests.{accAt, writers, fits, room}
+use Rattle.rules.specs.Limits.{places, entries, bufferBytes}
+use Rattle.rules.specs.State.{Req, writing, Acc, Built}
+use Rattle.rules.specs.Requests.{accAt, fits, capacityOf}
 use Rattle.rules.specs.Store.{used}
 use Rattle.rules.specs.Allocation.{placeOf}
 use Rattle.rules.specs.Memories.{lies, buffer}
-use Rattle.laws.specs.Outstanding.{waitsRead, waitsWrite}
+use Rattle.laws.specs.Outstanding.{reqOf}
 use Rattle.laws.specs.Bounds.{Bounded}
-use Rattle.laws.specs.Changes.{writeEnds}
 use Rattle.laws.proofs.Bounds.{bounds-at, length-buffer}
 use Rattle.segment.specs.declared.Entry.{Entry}
 use Rattle.segment.specs.declared.PlaceRow.{PlaceRow}
-use Rattle.segment.specs.Layout.{writeQueue, rowAt, rowWords, placeRow}
+use Rattle.segment.specs.Layout.{writeQueue, deskPlaces}
 use Rattle.segment.specs.Table.{nth, row}
 use Rattle.segment.specs.Fields.{entryOf, entryAt, placeAt, placeRowOf}
-use Rattle.requests.specs.Moves as moves
 use Rattle.buffers.specs.Buffer as code
-use Rattle.judges.specs.Sides.{countSide}
-use Rattle.judges.proofs.Counted.{count-writers}
-use Rattle.memory.specs.Image.{reqOf, reqWords, placeWords}
+use Rattle.accessors.specs.Sides.{countSide}
+use Rattle.accessors.proofs.Counted.{count-writers}
+use Rattle.memory.specs.Image.{reqWords, placeWords}
 use Rattle.memory.specs.Stands.{bufferAt}
 use Rattle.memory.specs.Fine.{Fine}
 use Rattle.memory.proofs.Frames.{bufferAt-is}
@@ -36,8 +34,7 @@ use Rattle.midst.specs.declared.File as hand
 use Rattle.midst.specs.Mid.{Start, Mid}
 use Rattle.midst.proofs.Begins.{mid-row, mid-place}
 use Rattle.midst.proofs.Heads.{writes-at, head-none, head-some}
-use Rattle.midst.proofs.Changes.{fine-knows, mid-below}
-use Rattle.midst.proofs.Requests.{step-finish-entry}
+use Rattle.midst.proofs.Changes.{mid-below}
 use Rattle.midst.proofs.Lists.{place-under}
 use Rattle.settling.specs.Turns.{dataOf, fitsRing}
 
@@ -83,7 +80,7 @@ module _ {f : ℕ} {o : Start} {xs blocks buffers : List ℕ} {x : hand.File} {b
 
   -- "used + W + 1 ≤ C", as the code has it
   pub fits-is : fitsRing (x .ring) (countSide xs f 2) ≡ fits b
-  unfolding fitsRing fits used room
+  unfolding fitsRing fits used capacityOf
   fits-is =
       ap₂ {C = Bool} fitsRing (ap (λ (y : hand.File). y .ring) (M .row)) (count-writers xs f b (M .allots .matches .agrees .eight) (mid-row M))
 
@@ -91,7 +88,7 @@ module _ {f : ℕ} {o : Start} {xs blocks buffers : List ℕ} {x : hand.File} {b
     writer-below : r .place < places
     writer-below = mid-below M (r .place) (r .acc) (r .opens)
 
-    pub writer-place : placeOf f (r .place) < 64
+    pub writer-place : placeOf f (r .place) < deskPlaces
     writer-place = place-under f (r .place) (M .file) writer-below
 
     pub writer-id : (m : Entry) (row : PlaceRow) → m ≡ entryAt xs (nth xs (writeQueue f)) → row ≡ placeAt xs (m .place) → row .id ≡ r .acc .ident
@@ -104,10 +101,6 @@ module _ {f : ℕ} {o : Start} {xs blocks buffers : List ℕ} {x : hand.File} {b
     unfolding Bounded
     writer-short = bounds-at (r .place) (r .acc) _ b (r .opens) (r .asks) (M .good .bounds)
 
-    writer-entry : moves.entryOf xs (writeQueue f) (placeOf f (r .place)) < entries
-    unfolding waitsRead waitsWrite
-    writer-entry = step-finish-entry fine-knows M (r .place) (r .acc) (r .opens) true 0 _ (writeDone 0 0) (r .asks) refl (writeEnds (omega arith))
-
     -- its data lie in its buffer
     writer-buffer : bufferAt (placeOf f (r .place)) buffers ≡ buffer (accAt b (r .place))
     unfolding accAt placeOf
@@ -119,11 +112,8 @@ module _ {f : ℕ} {o : Start} {xs blocks buffers : List ℕ} {x : hand.File} {b
       pub writer-is : m ≡ record { place = placeOf f (r .place); unit = bit (r .words); limit = 0; keep = 0; status = 0; log = 0; size = length (r .bytes); seconds = 0 }
       writer-is = em ∙ ap (entryAt xs) at ∙ r .entry
 
-      pub writer-under : m .place < 64
-      writer-under = subst (λ (n : Entry). n .place < 64) (sym writer-is) writer-place
-
-      pub writer-found : moves.entryOf xs (writeQueue f) (m .place) < entries
-      writer-found = subst (λ (n : Entry). moves.entryOf xs (writeQueue f) (n .place) < entries) (sym writer-is) writer-entry
+      pub writer-under : m .place < deskPlaces
+      writer-under = subst (λ (n : Entry). n .place < deskPlaces) (sym writer-is) writer-place
 
       pub writer-size : m .size ≤ bufferBytes
       writer-size = omega (arith, ap (λ (n : Entry). n .size) writer-is, writer-short, M .good .room .geo .words-high)

@@ -1,4 +1,5 @@
 pub mod Laws
+pub mod Founds
 pub mod FirstReader
 pub mod Serves
 pub mod ReadTurns

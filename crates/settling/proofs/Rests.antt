@@ -1,34 +1,29 @@
 -- Turn by turn a file comes to rest, and each turn that moves leaves one request fewer.
 use Prim.Native.Nat.{ℕ, zero, suc, _+_, _-_, _≤_, _<_}
-use mathlib.Core.Path.{_≡_, refl, sym, ap, ap₂, _∙_, subst}
-use mathlib.Core.Bool.{Bool, true, false, cond}
+use mathlib.Core.Path.{_≡_, refl, sym, ap, ap₂, _∙_}
+use mathlib.Core.Bool.{Bool, true, false}
 use mathlib.Core.List.{List, [], _∷_}
 use native.Mathlib.Omega.{arith}
-use lib.Dec.{ltb}
 use lib.ListN.{length, getD, set, length-map}
-use borrow.Author.Tests.{lt-ltb, le-ltb}
+use borrow.Author.Tests.{lt-ltb}
 use Rattle.rules.specs.Limits.{entries}
 use Rattle.rules.specs.State.{Built, built}
-use Rattle.rules.specs.Settle.{Turn, still, serveReader, serveWriter, atHead, turn, settleFor, settle}
+use Rattle.rules.specs.Settle.{Turn, still, turn, settleFor, settle}
 use Rattle.rules.specs.Desk.{Desk}
 use Rattle.rules.specs.Allocation.{Alloc, allotAll}
 use Rattle.rules.proofs.Split.{pick-true, pick-false}
-use Rattle.laws.proofs.Settled.{many, Shrunk, shrunk-turn, Stays, reader-head, idle-turn, settle-more}
-use Rattle.laws.proofs.Cases.{turn-reader, turn-writer}
-use Rattle.segment.specs.Layout.{listCount, nil, linkAt}
-use Rattle.segment.specs.Table.{nth}
+use Rattle.laws.proofs.Settled.{many, shrunk-turn, idle-turn, settle-more}
+use Rattle.segment.specs.Layout.{linkAt}
 use Rattle.ports.specs.Lists.{Chain}
 use Rattle.ports.proofs.Lists.{short}
 use Rattle.memory.specs.Image.{listsOf}
-use Rattle.memory.specs.Fine.{Fine}
 use Rattle.memory.proofs.Boxes.{getD-listsOf}
 use Rattle.midst.specs.declared.File as hand
 use Rattle.midst.specs.Seg.{queueAt, sideQueue}
 use Rattle.midst.specs.Mid.{Start, Mid}
 use Rattle.midst.proofs.Begins.{mid-file}
 use Rattle.midst.proofs.Lists.{below-side, list-side, entriesIn}
-use Rattle.settling.specs.declared.Turn as code
-use Rattle.settling.specs.Turns.{Served, Comes, span, waiting}
+use Rattle.settling.specs.Turns.{span, waiting}
 
 -- the rules' turns
 

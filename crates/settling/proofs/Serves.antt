@@ -1,7 +1,7 @@
 -- A turn of the first waiting reader in the rules, by what it finds.
 use Prim.Native.Nat.{ℕ}
 use mathlib.Core.Path.{_≡_, refl, ap, _∙_}
-use mathlib.Core.Bool.{Bool}
+use mathlib.Core.Bool.{Bool, true, false}
 use mathlib.Core.List.{List, _∷_}
 use mathlib.Core.Option.{Option, none, some}
 use Rattle.rules.specs.State.{Rec, Req, reading, writing, writeDone, Acc, Built}
@@ -12,7 +12,6 @@ use Rattle.rules.specs.Settle.{handed, readResult, dataRec, Turn, still, onward
 use Rattle.rules.proofs.Split.{pick-true, pick-false}
 use Rattle.laws.proofs.Cases.{atHead-some}
 use lib.ListN.{length}
-use mathlib.Core.Bool.{true, false}
 
 pick-none : (o : Option Rec) (x : Turn) (g : Rec → Turn) → o ≡ none → elim o [ none ↦ x | some r ↦ g r ] ≡ x
 pick-none o x g e = rw e refl

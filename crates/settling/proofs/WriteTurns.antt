@@ -1,25 +1,24 @@
 -- The exits of a writer's turn, from what the functions that it calls give.
-use Prim.Native.Nat.{ℕ, _*_, _≤_, _<_}
+use Prim.Native.Nat.{ℕ, _*_, _≤_}
 use mathlib.Core.Path.{_≡_, refl, sym, ap, ap₂, _∙_, subst}
-use mathlib.Core.Bool.{Bool, true, false}
-use mathlib.Core.List.{List, [], _∷_}
+use mathlib.Core.Bool.{true, false}
+use mathlib.Core.List.{List, []}
 use mathlib.Core.Option.{some}
 use native.Mathlib.Omega.{arith}
 use lib.ListN.{length}
 use lib.Seq.{sets}
 use Rattle.words.specs.Word.{zeros}
-use Rattle.tally.specs.Count.{bit}
+use Rattle.occurrences.specs.Count.{count}
 use Rattle.rules.specs.Limits.{entries, bufferBytes, shareBytes}
-use Rattle.rules.specs.State.{Rec, Req, writing, writeDone, Acc, Geo, Built}
+use Rattle.rules.specs.State.{Rec, Req, writing, writeDone, Built}
 use Rattle.rules.specs.Count.{logOf}
 use Rattle.rules.specs.Requests.{accAt, fits, withStore, say, putRec, finish}
-use Rattle.rules.specs.Settle.{dataRec, serveWriter, atHead, still}
+use Rattle.rules.specs.Settle.{dataRec, serveWriter, atHead}
 use Rattle.rules.specs.Allocation.{placeOf}
 use Rattle.rules.specs.Memories.{lies}
 use Rattle.shares.proofs.Image.{recordWords-most}
-use Rattle.laws.specs.Outstanding.{waitsRead, waitsWrite}
+use Rattle.laws.specs.Outstanding.{waitsWrite}
 use Rattle.laws.specs.Changes.{writeEnds}
-use Rattle.laws.specs.Midst as laws
 use Rattle.laws.proofs.Walk.{put-at}
 use Rattle.laws.proofs.Midst.{mid-walks}
 use Rattle.segment.specs.declared.Entry.{Entry}
@@ -28,11 +27,11 @@ use Rattle.segment.specs.Layout.{writeQueue}
 use Rattle.segment.specs.Table.{nth}
 use Rattle.segment.specs.Fields.{entryAt, placeAt}
 use Rattle.requests.specs.Moves.{completed}
-use Rattle.blocks.specs.declared.ring.Ring.{Ring}
-use Rattle.blocks.specs.Ring as ring
+use Rattle.ring.specs.declared.Ring.{Ring}
+use Rattle.ring.specs.Ring as ring
 use Rattle.blocks.specs.Writing.{recOf, Ready, inscribed}
 use Rattle.blocks.proofs.Held.{held-ready}
-use Rattle.judges.specs.Sides.{countSide}
+use Rattle.accessors.specs.Sides.{countSide}
 use Rattle.memory.specs.Image.{reqWords}
 use Rattle.memory.specs.Stands.{shareAt}
 use Rattle.memory.specs.Fine.{Fine}
@@ -43,11 +42,11 @@ use Rattle.midst.proofs.Terms.{waitsAt}
 use Rattle.midst.proofs.Requests.{step-finish}
 use Rattle.midst.proofs.Stores.{mid-held, mid-put}
 use Rattle.midst.proofs.Walks.{fine-walks}
-use Rattle.settling.specs.declared.Turn as code
 use Rattle.settling.specs.Turns.{Served, wroteWords, fitsRing, dataOf}
 use Rattle.settling.proofs.FirstReader.{bit-one}
 use Rattle.settling.proofs.FirstWriter.{Writer, writer-or, fits-is, writer-id, writer-short, writer-is, writer-data}
-use Rattle.settling.proofs.ReadTurns.{inHold, still-served, onward-served}
+use Rattle.settling.proofs.Founds.{inHold}
+use Rattle.settling.proofs.ReadTurns.{still-served, onward-served}
 use Rattle.settling.proofs.Serves.{writes-none, writes-some}
 
 module _ {f : ℕ} {o : Start} {xs blocks buffers : List ℕ} {x : hand.File} {b : Built} (M : Mid Fine f o xs blocks buffers x b) where
@@ -113,7 +112,7 @@ module _ {f : ℕ} {o : Start} {xs blocks buffers : List ℕ} {x : hand.File} {b
             (subst (λ (zs : List ℕ). Mid Fine f o zs blocks′ buffers′ (inHold (x .words) (ring.put (x .ring))) (finish (r .place) 0 q B)) (sym (ex ∙ entry-words))
             (subst (λ (zs : List ℕ). Mid Fine f o (completed xs (writeQueue f) (placeOf f (r .place)) (reqWords (placeOf f (r .place)) q)) zs buffers′ (inHold (x .words) (ring.put (x .ring))) (finish (r .place) 0 q B))
             (sym (eb ∙ ap (λ (y : Rec). sets blocks (shareBytes * f) (inscribed (x .words) (x .ring) y (shareAt f blocks))) rec-is))
-            (step-finish fine-knows put-mid (r .place) (r .acc) open-put true 0 (writing (r .words) (r .bytes)) q (r .asks) waits (writeEnds (omega arith)) buffers′
+            (step-finish fine-knows put-mid (r .place) (r .acc) open-put true 0 (writing (r .words) (r .bytes)) q (r .asks) waits (writeEnds (omega arith)) [] (r .rest) (unfold putRec say withStore in r .first) (unfold count in refl) buffers′
             (fine-walks .finishes (r .place) 0 q (r .acc) (writing (r .words) (r .bytes)) B open-put (r .asks) (writeEnds (omega arith)) fine-put) (clear none-lies laid))))))
           where
             put-mid : Mid Fine f o xs (sets blocks (shareBytes * f) (inscribed (x .words) (x .ring) d (shareAt f blocks))) buffers (inHold (x .words) (ring.put (x .ring))) B

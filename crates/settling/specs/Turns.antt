@@ -1,23 +1,21 @@
 -- What a turn does, in memories and in the file in hand.
-use Prim.Native.Nat.{ℕ, zero, suc, _+_, _≤_}
+use Prim.Native.Nat.{ℕ, zero, suc, _+_}
 use mathlib.Core.Path.{_≡_}
 use mathlib.Core.Bool.{Bool, cond}
 use mathlib.Core.List.{List, [], _∷_}
 use lib.Dec.{eqb, leb, ltb}
-use lib.ListN.{length, take}
+use lib.ListN.{take}
 use Rattle.buffers.specs.Buffer.{bufferAt}
 use Rattle.segment.specs.declared.Entry.{Entry}
 use Rattle.segment.specs.Layout.{linkAt, readQueue, writeQueue}
 use Rattle.segment.specs.Table.{nth}
-use Rattle.rules.specs.State.{Rec, Built}
+use Rattle.rules.specs.State.{Built}
 use Rattle.rules.specs.Count.{logOf}
 use Rattle.rules.specs.Geometry.{capacity}
 use Rattle.rules.specs.Limits.{entries}
 use Rattle.rules.specs.Settle.{Turn, settle}
-use Rattle.shares.specs.Back.{recAt}
-use Rattle.shares.specs.Places.{placeIn}
-use Rattle.blocks.specs.declared.ring.Ring.{Ring}
-use Rattle.blocks.specs.Ring.{geo, advanced, used}
+use Rattle.ring.specs.declared.Ring.{Ring}
+use Rattle.ring.specs.Ring.{advanced, used}
 use Rattle.memory.specs.Fine.{Fine}
 use Rattle.midst.specs.declared.File as hand
 use Rattle.midst.specs.Mid.{Start, Mid}
@@ -32,13 +30,6 @@ pub record Served (f : ℕ) (o : Start) (xs blocks buffers : List ℕ) (r : code
   pub moved : r .moved ≡ m .moved
   pub mid : Mid Fine f o xs blocks buffers (r .file) (m .file)
 
--- the record at the head of the file in hand
-abbrev pub headAt : hand.File → List ℕ → ℕ
-headAt x share = placeIn (geo (x .words) (x .ring)) share (x .ring .block) (x .ring .spent)
-
-abbrev pub headRec : hand.File → List ℕ → Rec
-headRec x share = recAt share (headAt x share)
-
 -- an entry of the waiting request m, completed with n bytes moved: a read has them in its buffer, a write has none left there
 unfoldable pub readWords : Entry → ℕ → List ℕ
 readWords m n = m .place ∷ 0 ∷ 0 ∷ 0 ∷ 0 ∷ logOf (eqb (m .unit) 1) n ∷ n ∷ 0 ∷ 0 ∷ []
@@ -46,7 +37,7 @@ readWords m n = m .place ∷ 0 ∷ 0 ∷ 0 ∷ 0 ∷ logOf (eqb (m .unit) 1) n �
 unfoldable pub wroteWords : Entry → List ℕ
 wroteWords m = m .place ∷ 0 ∷ 0 ∷ 0 ∷ 0 ∷ logOf (eqb (m .unit) 1) (m .size) ∷ 0 ∷ 0 ∷ 0 ∷ []
 
--- "under control 47 it stays"
+-- under control 47 it stays
 unfoldable pub takenRing : Bool → Ring → Ring
 takenRing keep r = cond keep r (advanced r)
 

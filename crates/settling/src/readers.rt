@@ -1,33 +1,32 @@
 // The first waiting reader.
 ghost use mathlib.Core.Path.{_≡_};
-ghost use mathlib.Core.Bool.{cond};
 ghost use Prim.Native.Nat.{_*_, _≤_, _<_};
 ghost use lib.ListN.{length};
 ghost use lib.Seq.{sets};
-ghost use Rattle.segment.specs.Layout.{segmentBytes, readQueue};
+ghost use Rattle.segment.specs.Layout.{segmentBytes, readQueue, deskPlaces};
+ghost use Rattle.segment.specs.Table.{nth};
 ghost use Rattle.rules.specs.Limits.{entries, bufferBytes};
 ghost use Rattle.rules.specs.State.{Built};
 ghost use Rattle.rules.specs.Settle.{handed, serveReader, atHead};
-ghost use Rattle.requests.specs.Moves.{entryOf, completed};
-ghost use Rattle.blocks.specs.Ring.{Fitted, Ranged};
-ghost use Rattle.blocks.specs.Reading.{Readable};
-ghost use Rattle.blocks.specs.Memory.{blocksBytes, shareAt};
+ghost use Rattle.requests.specs.Moves.{completed};
+ghost use Rattle.ring.specs.Ring.{Ranged};
+ghost use Rattle.requests.specs.Moves.{completed};
+ghost use Rattle.ring.specs.Ring.{Ranged};
 ghost use Rattle.buffers.specs.Buffer.{buffersBytes, filled};
 ghost use Rattle.memory.specs.Fine.{Fine};
 ghost use Rattle.midst.specs.Mid.{Start, Mid};
-ghost use Rattle.settling.specs.Turns.{Amid, Served, headAt, headRec, readWords, takenRing};
+ghost use Rattle.settling.specs.Turns.{Amid, Served, readWords, takenRing};
 use crate::Turn;
 use blocks::memory::share;
-use blocks::reading::head;
-use blocks::ring::Ring;
-use counts::log_of;
-use fetch::found;
-use fetch::handed;
 use midst::File;
+use records::fetch::found;
+use records::fetch::handed;
+use ring::Ring;
 use segment::Entry;
 use segment::layout;
+use transfer_counts::log_of;
 
-// "Control 47 on: the next accepted read leaves its record at the head."
+// "Control 47 on: the next accepted read leaves its record at the head"
 pub fn taken(ring: Ring, keep: bool) -> Ring
     requires { ⌜ Ranged ring ⌝ }
     ensures { λ r. ⌜ r ≡ takenRing keep ring ⌝ }
@@ -35,10 +34,10 @@ pub fn taken(ring: Ring, keep: bool) -> Ring
     if keep { ring } else { ring.advanced() }
 }
 
-// The bytes go to the waiting read m, which is done.
+// The bytes go to the waiting read m, the first of its queue, which is done.
 fn hand_over(segment: &mut [u8], buffers: &mut [u8], f: usize, m: Entry, bytes: &[u8])
     requires { ⌜ (length (now segment) ≡ segmentBytes) × (length (now buffers) ≡ buffersBytes) × (f < 8) ⌝ }
-    requires { ⌜ (m .place < 64) × (length (now bytes) ≤ bufferBytes) × (entryOf (now segment) (readQueue f) (m .place) < entries) ⌝ }
+    requires { ⌜ (m .place < deskPlaces) × (length (now bytes) ≤ bufferBytes) × (nth (now segment) (readQueue f) < entries) ⌝ }
     ensures segment { λ _. ⌜ now (segment .exit) ≡ completed (now (segment .entry)) (readQueue f) (m .place) (readWords m (length (now (bytes .entry)))) ⌝ }
     ensures buffers { λ _. ⌜ now (buffers .exit) ≡ sets (now (buffers .entry)) (bufferBytes * m .place) (filled (now (bytes .entry))) ⌝ }
 {
@@ -55,27 +54,6 @@ fn hand_over(segment: &mut [u8], buffers: &mut [u8], f: usize, m: Entry, bytes: 
     };
     buffers::fill_at(buffers, m.place as usize, bytes);
     requests::complete(segment, layout::READ_QUEUES + f, done);
-}
-
-// The head record of the file goes to the waiting read m.
-fn give(
-    segment: &mut [u8],
-    blocks: &[u8],
-    buffers: &mut [u8],
-    f: usize,
-    file: File,
-    m: Entry,
-    typed: bool,
-)
-    requires { ⌜ (length (now segment) ≡ segmentBytes) × (length (now blocks) ≡ blocksBytes) × (length (now buffers) ≡ buffersBytes) × (f < 8) ⌝ }
-    requires { ⌜ Fitted (file .words) (file .ring) × (file .ring .block < file .ring .blocks) × Readable (shareAt f (now blocks)) (headAt file (shareAt f (now blocks))) ⌝ }
-    requires { ⌜ (m .place < 64) × (length (handed typed (m .limit) (headRec file (shareAt f (now blocks)))) ≤ bufferBytes) × (entryOf (now segment) (readQueue f) (m .place) < entries) ⌝ }
-    ensures segment { λ _. ⌜ now (segment .exit) ≡ completed (now (segment .entry)) (readQueue f) (m .place) (readWords m (length (handed typed (m .limit) (headRec file (shareAt f (now (blocks .entry))))))) ⌝ }
-    ensures buffers { λ _. ⌜ now (buffers .exit) ≡ sets (now (buffers .entry)) (bufferBytes * m .place) (filled (handed typed (m .limit) (headRec file (shareAt f (now (blocks .entry)))))) ⌝ }
-{
-    let own = share(blocks, f);
-    let at = head(own, file.ring, file.words);
-    hand_over(segment, buffers, f, m, handed(own, at, typed, m.limit));
 }
 
 // The first waiting reader gets its record, if there is one for it.
@@ -96,18 +74,20 @@ pub fn serve_reader(
     let m = segment::read_entry(segment, e);
     let row = segment::read_place(segment, m.place as usize);
     let typed = row.typed == 1;
-    let ring = found(share(blocks, f), file.ring, file.words, typed);
-    let ahead = File {
-        words: file.words,
-        ring,
-    };
+    let own = share(blocks, f);
+    let cursor = found(own, file.ring, file.words, typed);
+    let ring = cursor.ring;
     if ring.held == 0 {
         return Turn {
             moved: false,
-            file: ahead,
+            file: File {
+                words: file.words,
+                ring,
+            },
         };
     }
-    give(segment, blocks, buffers, f, ahead, m, typed);
+    let bytes = handed(own, cursor.at, typed, m.limit);
+    hand_over(segment, buffers, f, m, bytes);
     Turn {
         moved: true,
         file: File {

@@ -4,29 +4,29 @@ ghost use Prim.Native.Nat.{_+_, _*_, _≤_, _<_};
 ghost use lib.ListN.{length};
 ghost use lib.Seq.{sets};
 ghost use Rattle.words.specs.Word.{zeros};
-ghost use Rattle.segment.specs.Layout.{segmentBytes, writeQueue};
+ghost use Rattle.segment.specs.Layout.{segmentBytes, writeQueue, deskPlaces};
+ghost use Rattle.segment.specs.Table.{nth};
 ghost use Rattle.rules.specs.Limits.{entries, bufferBytes, shareBytes};
 ghost use Rattle.rules.specs.State.{Built};
 ghost use Rattle.rules.specs.Settle.{serveWriter, atHead};
-ghost use Rattle.requests.specs.Moves.{entryOf, completed};
-ghost use Rattle.blocks.specs.Ring.{Ranged, put};
+ghost use Rattle.requests.specs.Moves.{completed};
+ghost use Rattle.ring.specs.Ring.{Ranged, put};
 ghost use Rattle.blocks.specs.Writing.{recOf, Ready, inscribed};
 ghost use Rattle.blocks.specs.Memory.{blocksBytes, shareAt};
-ghost use Rattle.buffers.specs.Buffer.{buffersBytes, bufferAt};
+ghost use Rattle.buffers.specs.Buffer.{buffersBytes};
 ghost use Rattle.memory.specs.Fine.{Fine};
 ghost use Rattle.midst.specs.Mid.{Start, Mid};
 ghost use Rattle.settling.specs.Turns.{Amid, Served, wroteWords, fitsRing, dataOf};
 use crate::Turn;
+use accessors::sides::count_side;
 use blocks::memory::put_at;
-use blocks::ring::Ring;
-use counts::log_of;
-use judges::sides::WRITER;
-use judges::sides::count_side;
+use kinds::records::DATA;
+use kinds::sides::WRITER;
 use midst::File;
+use ring::Ring;
 use segment::Entry;
 use segment::layout;
-
-const DATA: u16 = 0;
+use transfer_counts::log_of;
 
 // "a data record fits exactly when used + W + 1 ≤ C: one place is kept for each close record."
 pub fn fits(ring: Ring, writers: u16) -> bool
@@ -36,7 +36,7 @@ pub fn fits(ring: Ring, writers: u16) -> bool
     ring.used() + writers + 1 <= ring.factor * ring.blocks
 }
 
-// The data of the waiting write m become a record of the writer with the ID, and the write is done.
+// The data of the waiting write m, the first of its queue, become a record of the writer with the ID, and the write is done.
 fn take(
     segment: &mut [u8],
     blocks: &mut [u8],
@@ -47,7 +47,7 @@ fn take(
     id: u16,
 ) -> Ring
     requires { ⌜ (length (now segment) ≡ segmentBytes) × (length (now blocks) ≡ blocksBytes) × (length (now buffers) ≡ buffersBytes) × (f < 8) ⌝ }
-    requires { ⌜ (m .place < 64) × (m .size ≤ bufferBytes) × (entryOf (now segment) (writeQueue f) (m .place) < entries) ⌝ }
+    requires { ⌜ (m .place < deskPlaces) × (m .size ≤ bufferBytes) × (nth (now segment) (writeQueue f) < entries) ⌝ }
     requires { ⌜ Ready (file .words) (file .ring) (shareAt f (now blocks)) (length (dataOf m (now buffers))) ⌝ }
     ensures ring { λ r. ⌜ r ≡ put (file .ring) ⌝ }
     ensures blocks { λ _. ⌜ now (blocks .exit) ≡ sets (now (blocks .entry)) (shareBytes * f) (inscribed (file .words) (file .ring) (recOf 0 id (dataOf m (now (buffers .entry)))) (shareAt f (now (blocks .entry)))) ⌝ }

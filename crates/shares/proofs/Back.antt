@@ -9,16 +9,14 @@ use Rattle.words.specs.Word.{word, wordAt}
 use Rattle.words.proofs.Stands.{Stands, left, right, word-read, part-read}
 use Rattle.rules.specs.Limits.{shareBytes}
 use Rattle.rules.specs.State.{Rec, Geo, Store}
-use Rattle.rules.specs.Geometry.{capacity}
-use Rattle.rules.specs.Store.{emptyStore, pad, recordBytes, recordWords, blockBytes, putAll}
+use Rattle.rules.specs.Store.{pad, recordBytes, recordWords, blockBytes}
 use Rattle.shares.specs.Image.{bytesOf, wordsOf, image}
-use Rattle.shares.specs.Groups.{Small, flat, Shape}
+use Rattle.shares.specs.Groups.{flat, Shape}
 use Rattle.shares.specs.Holds.{Sized, At, Holds}
 use Rattle.shares.specs.Back.{recAt, next, recsAt, blockRecs, ringRecs, readBack}
 use Rattle.shares.proofs.Image.{length-recordBytes, apart, image-put}
 use Rattle.shares.proofs.Groups.{begun-flat}
 use Rattle.shares.proofs.Ring.{ring-inside, block-fits}
-use Rattle.shares.proofs.PutAll.{recs-putAll, block-putAll, spent-putAll, holds-loaded}
 
 -- the fields of a record that stands at p
 pub record Fields (xs : List ℕ) (p : ℕ) (r : Rec) : Type 0 where
@@ -94,11 +92,3 @@ back g s o h =
       drop-append-le (s .spent) (flat qs) z (begun-flat (s .spent) qs (h .begun)),
       h .recs,
     ) (take-append-seam (s .recs) z)
-
--- records that are loaded are read back from the share's first block on
-pub back-putAll : (g : Geo) (rs : List Rec) → Sized g → Small (g .words + 3) rs → length rs ≤ capacity (g .factor) (g .blocks)
-    → readBack g (putAll g rs emptyStore .share) 0 0 (length rs) ≡ rs
-unfolding emptyStore
-back-putAll g rs o m c =
-    let h = back g (putAll g rs emptyStore) o (holds-loaded g rs o m c) in
-    rw (block-putAll g rs emptyStore, spent-putAll g rs emptyStore, recs-putAll g rs emptyStore) at h

@@ -5,12 +5,11 @@ use mathlib.Core.List.{List, [], _∷_, _++_, append-nil}
 use native.Mathlib.Omega.{arith}
 use native.Mathlib.Nat.{suc-mul, zero-mul, mod-lt, div-add-mod'}
 use lib.Dec.{ltb}
-use lib.ListN.{length, take, drop, length-drop, length-take}
+use lib.ListN.{length, take, drop, length-drop, length-take, drop-of-length-le}
 use lib.Seq.{take-all, take-at, drop-at, drop-drop}
-use lib.ListN.{drop-of-length-le}
 use borrow.Author.Tests.{ltb-true, ltb-false}
 use Rattle.words.specs.Word.{wordAt}
-use Rattle.words.proofs.Stands.{Stands, part-read}
+use Rattle.words.proofs.Stands.{Stands}
 use Rattle.rules.specs.State.{Rec, Geo, Store}
 use Rattle.rules.specs.Store.{used, recordWords, blockBytes, tail}
 use Rattle.shares.specs.Image.{wordsOf, image}
@@ -20,7 +19,7 @@ use Rattle.shares.specs.Back.{usedRecs, groupAt}
 use Rattle.rules.proofs.Split.{by-cases}
 use Rattle.shares.proofs.Image.{image-put, image-used}
 use Rattle.shares.proofs.Groups.{all-take, all-drop}
-use Rattle.shares.proofs.Ring.{ring-inside, block-fits-more, length-block}
+use Rattle.shares.proofs.Ring.{block-fits-more}
 use Rattle.shares.proofs.Says.{used-flat, small-flat}
 use Rattle.shares.proofs.Used.{usedRecs-flat, length-usedRecs}
 
@@ -65,15 +64,6 @@ pub small-groupAt : (g : Geo) (s : Store) → Sized g → Holds g s → (j : ℕ
 unfolding groupAt
 small-groupAt g s o h j =
     rw (usedRecs-flat g s o h) (all-take _ (g .factor) (drop (j * g .factor) (flat (h .groups))) (all-drop _ (j * g .factor) (flat (h .groups)) (small-flat g s h)))
-
--- so stores with the same records in their held blocks have the same bytes there
-pub block-bytes : (g : Geo) (s : Store) → Sized g → Holds g s → (j : ℕ) → j * g .factor < used s
-    → take (blockBytes g) (drop ((s .block + j) % g .blocks * blockBytes g) (s .share)) ≡ image (blockBytes g) (groupAt g s j)
-block-bytes g s o h j l =
-    let n : length (image (blockBytes g) (groupAt g s j)) ≡ blockBytes g = length-block g (groupAt g s j) (length-groupAt g s j) (small-groupAt g s o h j) in
-    let e = part-read (image (blockBytes g) (groupAt g s j)) (s .share) ((s .block + j) % g .blocks * blockBytes g)
-    (omega (arith, h .long, ring-inside g o (s .block + j))) (block-stands g s o h j l) in
-    rw n at e
 
 -- the last block, where it is begun
 pub length-groupAt-last : (g : Geo) (s : Store) → Sized g → Holds g s → length (groupAt g s (used s / g .factor)) ≡ used s % g .factor

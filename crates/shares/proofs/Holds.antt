@@ -1,7 +1,7 @@
 -- An empty file holds its records, none; and what takes records away, which changes no byte, leaves the rest held.
 use Prim.Native.Nat.{ℕ, _+_, _%_, _≤_, _<_}
 use mathlib.Core.Bool.{Bool, true, false}
-use mathlib.Core.Path.{_≡_, refl, sym, ap, _∙_}
+use mathlib.Core.Path.{_≡_, refl, sym, ap, _∙_, subst}
 use mathlib.Core.List.{List, [], _∷_, _++_}
 use native.Mathlib.Omega.{arith}
 use native.Mathlib.Nat.{mod-lt}
@@ -12,12 +12,13 @@ use borrow.Author.Tests.{ltb-true, ltb-false, eqb-true, eqb-false}
 use Rattle.words.proofs.Runs.{length-zeros}
 use Rattle.rules.specs.Limits.{shareBytes}
 use Rattle.rules.specs.State.{Rec, Geo, Store}
-use Rattle.rules.specs.Store.{emptyStore, advance, discardFrom, discard, dropped, purge, takeHead, fetch}
+use Rattle.rules.specs.Store.{emptyStore, advance, advanceBy, dropped, discard, purge, takeHead, fetch}
 use Rattle.shares.specs.Groups.{flat, Shape, Begun}
 use Rattle.shares.specs.Holds.{Sized, At, Holds}
 use Rattle.rules.proofs.Split.{by-cases, both}
 use Rattle.shares.proofs.Groups.{begun-zero}
 use Rattle.shares.proofs.Ring.{at-next}
+use Rattle.shares.proofs.Taken.{advance-last, advance-more, recs-advance, share-advance, share-advanceBy, takeHead-none, takeHead-some}
 
 -- an empty file, wherever it goes on and whatever its blocks have left
 pub holds-none : (g : Geo) (k : ℕ) (xs : List ℕ) → length xs ≡ shareBytes → k < g .blocks
@@ -70,68 +71,50 @@ module _ (g : Geo) (k sp : ℕ) (r q : Rec) (rest : List Rec) (xs : List ℕ) (l
         at = a;
       }
 
-pub holds-advance : (g : Geo) (s : Store) (r : Rec) (rest : List Rec) → s .recs ≡ r ∷ rest → Holds g s → Holds g (advance g s rest)
-unfolding advance
-holds-advance g s r [] e h = holds-none g ((s .block + 1) % g .blocks) (s .share) (h .long) (mod-lt (s .block + 1) (omega (arith, h .block)))
-holds-advance g s r (q ∷ rest) e h = both (Holds g) (eqb (s .spent + 1) (g .factor))
+pub holds-advance : (g : Geo) (s : Store) (r : Rec) (rest : List Rec) → s .recs ≡ r ∷ rest → Holds g s → Holds g (advance g s)
+holds-advance g s r [] e h =
+    subst (Holds g) (sym (advance-last g s r e)) (holds-none g ((s .block + 1) % g .blocks) (s .share) (h .long) (mod-lt (s .block + 1) (omega (arith, h .block))))
+holds-advance g s r (q ∷ rest) e h = subst (Holds g) (sym (advance-more g s r q rest e)) (both (Holds g) (eqb (s .spent + 1) (g .factor))
     (λ t. holds-spent g (s .block) (s .spent) r q rest (s .share) (h .long) (h .block) (h .groups) (h .shape)
     (h .few) (h .begun) (h .recs ∙ e) (h .at) (eqb-true (s .spent + 1) (g .factor) t))
     (λ t. holds-onward g (s .block) (s .spent) r q rest (s .share) (h .long) (h .block) (h .groups) (h .shape)
-    (h .few) (h .begun) (h .recs ∙ e) (h .at) (eqb-false (s .spent + 1) (g .factor) t))
-
-pub recs-advance : (g : Geo) (s : Store) (rest : List Rec) → advance g s rest .recs ≡ rest
-unfolding advance
-recs-advance g s [] = refl
-recs-advance g s (r ∷ rest) = both (λ (t : Store). t .recs ≡ r ∷ rest) (eqb (s .spent + 1) (g .factor)) (λ e. refl) (λ e. refl)
-
-pub share-advance : (g : Geo) (s : Store) (rest : List Rec) → advance g s rest .share ≡ s .share
-unfolding advance
-share-advance g s [] = refl
-share-advance g s (r ∷ rest) = both (λ (t : Store). t .share ≡ s .share) (eqb (s .spent + 1) (g .factor)) (λ e. refl) (λ e. refl)
+    (h .few) (h .begun) (h .recs ∙ e) (h .at) (eqb-false (s .spent + 1) (g .factor) t)))
 
 -- Discard, fetch, purge.
 
-pub holds-discardFrom : (g : Geo) (l : List Rec) (s : Store) → s .recs ≡ l → Holds g s → Holds g (discardFrom g l s)
-unfolding discardFrom
-holds-discardFrom g [] s e h = h
-holds-discardFrom g (r ∷ rest) s e h = both (Holds g) (eqb (r .typ) 0) (λ t. h)
-    (λ t. holds-discardFrom g rest (advance g s rest) (recs-advance g s rest) (holds-advance g s r rest e h))
-
-pub share-discardFrom : (g : Geo) (l : List Rec) (s : Store) → discardFrom g l s .share ≡ s .share
-unfolding discardFrom
-share-discardFrom g [] s = refl
-share-discardFrom g (r ∷ rest) s = both (λ (t : Store). t .share ≡ s .share) (eqb (r .typ) 0) (λ t. refl)
-    (λ t. share-discardFrom g rest (advance g s rest) ∙ share-advance g s rest)
+holds-dropped : (g : Geo) (l : List Rec) (s : Store) → s .recs ≡ l → Holds g s → Holds g (advanceBy (length (dropped l)) g s)
+unfolding dropped advanceBy
+holds-dropped g [] s e h = h
+holds-dropped g (r ∷ rest) s e h = both (λ (x : List Rec). Holds g (advanceBy (length x) g s)) (eqb (r .typ) 0) (λ t. h)
+    (λ t. holds-dropped g rest (advance g s) (recs-advance g s r rest e) (holds-advance g s r rest e h))
 
 pub holds-discard : (g : Geo) (s : Store) → Holds g s → Holds g (discard g s)
 unfolding discard
-holds-discard g s h = holds-discardFrom g (s .recs) s refl h
+holds-discard g s h = holds-dropped g (s .recs) s refl h
 
 pub share-discard : (g : Geo) (s : Store) → discard g s .share ≡ s .share
 unfolding discard
-share-discard g s = share-discardFrom g (s .recs) s
+share-discard g s = share-advanceBy (length (dropped (s .recs))) g s
 
-pub holds-takeHead : (g : Geo) (keep : Bool) (s : Store) (went l : List Rec) → s .recs ≡ l → Holds g s → Holds g (takeHead g keep s went l .store)
-unfolding takeHead
-holds-takeHead g keep s went [] e h = h
-holds-takeHead g true s went (r ∷ rest) e h = h
-holds-takeHead g false s went (r ∷ rest) e h = holds-advance g s r rest e h
+holds-takeHead : (g : Geo) (keep : Bool) (went : List Rec) (s : Store) (l : List Rec) → s .recs ≡ l → Holds g s → Holds g (takeHead g keep went s .store)
+holds-takeHead g keep went s [] e h = rw (takeHead-none g keep went s e) h
+holds-takeHead g true went s (r ∷ rest) e h = rw (takeHead-some g true went s r rest e) h
+holds-takeHead g false went s (r ∷ rest) e h = rw (takeHead-some g false went s r rest e) (holds-advance g s r rest e h)
 
-pub share-takeHead : (g : Geo) (keep : Bool) (s : Store) (went l : List Rec) → takeHead g keep s went l .store .share ≡ s .share
-unfolding takeHead
-share-takeHead g keep s went [] = refl
-share-takeHead g true s went (r ∷ rest) = refl
-share-takeHead g false s went (r ∷ rest) = share-advance g s rest
+share-takeHead : (g : Geo) (keep : Bool) (went : List Rec) (s : Store) (l : List Rec) → s .recs ≡ l → takeHead g keep went s .store .share ≡ s .share
+share-takeHead g keep went s [] e = rw (takeHead-none g keep went s e) refl
+share-takeHead g true went s (r ∷ rest) e = rw (takeHead-some g true went s r rest e) refl
+share-takeHead g false went s (r ∷ rest) e = rw (takeHead-some g false went s r rest e) (share-advance g s)
 
 pub holds-fetch : (g : Geo) (typed keep : Bool) (s : Store) → Holds g s → Holds g (fetch g typed keep s .store)
 unfolding fetch
-holds-fetch g true keep s h = holds-takeHead g keep s [] (s .recs) refl h
-holds-fetch g false keep s h = holds-takeHead g keep (discard g s) (dropped (s .recs)) (discard g s .recs) refl (holds-discard g s h)
+holds-fetch g true keep s h = holds-takeHead g keep [] s (s .recs) refl h
+holds-fetch g false keep s h = holds-takeHead g keep (dropped (s .recs)) (discard g s) (discard g s .recs) refl (holds-discard g s h)
 
 pub share-fetch : (g : Geo) (typed keep : Bool) (s : Store) → fetch g typed keep s .store .share ≡ s .share
 unfolding fetch
-share-fetch g true keep s = share-takeHead g keep s [] (s .recs)
-share-fetch g false keep s = share-takeHead g keep (discard g s) (dropped (s .recs)) (discard g s .recs) ∙ share-discard g s
+share-fetch g true keep s = share-takeHead g keep [] s (s .recs) refl
+share-fetch g false keep s = share-takeHead g keep (dropped (s .recs)) (discard g s) (discard g s .recs) refl ∙ share-discard g s
 
 pub holds-purge : (g : Geo) (s : Store) → Holds g s → Holds g (purge g s)
 unfolding purge

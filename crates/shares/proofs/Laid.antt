@@ -10,7 +10,7 @@ use lib.Dec.{leb, eqb}
 use lib.ListN.{length, getD, take, drop, length-drop}
 use lib.Seq.{length-take-le, drop-cons}
 use borrow.Author.Tests.{le-leb, leb-true, eqb-true, eqb-false, eq-eqb, ne-eqb}
-use Rattle.words.specs.Word.{word, wordAt, zeros, quiet}
+use Rattle.words.specs.Word.{word, wordAt, zeros, quiet, Bytes}
 use Rattle.words.proofs.Stands.{Stands, join, left, right}
 use Rattle.words.proofs.Zeros.{quiet-stands, quiet-true}
 use Rattle.rules.specs.Limits.{mostType}
@@ -19,7 +19,7 @@ use Rattle.rules.specs.Store.{pad, recordBytes, recordWords, blockBytes}
 use Rattle.shares.specs.Image.{bytesOf, wordsOf, image}
 use Rattle.shares.specs.Groups.{All, Small}
 use Rattle.shares.specs.Back.{recAt, next, recsAt, blockRecs}
-use Rattle.shares.specs.Laid.{Bytes, GoodRec, fair, walk, laid}
+use Rattle.shares.specs.Laid.{GoodRec, fair, walk, laid}
 use Rattle.rules.proofs.Split.{by-cases, pick-true, and-true, true-and, or-true, true-or, pass-true}
 use Rattle.shares.proofs.Image.{length-recordBytes, apart, whole, image-put, image-used}
 use Rattle.shares.proofs.Back.{fields, next-stands}

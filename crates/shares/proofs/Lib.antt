@@ -5,6 +5,7 @@ pub mod Groups
 pub mod Ring
 pub mod Says
 pub mod Put
+pub mod Taken
 pub mod Holds
 pub mod PutAll
 pub mod Back

@@ -12,7 +12,7 @@ use Rattle.words.proofs.Stands.{Stands, Within, within-then, kept}
 use Rattle.rules.specs.Limits.{shareBytes}
 use Rattle.rules.specs.State.{Rec, Geo, Store}
 use Rattle.rules.specs.Geometry.{capacity}
-use Rattle.rules.specs.Store.{used, recordWords, blockBytes, zeroed, added, tail, inscribed, put}
+use Rattle.rules.specs.Store.{used, recordWords, blockBytes, zeroed, added, tail, readied, inscribed, put}
 use Rattle.shares.specs.Image.{wordsOf, image}
 use Rattle.shares.specs.Inscribed.{inscribedAt}
 use Rattle.shares.specs.Groups.{All, flat, Shape, addTo}
@@ -25,8 +25,7 @@ use Rattle.shares.proofs.Ring.{ring-inside, ring-apart, block-fits-more
 
 pub length-inscribedAt : (n : ℕ) (xs : List ℕ) (a i : ℕ) (r : Rec) → length (inscribedAt n xs a i r) ≡ length xs
 unfolding inscribedAt
-length-inscribedAt n xs a i r = both (λ (ys : List ℕ). length ys ≡ length xs) (eqb i 0)
-    (λ e. length-added (sets xs a (zeroed n)) a r ∙ length-sets xs a (zeroed n)) (λ e. length-added xs a r)
+length-inscribedAt n xs a i r = length-added _ a r ∙ both (λ (ys : List ℕ). length ys ≡ length xs) (eqb i 0) (λ e. length-sets xs a (zeroed n)) (λ e. refl)
 
 -- all that a put changes lies in its block, which then holds the record
 unfoldable pub Inscribed : ℕ → List ℕ → List ℕ → ℕ → List Rec → Type 0
@@ -50,7 +49,7 @@ pub inscribed-next : (n : ℕ) (xs : List ℕ) (a i : ℕ) (rs : List Rec) (r : 
     → Inscribed n xs (inscribedAt n xs a i r) a (rs ++ (r ∷ []))
 unfolding inscribedAt Inscribed
 inscribed-next n xs a i rs r z f h s =
-    rw (pick-false (eqb i 0) (added (sets xs a (zeroed n)) a r) (added xs a r) (ne-eqb i 0 (λ e. omega arith)))
+    rw (pick-false (eqb i 0) (sets xs a (zeroed n)) xs (ne-eqb i 0 (λ e. omega arith)))
     (added-stands xs a n rs r f h s, added-within xs a n rs r f s)
 
 -- Where the groups have j * factor + i records, one more goes to the block j further on.
@@ -90,7 +89,7 @@ module _ (g : Geo) (o : Sized g) (r : Rec) (w : recordWords r ≤ g .words + 3) 
       )
 
 pub inscribed-at : (g : Geo) (r : Rec) (s : Store) → inscribed g r s ≡ inscribedAt (blockBytes g) (s .share) (tail g s) (used s % g .factor) r
-unfolding inscribed inscribedAt
+unfolding inscribed readied inscribedAt
 inscribed-at g r s = refl
 
 pub length-inscribed : (g : Geo) (r : Rec) (s : Store) → length (inscribed g r s) ≡ length (s .share)
@@ -106,7 +105,7 @@ pub record Grown (g : Geo) (r : Rec) (s : Store) (h : Holds g s) : Type 0 where
 pub grown-put : (g : Geo) (r : Rec) (s : Store) → Sized g → recordWords r ≤ g .words + 3 → used s < capacity (g .factor) (g .blocks)
     → (h : Holds g s)
     → Grown g r s h
-unfolding put inscribed inscribedAt tail capacity
+unfolding put inscribed readied inscribedAt tail capacity
 grown-put g r s o w c h =
     let b = g .factor in
     let j = used s / b in

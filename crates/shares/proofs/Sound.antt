@@ -9,21 +9,21 @@ use lib.Dec.{ltb, eqb}
 use lib.ListN.{length, take, drop, length-append, length-drop}
 use lib.Seq.{take-at, drop-at, drop-append-le}
 use borrow.Author.Tests.{ltb-true, ltb-false, lt-ltb, eqb-true, eqb-false, eq-eqb, ne-eqb}
-use Rattle.words.specs.Word.{wordAt}
+use Rattle.words.specs.Word.{wordAt, Bytes}
 use Rattle.rules.specs.Limits.{shareBytes}
 use Rattle.rules.specs.State.{Rec, Geo, Store}
 use Rattle.rules.specs.Store.{used, blockBytes}
 use Rattle.shares.specs.Groups.{All, flat, Shape, Begun}
 use Rattle.shares.specs.Holds.{Sized, At, Holds}
 use Rattle.shares.specs.Back.{blockRecs, ringRecs, usedRecs, readBack}
-use Rattle.shares.specs.Laid.{Bytes, GoodRec, laid}
+use Rattle.shares.specs.Laid.{GoodRec, laid}
 use Rattle.shares.specs.Sound.{sweep, sound, storeAt}
 use Rattle.rules.proofs.Split.{by-cases, pick-true, pick-false, and-true, true-and, or-true, true-or}
 use Rattle.shares.proofs.Image.{image-put}
 use Rattle.shares.proofs.Groups.{all-append, all-take, all-drop, shape-none}
 use Rattle.shares.proofs.Ring.{mod-next, ring-inside, block-fits}
 use Rattle.shares.proofs.Says.{used-flat, spent-most, spent-empty}
-use Rattle.shares.proofs.Back.{ringRecs-at, back}
+use Rattle.shares.proofs.Back.{ringRecs-at}
 use Rattle.shares.proofs.Used.{usedRecs-flat}
 use Rattle.shares.proofs.Laid.{length-blockRecs, laid-stands, laid-true}
 
@@ -156,8 +156,3 @@ holds-sound g s o h t =
     some : (rs : List Rec) → s .recs ≡ rs → (s .spent ≡ 0 → ⊥) → 0 < length rs
     some [] e f = absurd (f (spent-empty g s h e))
     some (r ∷ rs) e f = omega arith
-
--- and it stands for the store that it holds
-pub storeAt-holds : (g : Geo) (s : Store) → Sized g → Holds g s → storeAt g (s .share) (s .block) (s .spent) (length (s .recs)) ≡ s
-unfolding storeAt
-storeAt-holds g s o h = ap (λ (rs : List Rec). record { block = s .block; spent = s .spent; recs = rs; share = s .share }) (back g s o h)

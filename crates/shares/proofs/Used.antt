@@ -1,7 +1,7 @@
 -- The records of the held blocks, those spent among them: what a put and what takes records away make of them.
 use Prim.Native.Nat.{ℕ, _+_, _-_, _≤_, _<_}
 use mathlib.Core.Bool.{Bool, true, false}
-use mathlib.Core.Path.{_≡_, refl, sym, ap, _∙_}
+use mathlib.Core.Path.{_≡_, refl, sym, ap, _∙_, subst}
 use mathlib.Core.List.{List, [], _∷_, _++_}
 use native.Mathlib.Omega.{arith}
 use lib.Dec.{eqb}
@@ -9,7 +9,7 @@ use lib.ListN.{length, take, drop}
 use lib.Seq.{take-at}
 use Rattle.rules.specs.State.{Rec, Geo, Store}
 use Rattle.rules.specs.Geometry.{capacity}
-use Rattle.rules.specs.Store.{used, recordWords, put, advance, discardFrom, discard, dropped, purge, takeHead, fetch, putAll}
+use Rattle.rules.specs.Store.{used, recordWords, put, advance, advanceBy, dropped, discard, purge, takeHead, fetch, putAll}
 use Rattle.shares.specs.Groups.{All, Small, flat}
 use Rattle.shares.specs.Holds.{Sized, Holds}
 use Rattle.shares.specs.Back.{ringRecs, usedRecs}
@@ -17,7 +17,8 @@ use Rattle.rules.proofs.Split.{both}
 use Rattle.shares.proofs.Groups.{all-drop, all-snoc}
 use Rattle.shares.proofs.Says.{used-flat}
 use Rattle.shares.proofs.Put.{grown-put, holds-put}
-use Rattle.shares.proofs.Holds.{holds-advance, recs-advance, holds-discard, holds-purge}
+use Rattle.shares.proofs.Taken.{advance-last, advance-more, recs-advance, takeHead-none, takeHead-some}
+use Rattle.shares.proofs.Holds.{holds-advance, holds-discard, holds-purge}
 use Rattle.shares.proofs.PutAll.{used-put}
 use Rattle.shares.proofs.Back.{ringRecs-at}
 
@@ -65,38 +66,41 @@ module _ (P : Rec → Type 0) (g : Geo) (o : Sized g) where
       → All P (usedRecs g (put g r s))
   all-put r s w c p h a = rw (usedRecs-put g r s o w c h) (all-snoc P (usedRecs g s) r a p)
 
-  pub all-advance : (s : Store) (r : Rec) (rest : List Rec) → s .recs ≡ r ∷ rest → Holds g s → All P (usedRecs g s)
-      → All P (usedRecs g (advance g s rest))
-  unfolding advance All
-  all-advance s r [] e h a = all-unspent (advance g s []) (holds-advance g s r [] e h) refl tt
+  all-advance : (s : Store) (r : Rec) (rest : List Rec) → s .recs ≡ r ∷ rest → Holds g s → All P (usedRecs g s) → All P (usedRecs g (advance g s))
+  unfolding All
+  all-advance s r [] e h a =
+      let last = advance-last g s r e in
+      rw last (all-unspent _ (subst (Holds g) last (holds-advance g s r [] e h)) refl tt)
   all-advance s r (q ∷ rest) e h a =
+      let more = advance-more g s r q rest e in
+      rw more (
       both (λ (t : Store). Holds g t → All P (usedRecs g t)) (eqb (s .spent + 1) (g .factor))
       (λ t k. all-unspent _ k refl (let b : All P (r ∷ q ∷ rest) = rw e at (all-recs s h a) in b .1))
       (λ t k. all-onward s r (q ∷ rest) e a)
-      (holds-advance g s r (q ∷ rest) e h)
+      (subst (Holds g) more (holds-advance g s r (q ∷ rest) e h))
+      )
 
-  pub all-discardFrom : (l : List Rec) (s : Store) → s .recs ≡ l → Holds g s → All P (usedRecs g s) → All P (usedRecs g (discardFrom g l s))
-  unfolding discardFrom
-  all-discardFrom [] s e h a = a
-  all-discardFrom (r ∷ rest) s e h a =
-      both (λ (t : Store). All P (usedRecs g t)) (eqb (r .typ) 0) (λ t. a)
-      (λ t. all-discardFrom rest (advance g s rest) (recs-advance g s rest) (holds-advance g s r rest e h) (all-advance s r rest e h a))
+  all-dropped : (l : List Rec) (s : Store) → s .recs ≡ l → Holds g s → All P (usedRecs g s) → All P (usedRecs g (advanceBy (length (dropped l)) g s))
+  unfolding dropped advanceBy
+  all-dropped [] s e h a = a
+  all-dropped (r ∷ rest) s e h a =
+      both (λ (x : List Rec). All P (usedRecs g (advanceBy (length x) g s))) (eqb (r .typ) 0) (λ t. a)
+      (λ t. all-dropped rest (advance g s) (recs-advance g s r rest e) (holds-advance g s r rest e h) (all-advance s r rest e h a))
 
-  pub all-discard : (s : Store) → Holds g s → All P (usedRecs g s) → All P (usedRecs g (discard g s))
+  all-discard : (s : Store) → Holds g s → All P (usedRecs g s) → All P (usedRecs g (discard g s))
   unfolding discard
-  all-discard s h a = all-discardFrom (s .recs) s refl h a
+  all-discard s h a = all-dropped (s .recs) s refl h a
 
-  pub all-takeHead : (keep : Bool) (s : Store) (went l : List Rec) → s .recs ≡ l → Holds g s → All P (usedRecs g s)
-      → All P (usedRecs g (takeHead g keep s went l .store))
-  unfolding takeHead
-  all-takeHead keep s went [] e h a = a
-  all-takeHead true s went (r ∷ rest) e h a = a
-  all-takeHead false s went (r ∷ rest) e h a = all-advance s r rest e h a
+  all-takeHead : (keep : Bool) (went : List Rec) (s : Store) (l : List Rec) → s .recs ≡ l → Holds g s → All P (usedRecs g s)
+      → All P (usedRecs g (takeHead g keep went s .store))
+  all-takeHead keep went s [] e h a = rw (takeHead-none g keep went s e) a
+  all-takeHead true went s (r ∷ rest) e h a = rw (takeHead-some g true went s r rest e) a
+  all-takeHead false went s (r ∷ rest) e h a = rw (takeHead-some g false went s r rest e) (all-advance s r rest e h a)
 
   pub all-fetch : (typed keep : Bool) (s : Store) → Holds g s → All P (usedRecs g s) → All P (usedRecs g (fetch g typed keep s .store))
   unfolding fetch
-  all-fetch true keep s h a = all-takeHead keep s [] (s .recs) refl h a
-  all-fetch false keep s h a = all-takeHead keep (discard g s) (dropped (s .recs)) (discard g s .recs) refl (holds-discard g s h) (all-discard s h a)
+  all-fetch true keep s h a = all-takeHead keep [] s (s .recs) refl h a
+  all-fetch false keep s h a = all-takeHead keep (dropped (s .recs)) (discard g s) (discard g s .recs) refl (holds-discard g s h) (all-discard s h a)
 
   pub all-purge : (s : Store) → Holds g s → All P (usedRecs g (purge g s))
   unfolding purge All

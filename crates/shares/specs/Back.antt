@@ -6,7 +6,7 @@ use Rattle.words.specs.Word.{wordAt}
 use Rattle.rules.specs.State.{Rec, Geo, Store}
 use Rattle.rules.specs.Store.{used, blockBytes}
 
--- the record at p: "a word with the bytes that follow (4 + data), a type word, the writer's ID, and data"
+-- the record at p: "a word with the bytes that follow (4 + data), a type word (0 data, 1 open, 2 close), the writer's ID, and data"
 unfoldable pub recAt : List ℕ → ℕ → Rec
 recAt xs p = record { typ = wordAt xs (p + 2); wid = wordAt xs (p + 4); body = take (wordAt xs p - 4) (drop (p + 6) xs) }
 

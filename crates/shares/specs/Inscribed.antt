@@ -1,6 +1,6 @@
 -- A record into a block anywhere: what `inscribed` does to the share, the block's place and the records it has taken being given.
 use Prim.Native.Nat.{ℕ}
-use mathlib.Core.Bool.{true, false}
+use mathlib.Core.Bool.{Bool, true, false}
 use mathlib.Core.List.{List}
 use lib.Dec.{eqb}
 use lib.Seq.{sets}
@@ -9,4 +9,4 @@ use Rattle.rules.specs.Store.{zeroed, added}
 
 -- the block of n bytes that begins at `at` and has taken i records
 unfoldable pub inscribedAt : ℕ → List ℕ → ℕ → ℕ → Rec → List ℕ
-inscribedAt n xs at i r = elim (eqb i 0) [ true ↦ added (sets xs at (zeroed n)) at r | false ↦ added xs at r ]
+inscribedAt n xs at i r = added (elim (eqb i 0) as (λ (b : Bool). List ℕ) [ true ↦ sets xs at (zeroed n) | false ↦ xs ]) at r

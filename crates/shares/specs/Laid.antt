@@ -1,5 +1,5 @@
 -- Whether a block's bytes are laid out as document 01 says: a test of the bytes alone.
-use Prim.Native.Nat.{ℕ, zero, suc, _+_, _-_, _*_, _%_, _≤_, _<_}
+use Prim.Native.Nat.{ℕ, zero, suc, _+_, _-_, _*_, _%_, _≤_}
 use mathlib.Core.Bool.{Bool, true, false, _&&_, _||_}
 use mathlib.Core.Path.{_≡_}
 use mathlib.Core.List.{List, []}
@@ -11,11 +11,7 @@ use Rattle.rules.specs.State.{Rec, Geo}
 use Rattle.rules.specs.Store.{blockBytes}
 use Rattle.shares.specs.Back.{next}
 
--- a memory's elements are bytes
-unfoldable pub Bytes : List ℕ → Type 0
-Bytes xs = (i : ℕ) → getD xs i 0 < 256
-
--- "types 0 to 2, IDs ≥ 1, data .. none in open and close records"
+-- "types 0 to 2, IDs ≥ 1", "none in open and close records"
 pub record GoodRec (r : Rec) : Type 0 where
   pub kind : r .typ ≤ mostType
   pub from : 1 ≤ r .wid

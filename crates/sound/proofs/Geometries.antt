@@ -1,7 +1,7 @@
 -- What the test of a geometry says, and what the ring of such a file needs.
 use Prim.Native.Nat.{ℕ, zero, suc, _+_, _-_, _*_, _≤_, _<_}
-use mathlib.Core.Bool.{Bool, true, false, _&&_}
-use mathlib.Core.Path.{_≡_, sym, ap, _∙_}
+use mathlib.Core.Bool.{true, false}
+use mathlib.Core.Path.{_≡_}
 use mathlib.Core.List.{List}
 use native.Mathlib.Omega.{arith}
 use native.Mathlib.Numerals.{add-one}
@@ -12,8 +12,8 @@ use Rattle.rules.specs.State.{Geo}
 use Rattle.rules.proofs.Split.{and-true}
 use Rattle.geometry.proofs.Sizes.{product-most}
 use Rattle.laws.specs.Changes.{GoodGeo}
-use Rattle.blocks.specs.Ring.{geo, Fitted}
-use Rattle.blocks.specs.declared.ring.Ring.{Ring}
+use Rattle.ring.specs.Ring.{geo, Fitted}
+use Rattle.ring.specs.declared.Ring.{Ring}
 use Rattle.sound.specs.Rows.{fileWord, builtAt, geoAt, goodGeo, unbuiltOk}
 use Rattle.sound.specs.Sound.{builtOk, fileOk, filesOk}
 

@@ -3,18 +3,18 @@ use Prim.Native.Nat.{ℕ, zero, suc, _+_, _*_, _-_, _≤_, _<_}
 use mathlib.Core.Path.{_≡_, refl, sym, ap, _∙_}
 use mathlib.Core.Bool.{Bool, true, false, not, cond, _&&_, _||_, false≢true}
 use mathlib.Core.List.{List}
-use mathlib.Core.Logic.{_⊎_, inl, inr}
 use native.Mathlib.Omega.{arith}
 use native.Mathlib.Numerals.{add-one}
-use borrow.Author.Tests.{lt-ltb, le-ltb, le-leb, lt-leb, eq-eqb, ne-eqb, not-true, not-false, ltb-true}
-use lib.Dec.{ltb, leb, eqb}
-use lib.ListN.{getD, set, replicate}
+use borrow.Author.Tests.{lt-ltb, le-ltb, eq-eqb, ne-eqb, not-true, not-false, ltb-true}
+use lib.Dec.{eqb}
+use lib.ListN.{getD, set}
 use Rattle.words.specs.Word.{quiet}
 use Rattle.rules.specs.Limits.{files, places, entries, bufferBytes}
-use Rattle.segment.specs.Layout.{nil, linkAt, dataAt, freeList, readQueue, writeQueue, replyPort, timerList}
+use Rattle.segment.specs.Layout.{nil, linkAt, dataAt, replyPort}
 use Rattle.segment.specs.Table.{nth}
-use Rattle.sound.specs.Rows.{placeWord, sideAt, zeroWords, placeOk, placesOk, writersAt}
-use Rattle.sound.specs.Walks.{Walked, entryWord, placeIn, restZero, walked, freeEntry, readEntry, writeEntry, portEntry, timerEntry, freeWalk, queueWalk, timerWalk, portWalk, andThen, queueWalks, portWalks, allWalks, allMet}
+use Rattle.accessors.specs.Outstanding.{queueOf}
+use Rattle.sound.specs.Rows.{zeroWords, placeOk, placesOk}
+use Rattle.sound.specs.Walks.{Walked, entryWord, placeIn, restZero, walked, freeEntry, readEntry, writeEntry, portEntry, timerEntry, freeWalk, queueWalk, timerWalk, portWalk, andThen, queueWalks, portWalks, allMet}
 use Rattle.sound.specs.Parts.{owned}
 
 -- what a test says that was called, and held or did not
@@ -46,27 +46,6 @@ module _ (s : List ℕ) (p : ℕ) where
   unfolding placesOk
   places-step zero a d = absurd (omega arith)
   places-step (suc n) a d = let m : suc n - 1 ≡ n = omega arith in rw (m, add-one p, d, placesOk)
-
-module _ (s : List ℕ) (p v : ℕ) (e : v ≡ placeWord s p 0) where
-  pub writers-more : (n : ℕ) → 0 < n → v ≡ 2 → writersAt s p n ≡ writersAt s (p + 1) (n - 1) + 1
-  unfolding writersAt sideAt
-  writers-more zero a d = absurd (omega arith)
-  writers-more (suc n) a d = let m : suc n - 1 ≡ n = omega arith in rw (m, add-one p, ← e, eq-eqb v 2 d, add-one, writersAt)
-
-  pub writers-same : (n : ℕ) → 0 < n → (v ≡ 2 → ⊥) → writersAt s p n ≡ writersAt s (p + 1) (n - 1)
-  unfolding writersAt sideAt
-  writers-same zero a d = absurd (omega arith)
-  writers-same (suc n) a d = let m : suc n - 1 ≡ n = omega arith in rw (m, add-one p, ← e, ne-eqb v 2 d, writersAt)
-
-  -- one turn of the count
-  pub writers-turn : (n w w′ : ℕ) → 0 < n → ((v ≡ 2) × (w′ ≡ w + 1)) ⊎ ((v ≡ 2 → ⊥) × (w′ ≡ w)) → (w + writersAt s p n ≡ w′ + writersAt s (p + 1) (n - 1)) × (w′ ≤ w + 1)
-  writers-turn n w w′ a (inl h) = (omega (arith, writers-more n a (h .0)), omega arith)
-  writers-turn n w w′ a (inr h) = (omega (arith, writers-same n a (h .0)), omega arith)
-
-pub writers-end : (s : List ℕ) (p n w : ℕ) → n ≤ 0 → w + writersAt s p n ≡ w
-unfolding writersAt
-writers-end s p zero w h = omega arith
-writers-end s p (suc n) w h = absurd (omega arith)
 
 pub or-false : (t : Bool) → t ≡ (t || false)
 or-false true = refl
@@ -228,7 +207,7 @@ then-off w next seen busy e = rw e (then-false next seen busy)
 
 -- the queues of all files
 
-module _ (s bufs : List ℕ) (side f h : ℕ) (e : h ≡ cond (eqb side 1) (readQueue f) (writeQueue f)) (seen busy seen′ busy′ : List ℕ) where
+module _ (s bufs : List ℕ) (side f h : ℕ) (e : h ≡ queueOf f side) (seen busy seen′ busy′ : List ℕ) where
   pub queues-bad : (n : ℕ) → 0 < n → queueWalk s bufs side f h seen busy (entries + 1) ≡ walked false seen′ busy′ → queueWalks s bufs side f seen busy n ≡ walked false seen′ busy′
   unfolding queueWalks
   queues-bad zero a w = absurd (omega arith)

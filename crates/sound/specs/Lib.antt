@@ -1,6 +1,5 @@
 pub mod Rows
 pub mod Walks
-pub mod Survey
 pub mod Parts
 pub mod Sound
 pub mod quick

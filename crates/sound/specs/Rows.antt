@@ -1,21 +1,20 @@
 -- The rows of the segment: which are those of a file, built or not, and of its eight places.
 use Prim.Native.Nat.{ℕ, zero, suc, _+_, _*_}
 use mathlib.Core.Bool.{Bool, true, false, _&&_, _||_}
-use mathlib.Core.List.{List, [], _∷_}
+use mathlib.Core.List.{List}
 use lib.Dec.{leb, eqb}
-use lib.ListN.{getD}
 use Rattle.rules.specs.Limits.{places, mostWords, mostFactor, leastCapacity}
 use Rattle.rules.specs.Geometry.{capacity, fitsShare, within}
 use Rattle.rules.specs.State.{Geo}
-use Rattle.segment.specs.Layout.{rowAt, rowWords, fileRow, placeRow}
-use Rattle.segment.specs.Table.{nth, row}
+use Rattle.segment.specs.Layout.{fileWidth, placeWidth, fileRowAt, placeRowAt}
+use Rattle.segment.specs.Table.{nth}
 
 -- word j of file f's row, and of place i's
 unfoldable pub fileWord : List ℕ → ℕ → ℕ → ℕ
-fileWord s f j = nth s (rowAt (fileRow f) + j)
+fileWord s f j = nth s (fileRowAt f + j)
 
 unfoldable pub placeWord : List ℕ → ℕ → ℕ → ℕ
-placeWord s i j = nth s (rowAt (placeRow i) + j)
+placeWord s i j = nth s (placeRowAt i + j)
 
 -- n words from word k on are zero
 unfoldable pub zeroWords : List ℕ → ℕ → ℕ → Bool
@@ -47,18 +46,13 @@ goodPlace s i =
 
 -- a place of a built file: not open, or good
 unfoldable pub placeOk : List ℕ → ℕ → Bool
-placeOk s i = elim (eqb (sideAt s i) 0) [ true ↦ zeroWords s (rowAt (placeRow i)) rowWords | false ↦ goodPlace s i ]
+placeOk s i = elim (eqb (sideAt s i) 0) [ true ↦ zeroWords s (placeRowAt i) placeWidth | false ↦ goodPlace s i ]
 
 -- the n places from place i on
 unfoldable pub placesOk : List ℕ → ℕ → ℕ → Bool
 placesOk s i zero = true
 placesOk s i (suc n) = elim (placeOk s i) [ true ↦ placesOk s (suc i) n | false ↦ false ]
 
--- how many of them are writers
-unfoldable pub writersAt : List ℕ → ℕ → ℕ → ℕ
-writersAt s i zero = 0
-writersAt s i (suc n) = elim (eqb (sideAt s i) 2) [ true ↦ suc (writersAt s (suc i) n) | false ↦ writersAt s (suc i) n ]
-
 -- all of a file that is not built is zero: its row and those of its places, which stand one behind the other
 unfoldable pub unbuiltOk : List ℕ → ℕ → Bool
-unbuiltOk s f = zeroWords s (rowAt (fileRow f)) rowWords && zeroWords s (rowAt (placeRow (places * f))) (places * rowWords)
+unbuiltOk s f = zeroWords s (fileRowAt f) fileWidth && zeroWords s (placeRowAt (places * f)) (places * placeWidth)

@@ -1,7 +1,7 @@
 -- Which memories are sound: a test of their bytes.
 use Prim.Native.Nat.{ℕ, zero, suc, _+_, _*_}
 use mathlib.Core.Bool.{Bool, true, false, _&&_}
-use mathlib.Core.List.{List, []}
+use mathlib.Core.List.{List}
 use lib.Dec.{leb, eqb}
 use lib.ListN.{length, getD}
 use Rattle.rules.specs.Limits.{files, places, entries, shareBytes, bufferBytes}
@@ -10,7 +10,8 @@ use Rattle.rules.specs.State.{Geo}
 use Rattle.segment.specs.Layout.{segmentBytes}
 use Rattle.shares.specs.Sound.{sound}
 use Rattle.memory.specs.Stands.{shareAt}
-use Rattle.sound.specs.Rows.{fileWord, builtAt, geoAt, goodGeo, placesOk, writersAt, unbuiltOk}
+use Rattle.accessors.specs.Sides.{countSide}
+use Rattle.sound.specs.Rows.{fileWord, builtAt, geoAt, goodGeo, placesOk, unbuiltOk}
 use Rattle.sound.specs.Walks.{Walked, restZero, allWalks, allMet}
 
 -- a built file: geometry, places, the held blocks' layout, and "one place is kept for each close record"
@@ -21,8 +22,8 @@ builtOk s blocks f =
     && eqb (fileWord s f 6) 0
     && eqb (fileWord s f 7) 0
     && placesOk s (places * f) places
-    && leb (fileWord s f 4 + fileWord s f 5 + writersAt s (places * f) places) (capacity (g .factor) (g .blocks))
-    && leb (writersAt s (places * f) places + 1) (capacity (g .factor) (g .blocks))
+    && leb (fileWord s f 4 + fileWord s f 5 + countSide s f 2) (capacity (g .factor) (g .blocks))
+    && leb (countSide s f 2 + 1) (capacity (g .factor) (g .blocks))
     && sound g (shareAt f blocks) (fileWord s f 3) (fileWord s f 4) (fileWord s f 5)
 
 unfoldable pub fileOk : List ℕ → List ℕ → ℕ → Bool

@@ -1,13 +1,15 @@
 -- The walk of each list: every entry is met once, holds what its list asks of it, and belongs to a place that has no other request.
 use Prim.Native.Nat.{ℕ, zero, suc, _+_, _-_, _*_, _/_}
 use mathlib.Core.Bool.{Bool, true, false, cond, _&&_}
-use mathlib.Core.List.{List, [], _∷_}
+use mathlib.Core.List.{List}
 use lib.Dec.{ltb, leb, eqb}
 use lib.ListN.{getD, set, replicate}
-use Rattle.rules.specs.Limits.{files, places, entries, bufferBytes, mostReadBytes, leastRefusal}
-use Rattle.segment.specs.Layout.{nil, linkAt, dataAt, dataWords, freeList, readQueue, writeQueue, replyPort, timerList}
+use Rattle.rules.specs.Limits.{files, places, entries, bufferBytes, mostReadBytes}
+use Rattle.segment.specs.Layout.{nil, linkAt, dataAt, dataWords, freeList, replyPort, timerList}
+use Rattle.accessors.specs.Outstanding.{queueOf}
 use Rattle.segment.specs.Table.{nth}
 use Rattle.words.specs.Word.{quiet}
+use Rattle.laws.specs.Bounds.{leastRefusal}
 use Rattle.sound.specs.Rows.{fileWord, sideAt, zeroWords}
 
 -- the marks: an entry that was met is 1; a place is 0 idle, 1 waiting, 2 completed, 3 waiting with a timer
@@ -140,14 +142,14 @@ andThen w next = elim (w .ok) [ true ↦ next (w .seen) (w .busy) | false ↦ w 
 unfoldable pub queueWalks : List ℕ → List ℕ → ℕ → ℕ → List ℕ → List ℕ → ℕ → Walked
 queueWalks s bufs side f seen busy zero = walked true seen busy
 queueWalks s bufs side f seen busy (suc n) =
-    andThen (queueWalk s bufs side f (cond (eqb side 1) (readQueue f) (writeQueue f)) seen busy (entries + 1)) (λ seen′ busy′. queueWalks s bufs side (suc f) seen′ busy′ n)
+    andThen (queueWalk s bufs side f (queueOf f side) seen busy (entries + 1)) (λ seen′ busy′. queueWalks s bufs side (suc f) seen′ busy′ n)
 
 -- the ports of n places from place i on
 unfoldable pub portWalks : List ℕ → List ℕ → ℕ → List ℕ → List ℕ → ℕ → Walked
 portWalks s bufs i seen busy zero = walked true seen busy
 portWalks s bufs i seen busy (suc n) = andThen (portWalk s bufs i seen busy) (λ seen′ busy′. portWalks s bufs (suc i) seen′ busy′ n)
 
--- all 82 lists
+-- all lists
 unfoldable pub allWalks : List ℕ → List ℕ → Walked
 allWalks s bufs =
     andThen (freeWalk s freeList (replicate entries 0) (replicate (files * places) 0) (entries + 1)) (λ seen busy.

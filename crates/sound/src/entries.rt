@@ -1,14 +1,16 @@
 // What an entry holds on each kind of list. A place that is read may be any word: it is tested before it is used.
-use crate::READER;
 use crate::WAITING;
-use crate::WRITER;
 use crate::quick::bytes::bare;
 use crate::rows::file_word;
 use crate::rows::place_word;
 use crate::rows::zero_words;
+use kinds::limits;
 use kinds::limits::BUFFER_BYTES;
 use kinds::limits::FILES;
 use kinds::limits::PLACES;
+use kinds::refusals;
+use kinds::sides::READER;
+use kinds::sides::WRITER;
 use segment::layout;
 ghost use mathlib.Core.Path.{_≡_};
 ghost use mathlib.Core.Bool.{cond};
@@ -20,10 +22,10 @@ ghost use Rattle.segment.specs.Layout.{segmentBytes};
 ghost use Rattle.sound.specs.Parts.{owned};
 ghost use Rattle.sound.specs.Walks.{restZero, freeEntry, readEntry, writeEntry, portEntry, timerEntry};
 
-const MOST_READ_BYTES: u16 = 260;
+const MOST_READ_BYTES: u16 = limits::MOST_READ_BYTES as u16;
 
 // A completed request's status is below the numbers of refusals.
-const LEAST_REFUSAL: u16 = 29;
+const LEAST_REFUSAL: u16 = refusals::UNSOUND as u16;
 
 // How many words of an entry's data are zero: of a read behind its keep, of a write between its unit and its size,
 // of a completed request before its status, and behind the size of both, and of a timer between its place and its seconds.
@@ -58,7 +60,7 @@ pub fn free_entry(s: &[u8], e: usize) -> bool
 }
 
 // Whether entry e belongs to an accessor of file f on that side, which has nothing outstanding yet.
-fn owned(s: &[u8], busy: &[u8; 64], side: u16, f: usize, e: usize) -> bool
+fn owned(s: &[u8], busy: &[u8; layout::DESK_PLACES], side: u16, f: usize, e: usize) -> bool
     requires { ⌜ (length (now s) ≡ segmentBytes) × (e < entries) ⌝ }
     ensures { λ r. ⌜ r ≡ owned (now (s .entry)) (now (busy .entry)) side f e ⌝ }
 {
@@ -76,7 +78,13 @@ fn owned(s: &[u8], busy: &[u8; 64], side: u16, f: usize, e: usize) -> bool
     place_word(s, i, layout::PLACE_SIDE) == side
 }
 
-fn read_entry(s: &[u8], buffers: &[u8], busy: &[u8; 64], f: usize, e: usize) -> bool
+fn read_entry(
+    s: &[u8],
+    buffers: &[u8],
+    busy: &[u8; layout::DESK_PLACES],
+    f: usize,
+    e: usize,
+) -> bool
     requires { ⌜ (length (now s) ≡ segmentBytes) × (length (now buffers) ≡ places * bufferBytes * files) × (e < entries) ⌝ }
     ensures { λ r. ⌜ r ≡ readEntry (now (s .entry)) (now (buffers .entry)) (now (busy .entry)) f e ⌝ }
 {
@@ -100,7 +108,13 @@ fn read_entry(s: &[u8], buffers: &[u8], busy: &[u8; 64], f: usize, e: usize) -> 
     rest_zero(buffers, i, 0)
 }
 
-fn write_entry(s: &[u8], buffers: &[u8], busy: &[u8; 64], f: usize, e: usize) -> bool
+fn write_entry(
+    s: &[u8],
+    buffers: &[u8],
+    busy: &[u8; layout::DESK_PLACES],
+    f: usize,
+    e: usize,
+) -> bool
     requires { ⌜ (length (now s) ≡ segmentBytes) × (length (now buffers) ≡ places * bufferBytes * files) × (f < files) × (e < entries) ⌝ }
     ensures { λ r. ⌜ r ≡ writeEntry (now (s .entry)) (now (buffers .entry)) (now (busy .entry)) f e ⌝ }
 {
@@ -126,7 +140,14 @@ fn write_entry(s: &[u8], buffers: &[u8], busy: &[u8; 64], f: usize, e: usize) ->
 }
 
 // Of the two queues of file f: what waits there on that side.
-pub fn queue_entry(s: &[u8], buffers: &[u8], busy: &[u8; 64], side: u16, f: usize, e: usize) -> bool
+pub fn queue_entry(
+    s: &[u8],
+    buffers: &[u8],
+    busy: &[u8; layout::DESK_PLACES],
+    side: u16,
+    f: usize,
+    e: usize,
+) -> bool
     requires { ⌜ (length (now s) ≡ segmentBytes) × (length (now buffers) ≡ places * bufferBytes * files) × (f < files) × (e < entries) ⌝ }
     ensures { λ r. ⌜ r ≡ cond (eqb side 1) (readEntry (now (s .entry)) (now (buffers .entry)) (now (busy .entry)) f e) (writeEntry (now (s .entry)) (now (buffers .entry)) (now (busy .entry)) f e) ⌝ }
 {
@@ -143,7 +164,13 @@ fn most_size(side: u16) -> u16
     if side == READER { MOST_READ_BYTES } else { 0 }
 }
 
-pub fn port_entry(s: &[u8], buffers: &[u8], busy: &[u8; 64], i: usize, e: usize) -> bool
+pub fn port_entry(
+    s: &[u8],
+    buffers: &[u8],
+    busy: &[u8; layout::DESK_PLACES],
+    i: usize,
+    e: usize,
+) -> bool
     requires { ⌜ (length (now s) ≡ segmentBytes) × (length (now buffers) ≡ places * bufferBytes * files) × (i < files * places) × (e < entries) ⌝ }
     ensures { λ r. ⌜ r ≡ portEntry (now (s .entry)) (now (buffers .entry)) (now (busy .entry)) i e ⌝ }
 {
@@ -175,7 +202,7 @@ pub fn port_entry(s: &[u8], buffers: &[u8], busy: &[u8; 64], i: usize, e: usize)
 }
 
 // A timer has as many seconds left as the one before it, `low`, at least.
-pub fn timer_entry(s: &[u8], busy: &[u8; 64], low: u16, e: usize) -> bool
+pub fn timer_entry(s: &[u8], busy: &[u8; layout::DESK_PLACES], low: u16, e: usize) -> bool
     requires { ⌜ (length (now s) ≡ segmentBytes) × (e < entries) ⌝ }
     ensures { λ r. ⌜ r ≡ timerEntry (now (s .entry)) (now (busy .entry)) low e ⌝ }
 {

@@ -4,12 +4,13 @@ use crate::rows::file_word;
 use crate::rows::good_geometry;
 use crate::rows::places_ok;
 use crate::rows::unbuilt_ok;
-use crate::rows::writers_at;
+use accessors::sides::count_side;
 use blocks::check;
 use blocks::memory::share;
-use blocks::ring::Ring;
 use kinds::limits::FILES;
 use kinds::limits::PLACES;
+use kinds::sides::WRITER;
+use ring::Ring;
 use segment::layout;
 ghost use mathlib.Core.Path.{_≡_};
 ghost use mathlib.Core.Bool.{true, _&&_};
@@ -21,7 +22,8 @@ ghost use Rattle.rules.specs.Geometry.{capacity};
 ghost use Rattle.segment.specs.Layout.{segmentBytes};
 ghost use Rattle.shares.specs.Sound.{sound};
 ghost use Rattle.memory.specs.Stands.{shareAt};
-ghost use Rattle.sound.specs.Rows.{fileWord, geoAt, goodGeo, placesOk, writersAt};
+ghost use Rattle.accessors.specs.Sides.{countSide};
+ghost use Rattle.sound.specs.Rows.{fileWord, geoAt, goodGeo, placesOk};
 ghost use Rattle.sound.specs.Sound.{builtOk, fileOk, filesOk};
 
 // The two words of a file's row that are not used.
@@ -47,10 +49,10 @@ fn rows_ok(s: &[u8], f: usize) -> bool
     places_ok(s, PLACES * f, PLACES)
 }
 
-// "One place is kept for each close record", and a file with writers alone still has room for a record.
+// "one place is kept for each close record", and a file with writers alone still has room for a record.
 fn room_ok(s: &[u8], f: usize) -> bool
     requires { ⌜ (length (now s) ≡ segmentBytes) × (f < files) × (goodGeo (geoAt (now s) f) ≡ true) ⌝ }
-    ensures { λ r. ⌜ r ≡ (leb (fileWord (now (s .entry)) f 4 + fileWord (now (s .entry)) f 5 + writersAt (now (s .entry)) (places * f) places) (capacity (fileWord (now (s .entry)) f 1) (fileWord (now (s .entry)) f 2)) && leb (writersAt (now (s .entry)) (places * f) places + 1) (capacity (fileWord (now (s .entry)) f 1) (fileWord (now (s .entry)) f 2))) ⌝ }
+    ensures { λ r. ⌜ r ≡ (leb (fileWord (now (s .entry)) f 4 + fileWord (now (s .entry)) f 5 + countSide (now (s .entry)) f 2) (capacity (fileWord (now (s .entry)) f 1) (fileWord (now (s .entry)) f 2)) && leb (countSide (now (s .entry)) f 2 + 1) (capacity (fileWord (now (s .entry)) f 1) (fileWord (now (s .entry)) f 2))) ⌝ }
 {
     let factor = file_word(s, f, layout::FILE_FACTOR) as u32;
     let blocks = file_word(s, f, layout::FILE_BLOCKS) as u32;
@@ -60,7 +62,7 @@ fn room_ok(s: &[u8], f: usize) -> bool
     if ample(spent + held, most) {
         return true;
     }
-    let writers = writers_at(s, PLACES * f, PLACES) as u32;
+    let writers = count_side(s, f, WRITER) as u32;
     if spent + held + writers > most {
         return false;
     }

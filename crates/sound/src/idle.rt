@@ -17,7 +17,7 @@ ghost use Rattle.sound.specs.Walks.{restZero};
 ghost use Rattle.sound.specs.Sound.{idleZero, idlesZero};
 
 // Whether the buffer of place i is zero, if no request uses it.
-fn place_idle(buffers: &[u8], busy: &[u8; 64], i: usize) -> bool
+fn place_idle(buffers: &[u8], busy: &[u8; layout::DESK_PLACES], i: usize) -> bool
     requires { ⌜ (length (now buffers) ≡ places * bufferBytes * files) × (i < files * places) ⌝ }
     ensures { λ r. ⌜ r ≡ cond (eqb (getD (now (busy .entry)) i 0) 0) (restZero (now (buffers .entry)) i 0) true ⌝ }
 {
@@ -28,7 +28,7 @@ fn place_idle(buffers: &[u8], busy: &[u8; 64], i: usize) -> bool
 }
 
 // Those of the n places from place i on.
-pub fn places_idle(buffers: &[u8], busy: &[u8; 64], i: usize, n: usize) -> bool
+pub fn places_idle(buffers: &[u8], busy: &[u8; layout::DESK_PLACES], i: usize, n: usize) -> bool
     requires { ⌜ (length (now buffers) ≡ places * bufferBytes * files) × (i + n ≤ files * places) ⌝ }
     ensures { λ r. ⌜ r ≡ idleZero (now (buffers .entry)) (now (busy .entry)) i n ⌝ }
 {
@@ -44,7 +44,7 @@ pub fn places_idle(buffers: &[u8], busy: &[u8; 64], i: usize, n: usize) -> bool
     true
 }
 
-fn file_idle(s: &[u8], buffers: &[u8], busy: &[u8; 64], f: usize) -> bool
+fn file_idle(s: &[u8], buffers: &[u8], busy: &[u8; layout::DESK_PLACES], f: usize) -> bool
     requires { ⌜ (length (now s) ≡ segmentBytes) × (length (now buffers) ≡ places * bufferBytes * files) × (f < files) ⌝ }
     ensures { λ r. ⌜ r ≡ cond (builtAt (now (s .entry)) f) (idleZero (now (buffers .entry)) (now (busy .entry)) (places * f) places) true ⌝ }
 {
@@ -54,7 +54,7 @@ fn file_idle(s: &[u8], buffers: &[u8], busy: &[u8; 64], f: usize) -> bool
     quick::idle::places_idle(buffers, busy, PLACES * f, PLACES)
 }
 
-pub fn files_idle(s: &[u8], buffers: &[u8], busy: &[u8; 64]) -> bool
+pub fn files_idle(s: &[u8], buffers: &[u8], busy: &[u8; layout::DESK_PLACES]) -> bool
     requires { ⌜ (length (now s) ≡ segmentBytes) × (length (now buffers) ≡ places * bufferBytes * files) ⌝ }
     ensures { λ r. ⌜ r ≡ idlesZero (now (s .entry)) (now (buffers .entry)) (now (busy .entry)) 0 files ⌝ }
 {

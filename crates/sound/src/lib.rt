@@ -9,10 +9,8 @@ mod walks;
 
 use files::files_ok;
 use idle::files_idle;
-use kinds::limits::BUFFER_BYTES;
-use kinds::limits::FILES;
-use kinds::limits::PLACES;
-use kinds::limits::SHARE_BYTES;
+use kinds::limits::BLOCKS_BYTES;
+use kinds::limits::BUFFERS_BYTES;
 use segment::layout;
 use walks::all_met;
 use walks::all_walks;
@@ -23,10 +21,8 @@ ghost use Rattle.rules.specs.Limits.{files, places, bufferBytes};
 ghost use Rattle.segment.specs.Layout.{segmentBytes};
 ghost use Rattle.sound.specs.Sound.{listsOk, soundly};
 
-// The sides of a place that is open.
-const READER: u16 = 1;
-
-const WRITER: u16 = 2;
+// How many entries may be marked.
+const ENTRY_COUNT: usize = layout::ENTRIES as usize;
 
 // The marks: an entry that was met; a place whose request waits, is completed, or waits with a timer.
 const MET: u8 = 1;
@@ -42,8 +38,8 @@ fn lists_ok(s: &[u8], buffers: &[u8]) -> bool
     requires { ⌜ (length (now s) ≡ segmentBytes) × (length (now buffers) ≡ places * bufferBytes * files) ⌝ }
     ensures { λ r. ⌜ r ≡ listsOk (now (s .entry)) (now (buffers .entry)) ⌝ }
 {
-    let mut seen = [0u8; 128];
-    let mut busy = [0u8; 64];
+    let mut seen = [0u8; ENTRY_COUNT];
+    let mut busy = [0u8; layout::DESK_PLACES];
     if !all_walks(s, buffers, &mut seen, &mut busy) {
         return false;
     }
@@ -60,10 +56,10 @@ pub fn sound(s: &[u8], blocks: &[u8], buffers: &[u8]) -> bool
     if s.len() != layout::SEGMENT_BYTES {
         return false;
     }
-    if blocks.len() != FILES * SHARE_BYTES {
+    if blocks.len() != BLOCKS_BYTES {
         return false;
     }
-    if buffers.len() != FILES * PLACES * BUFFER_BYTES {
+    if buffers.len() != BUFFERS_BYTES {
         return false;
     }
     if !files_ok(s, blocks) {

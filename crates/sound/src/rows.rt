@@ -1,12 +1,11 @@
 // The rows of the segment: those of a file, built or not, and of its places. A place's rows stand behind all the files'.
-use crate::READER;
-use crate::WRITER;
 use crate::quick;
-use kinds::limits::FILES;
 use kinds::limits::LEAST_CAPACITY;
 use kinds::limits::MOST_FACTOR;
 use kinds::limits::MOST_WORDS;
 use kinds::limits::PLACES;
+use kinds::sides::READER;
+use kinds::sides::WRITER;
 use segment::layout;
 ghost use mathlib.Core.Path.{_≡_};
 ghost use mathlib.Core.Bool.{_&&_, _||_};
@@ -14,8 +13,8 @@ ghost use Prim.Native.Nat.{_+_, _*_, _≤_, _<_};
 ghost use lib.Dec.{leb, eqb};
 ghost use lib.ListN.{length};
 ghost use Rattle.rules.specs.Limits.{files, places};
-ghost use Rattle.segment.specs.Layout.{rowWords, segmentWords, segmentBytes};
-ghost use Rattle.sound.specs.Rows.{fileWord, placeWord, zeroWords, goodGeo, goodPlace, placeOk, placesOk, writersAt, unbuiltOk};
+ghost use Rattle.segment.specs.Layout.{segmentWords, segmentBytes, fileWidth, placeWidth};
+ghost use Rattle.sound.specs.Rows.{fileWord, placeWord, zeroWords, goodGeo, goodPlace, placeOk, placesOk, unbuiltOk};
 
 // Whether n words from word k on are zero, which is whether their bytes are (`zero-bytes`, proofs/Bytes.antt).
 pub fn zero_words(s: &[u8], k: usize, n: usize) -> bool
@@ -28,17 +27,17 @@ pub fn zero_words(s: &[u8], k: usize, n: usize) -> bool
 // Word j of file f's row, and of place i's.
 
 pub fn file_word(s: &[u8], f: usize, j: usize) -> u16
-    requires { ⌜ (length (now s) ≡ segmentBytes) × (f < files) × (j < rowWords) ⌝ }
+    requires { ⌜ (length (now s) ≡ segmentBytes) × (f < files) × (j < fileWidth) ⌝ }
     ensures { λ r. ⌜ r ≡ fileWord (now (s .entry)) f j ⌝ }
 {
-    segment::get(s, layout::FILE_ROWS + layout::ROW_WORDS * f + j)
+    segment::get(s, layout::FILE_ROWS + layout::FILE_ROW_WORDS * f + j)
 }
 
 pub fn place_word(s: &[u8], i: usize, j: usize) -> u16
-    requires { ⌜ (length (now s) ≡ segmentBytes) × (i < files * places) × (j < rowWords) ⌝ }
+    requires { ⌜ (length (now s) ≡ segmentBytes) × (i < files * places) × (j < placeWidth) ⌝ }
     ensures { λ r. ⌜ r ≡ placeWord (now (s .entry)) i j ⌝ }
 {
-    segment::get(s, layout::FILE_ROWS + layout::ROW_WORDS * (FILES + i) + j)
+    segment::get(s, layout::PLACE_ROWS + layout::PLACE_ROW_WORDS * i + j)
 }
 
 // "C = B × D" is counted at 32 bits: D may be any word yet.
@@ -57,7 +56,7 @@ pub fn good_geometry(words: u16, factor: u16, blocks: u16) -> bool
     if factor > MOST_FACTOR {
         return false;
     }
-    if factor as u32 * (blocks as u32) < LEAST_CAPACITY as u32 {
+    if factor as u32 * (blocks as u32) < LEAST_CAPACITY {
         return false;
     }
     geometry::fits_share(words, factor as u8, blocks)
@@ -102,8 +101,8 @@ pub fn place_ok(s: &[u8], i: usize) -> bool
     ensures { λ r. ⌜ r ≡ placeOk (now (s .entry)) i ⌝ }
 {
     if place_word(s, i, layout::PLACE_SIDE) == 0 {
-        let at = layout::FILE_ROWS + layout::ROW_WORDS * (FILES + i);
-        return zero_words(s, at, layout::ROW_WORDS);
+        let at = layout::PLACE_ROWS + layout::PLACE_ROW_WORDS * i;
+        return zero_words(s, at, layout::PLACE_ROW_WORDS);
     }
     good_place(s, i)
 }
@@ -125,33 +124,15 @@ pub fn places_ok(s: &[u8], i: usize, n: usize) -> bool
     true
 }
 
-// How many of them are writers.
-pub fn writers_at(s: &[u8], i: usize, n: usize) -> usize
-    requires { ⌜ (length (now s) ≡ segmentBytes) × (i + n ≤ files * places) ⌝ }
-    ensures { λ r. ⌜ (r ≡ writersAt (now (s .entry)) i n) × (r ≤ n) ⌝ }
-{
-    let mut p = i;
-    let mut left = n;
-    let mut writers = 0;
-    while left > 0 {
-        if place_word(s, p, layout::PLACE_SIDE) == WRITER {
-            writers += 1;
-        }
-        p += 1;
-        left -= 1;
-    }
-    writers
-}
-
 // All of a file that is not built is zero.
 pub fn unbuilt_ok(s: &[u8], f: usize) -> bool
     requires { ⌜ (length (now s) ≡ segmentBytes) × (f < files) ⌝ }
     ensures { λ r. ⌜ r ≡ unbuiltOk (now (s .entry)) f ⌝ }
 {
-    let row = layout::FILE_ROWS + layout::ROW_WORDS * f;
-    if !zero_words(s, row, layout::ROW_WORDS) {
+    let row = layout::FILE_ROWS + layout::FILE_ROW_WORDS * f;
+    if !zero_words(s, row, layout::FILE_ROW_WORDS) {
         return false;
     }
-    let at = layout::FILE_ROWS + layout::ROW_WORDS * (FILES + PLACES * f);
-    zero_words(s, at, PLACES * layout::ROW_WORDS)
+    let at = layout::PLACE_ROWS + layout::PLACE_ROW_WORDS * (PLACES * f);
+    zero_words(s, at, PLACES * layout::PLACE_ROW_WORDS)
 }

@@ -1,33 +1,30 @@
 // The walk of each list: every entry is met once, and marks the place that it belongs to. A list ends at NIL and nowhere else;
 // one turn more than there are entries is enough, since none is met twice.
 use crate::COMPLETED;
+use crate::ENTRY_COUNT;
 use crate::MET;
-use crate::READER;
 use crate::TIMED;
 use crate::WAITING;
-use crate::WRITER;
 use crate::entries::free_entry;
 use crate::entries::port_entry;
 use crate::entries::queue_entry;
 use crate::entries::timer_entry;
 use crate::quick;
 use crate::quick::order::in_order;
+use accessors::outstanding::queue_of;
 use kinds::limits::FILES;
-use kinds::limits::PLACES;
+use kinds::sides::READER;
+use kinds::sides::WRITER;
 use segment::layout;
 ghost use mathlib.Core.Path.{_≡_};
-ghost use mathlib.Core.Bool.{cond};
 ghost use mathlib.Core.List.{List};
 ghost use Prim.Native.Nat.{ℕ, _+_, _*_, _<_};
-ghost use lib.Dec.{eqb};
 ghost use lib.ListN.{length, replicate};
 ghost use Rattle.rules.specs.Limits.{files, places, entries, bufferBytes};
-ghost use Rattle.segment.specs.Layout.{readQueue, writeQueue, segmentBytes};
+ghost use Rattle.segment.specs.Layout.{segmentBytes, fileRows};
 ghost use Rattle.sound.specs.Walks.{walked, freeWalk, queueWalk, timerWalk, portWalk, queueWalks, portWalks, allWalks, allMet};
 
-const TURNS: usize = 129;
-
-const ENTRY_COUNT: usize = 128;
+const TURNS: usize = ENTRY_COUNT + 1;
 
 // A byte as a number.
 fn number(x: u8) -> usize
@@ -37,8 +34,8 @@ fn number(x: u8) -> usize
 }
 
 // The marks on places stay as they are. An entry's number is one byte, and entries in order are passed at once.
-fn free_walk(s: &[u8], head: usize, seen: &mut [u8; 128]) -> bool
-    requires { ⌜ (length (now s) ≡ segmentBytes) × (head < 1362) ⌝ }
+fn free_walk(s: &[u8], head: usize, seen: &mut [u8; ENTRY_COUNT]) -> bool
+    requires { ⌜ (length (now s) ≡ segmentBytes) × (head < fileRows) ⌝ }
     ensures { λ r. ⌜ ((busy : List ℕ) → walked r (now (seen .exit)) busy ≡ freeWalk (now (s .entry)) head (now (seen .entry)) busy (entries + 1)) ⌝ }
 {
     let mut p = head;
@@ -74,10 +71,10 @@ fn queue_walk(
     side: u16,
     f: usize,
     head: usize,
-    seen: &mut [u8; 128],
-    busy: &mut [u8; 64],
+    seen: &mut [u8; ENTRY_COUNT],
+    busy: &mut [u8; layout::DESK_PLACES],
 ) -> bool
-    requires { ⌜ (length (now s) ≡ segmentBytes) × (length (now buffers) ≡ places * bufferBytes * files) × (f < files) × (head < 1362) ⌝ }
+    requires { ⌜ (length (now s) ≡ segmentBytes) × (length (now buffers) ≡ places * bufferBytes * files) × (f < files) × (head < fileRows) ⌝ }
     ensures { λ r. ⌜ walked r (now (seen .exit)) (now (busy .exit)) ≡ queueWalk (now (s .entry)) (now (buffers .entry)) side f head (now (seen .entry)) (now (busy .entry)) (entries + 1) ⌝ }
 {
     let mut p = head;
@@ -104,8 +101,13 @@ fn queue_walk(
     false
 }
 
-fn timer_walk(s: &[u8], head: usize, seen: &mut [u8; 128], busy: &mut [u8; 64]) -> bool
-    requires { ⌜ (length (now s) ≡ segmentBytes) × (head < 1362) ⌝ }
+fn timer_walk(
+    s: &[u8],
+    head: usize,
+    seen: &mut [u8; ENTRY_COUNT],
+    busy: &mut [u8; layout::DESK_PLACES],
+) -> bool
+    requires { ⌜ (length (now s) ≡ segmentBytes) × (head < fileRows) ⌝ }
     ensures { λ r. ⌜ walked r (now (seen .exit)) (now (busy .exit)) ≡ timerWalk (now (s .entry)) 0 head (now (seen .entry)) (now (busy .entry)) (entries + 1) ⌝ }
 {
     let mut p = head;
@@ -135,7 +137,13 @@ fn timer_walk(s: &[u8], head: usize, seen: &mut [u8; 128], busy: &mut [u8; 64]) 
 }
 
 // A reply port has one entry at most.
-fn port_walk(s: &[u8], buffers: &[u8], i: usize, seen: &mut [u8; 128], busy: &mut [u8; 64]) -> bool
+fn port_walk(
+    s: &[u8],
+    buffers: &[u8],
+    i: usize,
+    seen: &mut [u8; ENTRY_COUNT],
+    busy: &mut [u8; layout::DESK_PLACES],
+) -> bool
     requires { ⌜ (length (now s) ≡ segmentBytes) × (length (now buffers) ≡ places * bufferBytes * files) × (i < files * places) ⌝ }
     ensures { λ r. ⌜ walked r (now (seen .exit)) (now (busy .exit)) ≡ portWalk (now (s .entry)) (now (buffers .entry)) i (now (seen .entry)) (now (busy .entry)) ⌝ }
 {
@@ -158,31 +166,20 @@ fn port_walk(s: &[u8], buffers: &[u8], i: usize, seen: &mut [u8; 128], busy: &mu
     true
 }
 
-fn queue_head(side: u16, f: usize) -> usize
-    requires { ⌜ f < files ⌝ }
-    ensures { λ r. ⌜ (r ≡ cond (eqb side 1) (readQueue f) (writeQueue f)) × (r < 1362) ⌝ }
-{
-    if side == READER {
-        layout::READ_QUEUES + f
-    } else {
-        layout::WRITE_QUEUES + f
-    }
-}
-
 // The queues of all files on that side.
 pub fn queue_walks(
     s: &[u8],
     buffers: &[u8],
     side: u16,
-    seen: &mut [u8; 128],
-    busy: &mut [u8; 64],
+    seen: &mut [u8; ENTRY_COUNT],
+    busy: &mut [u8; layout::DESK_PLACES],
 ) -> bool
     requires { ⌜ (length (now s) ≡ segmentBytes) × (length (now buffers) ≡ places * bufferBytes * files) ⌝ }
     ensures { λ r. ⌜ walked r (now (seen .exit)) (now (busy .exit)) ≡ queueWalks (now (s .entry)) (now (buffers .entry)) side 0 (now (seen .entry)) (now (busy .entry)) files ⌝ }
 {
     let mut f = 0;
     while f < FILES {
-        let head = queue_head(side, f);
+        let head = queue_of(f, side);
         if !queue_walk(s, buffers, side, f, head, seen, busy) {
             return false;
         }
@@ -192,12 +189,17 @@ pub fn queue_walks(
 }
 
 // The ports of all places.
-pub fn port_walks(s: &[u8], buffers: &[u8], seen: &mut [u8; 128], busy: &mut [u8; 64]) -> bool
+pub fn port_walks(
+    s: &[u8],
+    buffers: &[u8],
+    seen: &mut [u8; ENTRY_COUNT],
+    busy: &mut [u8; layout::DESK_PLACES],
+) -> bool
     requires { ⌜ (length (now s) ≡ segmentBytes) × (length (now buffers) ≡ places * bufferBytes * files) ⌝ }
     ensures { λ r. ⌜ walked r (now (seen .exit)) (now (busy .exit)) ≡ portWalks (now (s .entry)) (now (buffers .entry)) 0 (now (seen .entry)) (now (busy .entry)) (files * places) ⌝ }
 {
     let mut i = 0;
-    while i < FILES * PLACES {
+    while i < layout::DESK_PLACES {
         if !port_walk(s, buffers, i, seen, busy) {
             return false;
         }
@@ -206,8 +208,13 @@ pub fn port_walks(s: &[u8], buffers: &[u8], seen: &mut [u8; 128], busy: &mut [u8
     true
 }
 
-// All 82 lists, with no mark set yet.
-pub fn all_walks(s: &[u8], buffers: &[u8], seen: &mut [u8; 128], busy: &mut [u8; 64]) -> bool
+// All lists, with no mark set yet.
+pub fn all_walks(
+    s: &[u8],
+    buffers: &[u8],
+    seen: &mut [u8; ENTRY_COUNT],
+    busy: &mut [u8; layout::DESK_PLACES],
+) -> bool
     requires { ⌜ (length (now s) ≡ segmentBytes) × (length (now buffers) ≡ places * bufferBytes * files) ⌝ }
     requires { ⌜ (now seen ≡ replicate entries 0) × (now busy ≡ replicate (files * places) 0) ⌝ }
     ensures { λ r. ⌜ walked r (now (seen .exit)) (now (busy .exit)) ≡ allWalks (now (s .entry)) (now (buffers .entry)) ⌝ }
@@ -228,7 +235,7 @@ pub fn all_walks(s: &[u8], buffers: &[u8], seen: &mut [u8; 128], busy: &mut [u8;
 }
 
 // Whether every entry was met: one `or` of what differs, with no way out of the loop, as in `words::quiet`.
-pub fn all_met(seen: &[u8; 128]) -> bool
+pub fn all_met(seen: &[u8; ENTRY_COUNT]) -> bool
     ensures { λ r. ⌜ r ≡ allMet (now (seen .entry)) entries ⌝ }
 {
     let mut n = ENTRY_COUNT;

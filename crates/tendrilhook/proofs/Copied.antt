@@ -1,6 +1,6 @@
 -- What look shows, copied into the record memory of a host.
 use Prim.Native.Nat.{ℕ}
-use mathlib.Core.Path.{_≡_, refl}
+use mathlib.Core.Path.{_≡_}
 use mathlib.Core.List.{List}
 use mathlib.Core.Option.{Option}
 use lib.ListN.{length}
@@ -8,7 +8,7 @@ use lib.Seq.{sets}
 use Rattle.rules.specs.Limits.{bufferBytes}
 use Rattle.rules.specs.Desk.{look, replyBytes}
 use Rattle.midst.specs.Outcome.{replyStatus}
-use Rattle.promises.specs.Promise.{Memories, written, Standing, Seen, lent, replyOf, shown, Behind, Promise}
+use Rattle.promises.specs.Promise.{Memories, written, Standing, Seen, replyOf, shown, Promise}
 use Rattle.promises.specs.Promise as host
 use Rattle.promises.proofs.Events.{lent-right, lent-wrong}
 use Rattle.promises.proofs.Still.{look-behind}

@@ -1,6 +1,6 @@
 // The calls that a host in C makes; include/tendrilhook.h says what they do.
-use judges::refusals;
 use kinds::limits::BUFFER_BYTES;
+use kinds::refusals;
 ghost use Rattle.promises.specs.Promise.{Promise};
 ghost use Rattle.promises.specs.Promise as host;
 
@@ -43,10 +43,11 @@ pub extern "C" fn tendrilhook_look<'a>(
         *length = 0;
         return refusals::UNSOUND;
     }
-    let part = looking::look(segment, blocks, buffers, file, reader);
+    let what = looking::shown(segment, blocks, buffers, file, reader);
+    let part = looking::part(what, blocks, buffers);
     words::copy(record, 0, part);
     *length = part.len();
-    looking::look_status(segment, blocks, buffers, file, reader)
+    looking::status(what)
 }
 
 // A file's sheet: its status, and in `length` the sheet's length, 0 where it is refused.

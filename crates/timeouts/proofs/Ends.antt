@@ -9,10 +9,10 @@ use lib.Seq.{getD-set-same, getD-set-other}
 use Rattle.rules.specs.Limits.{files, places, entries}
 use Rattle.rules.specs.State.{Built, File, unbuilt, built}
 use Rattle.rules.specs.Requests.{withAccs, withQueues, withTimers, alterAcc, say, requeue, leave, finish}
-use Rattle.rules.specs.Reply.{hushed, leaves, done, unmade}
-use Rattle.rules.specs.Close.{due, failAll, minus, lessen, lapse, timePasses}
+use Rattle.rules.specs.Reply.{hushed}
+use Rattle.rules.specs.Time.{due, failAll, minus, lessen, lapse, fileTime}
 use Rattle.rules.specs.Memories.{fileBuffers}
-use Rattle.rules.specs.Desk.{Desk, fileOf, fileTime}
+use Rattle.rules.specs.Desk.{Desk, fileOf}
 use Rattle.rules.specs.Allocation.{Alloc, withClock, endAll, allocTime, portOf}
 use Rattle.laws.specs.Runs.{OnFile}
 use Rattle.laws.specs.Changes.{Finishes}
@@ -22,8 +22,10 @@ use Rattle.laws.proofs.Walk.{fails-all}
 use Rattle.laws.proofs.Sieve.{here-due}
 use Rattle.segment.specs.Layout.{listCount, dataWords, rowCount, timerList}
 use Rattle.ports.specs.Lists.{Boxes}
-use Rattle.memory.specs.Image.{accOf, reqOf, placeAcc, timerWords, fileWords, placeWords, rowOf, listOf, portWords, boxOf, listsOf, boxesOf}
-use Rattle.memory.specs.Stands.{Bytes, Segment, FileBytes, Stands}
+use Rattle.memory.specs.Image.{accOf, placeAcc, timerWords, fileWords, placeWords, rowOf, listOf, portWords, boxOf, listsOf, boxesOf}
+use Rattle.laws.specs.Outstanding.{reqOf}
+use Rattle.memory.specs.Stands.{Segment, FileBytes, Stands}
+use Rattle.words.specs.Word.{Bytes}
 use Rattle.memory.specs.Fine.{StandsFor}
 use Rattle.memory.proofs.Image.{rowOf-file, rowOf-place, each-row, each-list, listOf-free, listOf-read, listOf-write, listOf-port, listOf-timers, boxOf-free, boxOf-read, boxOf-write, boxOf-port, boxOf-timers}
 use Rattle.memory.proofs.Boxes.{getD-listsOf, getD-boxesOf, boxes-segment}
@@ -43,7 +45,7 @@ store-same l b = fails-all (λ c. c .store ≡ b .store) same 22 l b refl (omega
 
 time-bytes : (n : ℕ) (l : List ℕ) (y : File) (share old new : List ℕ) → l ≡ due n (timersOf y) → FileBytes y share old
     → OnFile (λ b. new ≡ fileBuffers (b .accs)) (failFile l y) → FileBytes (fileTime n y) share new
-unfolding FileBytes OnFile failFile fileTime timePasses done leaves hushed unmade lapse lessen withTimers timersOf
+unfolding FileBytes OnFile failFile fileTime hushed lapse lessen withTimers timersOf
 time-bytes n l unbuilt share old new e h k = tt
 time-bytes n l (built b) share old new e h k = (h .0 ∙ sym (ap (λ s. s .share) (store-same (due n (b .timers)) b)), rw e at k)
 

@@ -7,7 +7,7 @@ use lib.ListN.{length, getD, length-map}
 use borrow.Author.Tests.{le-leb, lt-leb}
 use Rattle.rules.specs.Limits.{entries}
 use Rattle.rules.specs.State.{Timer}
-use Rattle.rules.specs.Close.{due}
+use Rattle.rules.specs.Time.{due}
 use Rattle.rules.specs.Desk.{Desk}
 use Rattle.rules.specs.Allocation.{Alloc, heldAt, timerEntry, timerList}
 use Rattle.laws.specs.Timers.{Sorted}

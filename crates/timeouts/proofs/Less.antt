@@ -6,7 +6,7 @@ use native.Mathlib.Omega.{arith}
 use lib.ListN.{length, getD, set, take, length-append, length-map}
 use lib.Seq.{set-getD, set-set, getD-set-same, take-suc}
 use Rattle.rules.specs.State.{Timer}
-use Rattle.rules.specs.Close.{minus}
+use Rattle.rules.specs.Time.{minus}
 use Rattle.segment.specs.Layout.{timerList, linkAt}
 use Rattle.segment.specs.Table.{dataOf, putData}
 use Rattle.segment.specs.Fields.{entryOf, entryAt}

@@ -5,12 +5,12 @@ use mathlib.Core.List.{List, [], _∷_}
 use native.Mathlib.Omega.{arith}
 use native.Mathlib.Decide.{ℕ-discrete, decLt}
 use lib.ListN.{length, set}
-use Rattle.tally.specs.Count.{count}
-use Rattle.tally.proofs.Counts.{bit-eq}
+use Rattle.occurrences.specs.Count.{count}
+use Rattle.occurrences.proofs.Counts.{bit-eq}
 use Rattle.rules.specs.Limits.{files, places, entries}
 use Rattle.rules.specs.State.{Timer, Built, File, unbuilt, built}
 use Rattle.rules.specs.Requests.{fail}
-use Rattle.rules.specs.Close.{due, failAll}
+use Rattle.rules.specs.Time.{due, failAll}
 use Rattle.rules.specs.Desk.{Desk, fileOf}
 use Rattle.rules.specs.Allocation.{Alloc, placeOf, endsAt, endAll}
 use Rattle.laws.specs.Runs.{OnFile}

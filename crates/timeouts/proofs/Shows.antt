@@ -5,9 +5,9 @@ use mathlib.Core.List.{List, [], _∷_, map}
 use lib.ListN.{List·getD-map}
 use Rattle.rules.specs.State.{Req, idle, reading, writing, readDone, writeDone, Timer, Built, File, unbuilt, built}
 use Rattle.rules.specs.Requests.{accAt, withTimers}
-use Rattle.rules.specs.Reply.{hushed, leaves, done, unmade}
-use Rattle.rules.specs.Close.{due, minus, lessen, lapse, timePasses}
-use Rattle.rules.specs.Desk.{Desk, fileOf, fileTime}
+use Rattle.rules.specs.Reply.{hushed}
+use Rattle.rules.specs.Time.{due, minus, lessen, lapse, fileTime}
+use Rattle.rules.specs.Desk.{Desk, fileOf}
 use Rattle.rules.specs.Allocation.{Alloc, heldAt, withClock, timerEntry, queueOf, portOf}
 use Rattle.rules.specs.Allocation as rules
 use Rattle.laws.specs.Entries.{timersOf}
@@ -61,7 +61,7 @@ shown-write-words f (built b) = refl
 
 -- the file of the loop and the file of the rules
 pub bare-time : (n : ℕ) (l : List ℕ) (y : File) → l ≡ due n (timersOf y) → bare (failFile l y) ≡ bare (fileTime n y)
-unfolding bare failFile fileTime timePasses done leaves hushed unmade lapse lessen withTimers timersOf
+unfolding bare failFile fileTime hushed lapse lessen withTimers timersOf
 bare-time n l unbuilt e = refl
 bare-time n l (built b) e = rw e
 
@@ -100,5 +100,5 @@ unfolding rules.timerList withClock heldAt
 list-clock n t = timers-clock n t (t .clock)
 
 pub file-time : (n : ℕ) (d : Desk) (f : ℕ) → fileOf (map (fileTime n) d) f ≡ fileTime n (fileOf d f)
-unfolding fileOf fileTime timePasses unmade
+unfolding fileOf fileTime
 file-time n d f = List·getD-map (fileTime n) d f unbuilt

@@ -10,7 +10,8 @@ use Rattle.rules.specs.Limits.{places, entries, bufferBytes}
 use Rattle.segment.specs.Layout.{readQueue, writeQueue, linkAt}
 use Rattle.segment.specs.Table.{nth}
 use Rattle.segment.specs.Fields.{placeAt}
-use Rattle.requests.specs.Moves.{completed}
+use Rattle.ports.specs.Slots.{seek, has}
+use Rattle.requests.specs.Moves.{slotOf, entryOf, completed}
 use Rattle.timeouts.specs.Late.{waitsIn, lateWords, late, lateBuffers, less, lessAll}
 
 module _ (s : List ℕ) (p e : ℕ) (h : e ≡ nth s p) (n : ℕ) where
@@ -24,6 +25,16 @@ module _ (s : List ℕ) (p e : ℕ) (h : e ≡ nth s p) (n : ℕ) where
   less-step zero a g = absurd (omega arith)
   less-step (suc k) a g = let m : suc k - 1 ≡ k = omega arith in rw (← h, lt-ltb e entries g, m)
 
+-- the request of place i, which waits in list l, at slot p of it
+module _ (s : List ℕ) (i l : ℕ) (w : waitsIn s i ≡ l) (p : ℕ) (at : p ≡ seek (has 0 i) s l entries) where
+  pub late-found : entryOf s (waitsIn s i) i < entries → nth s p < entries
+  unfolding entryOf slotOf
+  late-found h = rw at (rw w at h)
+
+  pub late-at : completed s p i (lateWords i) ≡ late s i
+  unfolding late slotOf
+  late-at = rw (at, w)
+
 -- where the request of place i waits, k being the side in its row
 module _ (s : List ℕ) (i k : ℕ) (h : k ≡ placeAt s i .side) where
   pub in-writers : k ≡ 2 → waitsIn s i ≡ writeQueue (i / places)
@@ -33,15 +44,6 @@ module _ (s : List ℕ) (i k : ℕ) (h : k ≡ placeAt s i .side) where
   pub in-readers : (k ≡ 2 → ⊥) → waitsIn s i ≡ readQueue (i / places)
   unfolding waitsIn
   in-readers d = rw (← h, ne-eqb k 2 d)
-
-  -- what it leaves, as the code has it
-  pub late-writer : k ≡ 2 → (completed s (writeQueue (i / places)) i (lateWords i) ≡ late s i)
-  unfolding late
-  late-writer e = rw (in-writers e)
-
-  pub late-reader : (k ≡ 2 → ⊥) → (completed s (readQueue (i / places)) i (lateWords i) ≡ late s i)
-  unfolding late
-  late-reader d = rw (in-readers d)
 
   pub cleared : (ys : List ℕ) → k ≡ 2 → sets ys (bufferBytes * i) (zeros bufferBytes) ≡ lateBuffers s ys i
   unfolding lateBuffers

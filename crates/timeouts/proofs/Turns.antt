@@ -11,7 +11,7 @@ use lib.ListN.{length, getD, set, length-set}
 use lib.Seq.{sets, length-sets}
 use Rattle.words.specs.Word.{zeros}
 use Rattle.words.proofs.Runs.{length-zeros}
-use Rattle.tally.specs.Count.{bit}
+use Rattle.occurrences.specs.Count.{bit}
 use Rattle.rules.specs.Limits.{files, places, entries, bufferBytes}
 use Rattle.rules.specs.State.{Req, Built, File, built}
 use Rattle.rules.specs.Requests.{accAt, alter, withReq, without, withAccs, withQueues, withTimers, alterAcc, say, requeue, leave, finish, fail}
@@ -33,6 +33,7 @@ use Rattle.laws.proofs.Happenings.{place-file}
 use Rattle.laws.proofs.Lapses.{others, fails-one}
 use Rattle.segment.specs.Layout.{rowCount, placeRow, readQueue, writeQueue}
 use Rattle.segment.specs.Fields.{placeRowOf, placeAt}
+use Rattle.segment.proofs.Apart.{words-place}
 use Rattle.requests.specs.Moves.{entryOf}
 use Rattle.memory.specs.Image.{accOf, fileWords, placeWords}
 use Rattle.memory.specs.Stands.{buffersAt}
@@ -41,7 +42,7 @@ use Rattle.midst.specs.Seg.{Seg, queueAt}
 use Rattle.midst.proofs.Alike.{file-set, file-other}
 use Rattle.midst.proofs.Fills.{buffers-keep, buffers-apart, buffers-req, zeros-filled}
 use Rattle.midst.proofs.Placed.{Placed}
-use Rattle.midst.proofs.Leaves.{seg-complete}
+use Rattle.midst.proofs.EntryLeaves.{seg-complete}
 use Rattle.timeouts.specs.Late.{waitsIn, late, lateBuffers}
 use Rattle.timeouts.specs.Stage.{Steady, Stage}
 use Rattle.timeouts.proofs.Ripe.{Ripe}
@@ -110,7 +111,7 @@ module _ {xs ys : List ℕ} {d : Desk} {t : Alloc} (S : Stage xs ys d t) (f p : 
   unfolding placeAt placeRowOf placeOf accOf placeWords
   side =
       ap (λ r. getD r 0 0)
-      (S .segment .boxes .rows (placeRow i) (omega arith) ∙ S .segment .same (placeRow i) (omega arith) (λ z. omega arith) ∙ rowOf-acc d f p hp
+      (sym (words-place xs i) ∙ S .segment .boxes .rows (placeRow i) (omega arith) ∙ S .segment .same (placeRow i) (omega arith) (λ z. omega arith) ∙ rowOf-acc d f p hp
       ∙ ap (λ y. placeWords (accOf y p)) e ∙ ap placeWords (R .at))
 
   pub waits-is : waitsIn xs i ≡ queueAt w f

@@ -9,7 +9,7 @@ use Rattle.rules.specs.Limits.{places, entries, bufferBytes}
 use Rattle.segment.specs.Layout.{readQueue, writeQueue, linkAt}
 use Rattle.segment.specs.Table.{nth, putData}
 use Rattle.segment.specs.Fields.{entryAt, placeAt}
-use Rattle.requests.specs.Moves.{timer, completed}
+use Rattle.requests.specs.Moves.{timer, slotOf, completed}
 
 -- the queue where the request of place i waits
 unfoldable pub waitsIn : List ℕ → ℕ → ℕ
@@ -20,7 +20,7 @@ unfoldable pub lateWords : ℕ → List ℕ
 lateWords i = i ∷ 0 ∷ 0 ∷ 0 ∷ 22 ∷ 0 ∷ 0 ∷ 0 ∷ 0 ∷ []
 
 unfoldable pub late : List ℕ → ℕ → List ℕ
-late s i = completed s (waitsIn s i) i (lateWords i)
+late s i = completed s (slotOf s (waitsIn s i) i) i (lateWords i)
 
 -- what a writer's buffer held is gone; a waiting reader's holds nothing
 unfoldable pub lateBuffers : List ℕ → List ℕ → ℕ → List ℕ

@@ -6,7 +6,7 @@ use lib.ListN.{length}
 use Rattle.segment.specs.Layout.{rowCount}
 use Rattle.rules.specs.Limits.{files, places, bufferBytes, mostWords}
 use Rattle.rules.specs.State.{Built, File, unbuilt, built}
-use Rattle.rules.specs.Close.{due, failAll}
+use Rattle.rules.specs.Time.{due, failAll}
 use Rattle.rules.specs.Desk.{Desk, fileOf}
 use Rattle.rules.specs.Memories.{fileBuffers}
 use Rattle.rules.specs.Allocation.{Alloc, endAll}

@@ -6,9 +6,10 @@ ghost use Prim.Native.Nat.{ℕ, _-_, _<_};
 ghost use lib.ListN.{length};
 ghost use Rattle.rules.specs.Limits.{files, entries};
 ghost use Rattle.rules.specs.State.{unbuilt};
-ghost use Rattle.rules.specs.Desk.{Desk, fileOf, fileTime};
+ghost use Rattle.rules.specs.Desk.{Desk, fileOf};
+ghost use Rattle.rules.specs.Time.{fileTime};
 ghost use Rattle.rules.specs.Allocation.{Alloc, allocTime};
-ghost use Rattle.segment.specs.Layout.{timerList, segmentBytes};
+ghost use Rattle.segment.specs.Layout.{timerList, segmentBytes, deskPlaces};
 ghost use Rattle.buffers.specs.Buffer.{buffersBytes};
 ghost use Rattle.requests.specs.Moves.{entryOf};
 ghost use Rattle.memory.specs.Stands.{buffersAt, Stands};
@@ -16,20 +17,19 @@ ghost use Rattle.memory.specs.Fine.{StandsFor};
 ghost use Rattle.timeouts.specs.Late.{waitsIn, late, lateBuffers, less, lessAll};
 ghost use Rattle.timeouts.specs.Stage.{Stage, Quiet};
 use kinds::limits::PLACES;
+use kinds::sides::WRITER;
+use kinds::statuses;
 use segment::Entry;
 use segment::layout;
 
-// The side of a place where a writer is open.
-const WRITER: u16 = 2;
-
 // "completes with status 22"
-const TIMED_OUT: u16 = 22;
+const TIMED_OUT: u16 = statuses::TIMED_OUT as u16;
 
 // The waiting request of a place completes, and brings nothing.
 fn time_out(segment: &mut [u8], buffers: &mut [u8], place: u16)
     requires { ⌜ length (now segment) ≡ segmentBytes ⌝ }
     requires { ⌜ length (now buffers) ≡ buffersBytes ⌝ }
-    requires { ⌜ (place < 64) × (entryOf (now segment) (waitsIn (now segment) place) place < entries) ⌝ }
+    requires { ⌜ (place < deskPlaces) × (entryOf (now segment) (waitsIn (now segment) place) place < entries) ⌝ }
     ensures { λ _. ⌜ (now (segment .exit) ≡ late (now (segment .entry)) place) × (now (buffers .exit) ≡ lateBuffers (now (segment .entry)) (now (buffers .entry)) place) ⌝ }
 {
     let i = place as usize;
@@ -44,11 +44,13 @@ fn time_out(segment: &mut [u8], buffers: &mut [u8], place: u16)
         seconds: 0,
     };
     if segment::place_side(segment, i) == WRITER {
-        requests::complete(segment, layout::WRITE_QUEUES + i / PLACES, m);
+        let p = ports::seek_place(segment, layout::WRITE_QUEUES + i / PLACES, place);
+        requests::complete(segment, p, m);
         buffers::clear_at(buffers, i);
         return;
     }
-    requests::complete(segment, layout::READ_QUEUES + i / PLACES, m);
+    let p = ports::seek_place(segment, layout::READ_QUEUES + i / PLACES, place);
+    requests::complete(segment, p, m);
 }
 
 // All that are due, from the front of the timer list.

@@ -1,34 +1,40 @@
 -- A read or write is accepted: what its accessor's row says, and the memories behind its beginning.
-use Prim.Native.Nat.{ℕ, _<_}
-use mathlib.Core.Path.{_≡_, sym, ap, ap₂, _∙_, subst}
-use mathlib.Core.Bool.{Bool, _||_}
-use mathlib.Core.List.{List}
+use Prim.Native.Nat.{ℕ, _<_, _+_}
+use mathlib.Core.Path.{_≡_, refl, sym, ap, ap₂, _∙_, subst}
+use mathlib.Core.Bool.{Bool, _||_, true, false, cond, _&&_}
+use mathlib.Core.List.{List, [], _∷_}
 use mathlib.Core.Option.{Option, some}
 use lib.Dec.{ltb, eqb}
-use Rattle.tally.specs.Count.{bit}
+use Rattle.occurrences.specs.Count.{bit}
 use Rattle.rules.specs.Limits.{files}
 use Rattle.rules.specs.State.{Acc, Built, built}
-use Rattle.rules.specs.Requests.{accAt, alterAcc, begun}
+use Rattle.rules.specs.Requests.{isWriter, isReader, writers, readers, accAt, withAccs, alterAcc, begun}
 use Rattle.rules.specs.Transfer.{mayWait}
 use Rattle.rules.specs.Desk.{Desk, fileOf}
 use Rattle.rules.specs.Allocation.{Alloc, placeOf}
+use Rattle.laws.proofs.Accessors.{countAcc-alter}
 use Rattle.laws.proofs.Calls.{begun-mild, begun-at}
 use Rattle.segment.specs.declared.PlaceRow.{PlaceRow}
-use Rattle.segment.specs.Layout.{rowAt, placeRow}
+use Rattle.segment.specs.Layout.{placeRowAt}
 use Rattle.segment.specs.Table.{fill}
 use Rattle.segment.specs.Fields.{placeWords, placeRowOf, fileAt, placeAt}
+use Rattle.accessors.specs.Sides.{countSide}
+use Rattle.accessors.proofs.Counted.{count-readers, count-writers}
 use Rattle.memory.specs.Image as image
 use Rattle.memory.specs.Fine.{Fine, StandsFor}
 use Rattle.midst.specs.declared.File as hand
 use Rattle.midst.specs.File.{fileOfRow}
-use Rattle.midst.specs.Mid.{Mid}
-use Rattle.midst.proofs.Begins.{mid-begin, mid-place}
+use Rattle.midst.specs.Mid.{Mid, start}
+use Rattle.midst.proofs.Begins.{mid-begin, mid-place, mid-row}
 use Rattle.midst.proofs.Changes.{mid-below}
 use Rattle.midst.proofs.Rows.{mid-mild}
 use Rattle.midst.proofs.Walks.{fine-walks}
 use Rattle.settling.proofs.FirstReader.{bit-one}
-use Rattle.transfers.specs.Rows.{begunRow, mayWaitRow}
-use Rattle.transfers.specs.Acts.{start}
+use Rattle.transfers.specs.Rows.{begunRow, begunSegment, mayWaitRow}
+
+kept-bit : (writer keep : Bool) → cond (eqb (1 + bit writer) 2) (bit keep) 0 ≡ bit (writer && keep)
+kept-bit true keep = refl
+kept-bit false keep = refl
 
 -- the accessor a at place p of file f, which is b; the code has its row and the file
 module _ {xs blocks buffers : List ℕ} {d : Desk} {s : Alloc} (S : StandsFor xs blocks buffers d s) (f p : ℕ) (hf : f < files) (b : Built) (is : fileOf d f ≡ built b) (a : Acc)
@@ -66,15 +72,33 @@ module _ {xs blocks buffers : List ℕ} {d : Desk} {s : Alloc} (S : StandsFor xs
 
     begun-words : placeWords (begunRow row) ≡ image.placeWords (some (begun a))
     unfolding begunRow placeWords placeRowOf image.placeWords begun
-    begun-words = ap (λ (r : PlaceRow). placeWords (begunRow r)) row-is
+    begun-words =
+        ap (λ (r : PlaceRow). placeWords (begunRow r)) row-is
+        ∙ ap (λ (k : ℕ). (1 + bit (a .writer)) ∷ a .ident ∷ a .sharing ∷ a .timeout ∷ bit (a .extended) ∷ bit (a .typed) ∷ k ∷ 0 ∷ []) (kept-bit (a .writer) (a .keep))
 
-    -- control 47 and the first operation are spent
-    pub begun-mid : (x : hand.File) → x ≡ fileOfRow (fileAt xs f) → (xs′ : List ℕ) → xs′ ≡ fill xs (rowAt (placeRow (placeOf f p))) (placeWords (begunRow row))
+    -- the first operation is spent, and by a read control 47
+    pub begun-mid : (x : hand.File) → x ≡ fileOfRow (fileAt xs f) → (xs′ : List ℕ) → xs′ ≡ begunSegment xs (placeOf f p)
         → Mid Fine f (start d s blocks buffers) xs′ blocks buffers x (alterAcc p begun b)
+    unfolding begunSegment
     begun-mid x e xs′ h =
         let M = begin-mid x e in
-        subst (λ (ys : List ℕ). Mid Fine f (start d s blocks buffers) ys blocks buffers x (alterAcc p begun b)) (sym h)
+        let is : xs′ ≡ fill xs (placeRowAt (placeOf f p)) (placeWords (begunRow row)) = h ∙ ap (λ (r : PlaceRow). fill xs (placeRowAt (placeOf f p)) (placeWords (begunRow r))) (sym read) in
+        subst (λ (ys : List ℕ). Mid Fine f (start d s blocks buffers) ys blocks buffers x (alterAcc p begun b)) (sym is)
         (mid-mild M p begun a (begunRow row) begun-mild at (fine-walks .mild p begun b begun-mild (M .good)) begun-words)
+
+    -- the sides stay
+    module _ (x : hand.File) (e : x ≡ fileOfRow (fileAt xs f)) (xs′ : List ℕ) (h : xs′ ≡ begunSegment xs (placeOf f p)) where
+      pub begun-readers : countSide xs′ f 1 ≡ readers b
+      unfolding readers alterAcc withAccs begun isReader
+      begun-readers =
+          let N = begun-mid x e xs′ h in
+          count-readers xs′ f (alterAcc p begun b) (N .allots .matches .agrees .eight) (mid-row N) ∙ countAcc-alter isReader begun (λ a. refl) (b .accs) p
+
+      pub begun-writers : countSide xs′ f 2 ≡ writers b
+      unfolding writers alterAcc withAccs begun isWriter
+      begun-writers =
+          let N = begun-mid x e xs′ h in
+          count-writers xs′ f (alterAcc p begun b) (N .allots .matches .agrees .eight) (mid-row N) ∙ countAcc-alter isWriter begun (λ a. refl) (b .accs) p
 
   pub at-begun : accAt (alterAcc p begun b) p ≡ some (begun a)
   at-begun = begun-at p a b at

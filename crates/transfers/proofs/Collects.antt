@@ -8,25 +8,25 @@ use borrow.Author.Tests.{eq-eqb, ne-eqb}
 use lib.Dec.{eqb}
 use lib.ListN.{length, take}
 use lib.Seq.{sets}
-use Rattle.words.specs.Word.{zeros}
+use Rattle.words.specs.Word.{zeros, Bytes}
 use Rattle.kinds.specs.declared.Answer.the-variants.{Status, Collected}
-use Rattle.rules.specs.Limits.{entries, bufferBytes, leastRefusal}
+use Rattle.rules.specs.Limits.{entries, bufferBytes}
 use Rattle.rules.specs.Requests.{freed}
 use Rattle.rules.specs.Memories.{lies}
-use Rattle.rules.specs.Reply.{Reply, answers, leaves, done, status}
+use Rattle.rules.specs.Reply.{Reply, answers, leaves, answering, status}
 use Rattle.rules.specs.Transfer.{collected, collect}
 use Rattle.rules.specs.Calls.{ask}
 use Rattle.rules.specs.Calls as calls
 use Rattle.rules.specs.Desk.{Desk, on, fileOf, answered}
 use Rattle.rules.specs.Allocation.{Alloc, placeOf}
 use Rattle.rules.proofs.Split.{pick-true, pick-false}
+use Rattle.laws.specs.Bounds.{leastRefusal}
 use Rattle.segment.specs.declared.Entry.{Entry}
 use Rattle.segment.specs.Layout.{replyPort}
 use Rattle.segment.specs.Table.{nth}
 use Rattle.segment.specs.Fields.{entryAt}
 use Rattle.requests.specs.Moves as moves
 use Rattle.buffers.specs.Buffer.{bufferAt}
-use Rattle.memory.specs.Stands.{Bytes}
 use Rattle.memory.specs.Fine.{Fine, StandsFor}
 use Rattle.midst.specs.Mid.{Mid}
 use Rattle.midst.specs.Outcome.{refusalOf, Sound, Outcome, Gave}
@@ -37,7 +37,7 @@ use Rattle.midst.proofs.Begins.{mid-begin}
 use Rattle.midst.proofs.Changes.{fine-knows, clear}
 use Rattle.midst.proofs.Requests.{step-free, step-free-rows}
 use Rattle.midst.proofs.Walks.{fine-walks}
-use Rattle.midst.proofs.Still.{seg-stands, mid-stays, stands-still}
+use Rattle.midst.proofs.RowUntouched.{seg-stands, mid-stays, stands-still}
 use Rattle.transfers.proofs.Fits.{Fit, fit}
 use Rattle.transfers.proofs.Ports.{Completed, Shows, shows}
 
@@ -54,7 +54,7 @@ module _ {xs blocks buffers : List ℕ} {d : Desk} {s : Alloc} (S : StandsFor xs
   -- it waits
   pub collect-waits : (memory : List ℕ) → entries ≤ nth xs (replyPort (placeOf f p))
       → Gave f d s (ask (fileOf d f) (calls.collect p)) blocks buffers memory xs blocks buffers memory (Status 6 1) 0
-  unfolding status done leaves
+  unfolding status answering leaves
   collect-waits memory h = rw (known .known .out ∙ rule seen) (record {
     outcome = record { stands = stands-still S f (known .b) (known .file) (known .stands); apart = record { shares = λ g k n. refl; others = λ g k n. refl } };
     bytes = [];
@@ -98,7 +98,7 @@ module _ {xs blocks buffers : List ℕ} {d : Desk} {s : Alloc} (S : StandsFor xs
     pub collect-ends : (memory buffers′ : List ℕ) → (C .status ≡ 0 → ⊥) → buffers′ ≡ sets buffers (bufferBytes * placeOf f p) (zeros bufferBytes)
         → Bytes (moves.collected xs (placeOf f p)) → Bytes buffers′
         → Gave f d s (ask (fileOf d f) (calls.collect p)) blocks buffers memory (moves.collected xs (placeOf f p)) blocks buffers′ memory (Status 6 (C .status)) 0
-    unfolding collected status done leaves
+    unfolding collected status answering leaves
     collect-ends memory buffers′ n e bytes bytes′ = rw (out ∙ pick-false (eqb (C .status) 0) _ _ (ne-eqb (C .status) 0 n)) (record {
       outcome = freed-outcome (answers (Status 6 (C .status)) []) buffers′ e bytes bytes′;
       bytes = [];

@@ -3,7 +3,7 @@ pub mod Ports
 pub mod Collects
 pub mod Tests
 pub mod Begun
+pub mod Spent
 pub mod Writes
-pub mod Founds
 pub mod Handing
 pub mod Rests

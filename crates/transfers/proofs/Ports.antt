@@ -8,7 +8,7 @@ use native.Mathlib.Omega.{arith}
 use lib.ListN.{length, getD, take}
 use lib.Seq.{take-append-seam}
 use Rattle.words.specs.Word.{zeros}
-use Rattle.rules.specs.Limits.{files, places, entries, bufferBytes, leastRefusal}
+use Rattle.rules.specs.Limits.{files, places, entries, bufferBytes}
 use Rattle.rules.specs.State.{Req, idle, reading, writing, readDone, writeDone, Acc, Built, File, built}
 use Rattle.rules.specs.Requests.{accAt}
 use Rattle.rules.specs.Memories.{lies, buffer}
@@ -16,8 +16,8 @@ use Rattle.rules.specs.Reply.{status}
 use Rattle.rules.specs.Transfer.{collected, collect}
 use Rattle.rules.specs.Desk.{Desk, fileOf}
 use Rattle.rules.specs.Allocation.{Alloc, placeOf, heldAt, ownEntry, portOf}
-use Rattle.laws.specs.Outstanding.{uncollected}
-use Rattle.laws.specs.Bounds.{Bounded}
+use Rattle.laws.specs.Outstanding.{uncollected, reqOf}
+use Rattle.laws.specs.Bounds.{leastRefusal, Bounded}
 use Rattle.laws.proofs.Bounds.{bounds-at, length-buffer}
 use Rattle.segment.specs.Layout.{replyPort}
 use Rattle.segment.specs.Table.{nth, dataOf}
@@ -25,7 +25,7 @@ use Rattle.segment.specs.Fields.{entryOf, entryAt}
 use Rattle.ports.specs.Lists.{Chain}
 use Rattle.buffers.specs.Buffer.{bufferAt, filled}
 use Rattle.buffers.proofs.Filled.{buffer-some}
-use Rattle.memory.specs.Image.{accOf, reqOf, reqWords, listOf, portWords, boxOf}
+use Rattle.memory.specs.Image.{accOf, reqWords, listOf, portWords, boxOf}
 use Rattle.memory.specs.Stands as stands
 use Rattle.memory.specs.Fine.{StandsFor}
 use Rattle.memory.proofs.Image.{placeAcc-of, listOf-port, boxOf-port}

@@ -11,9 +11,9 @@ use Rattle.rules.specs.Allocation.{Alloc}
 use Rattle.memory.specs.Stands.{Bodies}
 use Rattle.memory.specs.Fine.{Fine}
 use Rattle.midst.specs.declared.File as hand
-use Rattle.midst.specs.Mid.{Start, Mid}
+use Rattle.midst.specs.Mid.{Start, Mid, start}
 use Rattle.midst.specs.Outcome.{Outcome, Done, Gave}
-use Rattle.transfers.specs.Acts.{start, Acts, Hands}
+use Rattle.transfers.specs.Acts.{Acts, Hands}
 
 -- from the act to the settled file
 module _ {f : ℕ} {d : Desk} {s : Alloc} {x : Out} {blocks buffers xs₁ blocks₁ buffers₁ xs′ blocks′ buffers′ : List ℕ} {file : hand.File} {a : Answer}

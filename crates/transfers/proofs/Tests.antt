@@ -1,16 +1,21 @@
 -- The tests of a read or write, as the code comes to them.
-use Prim.Native.Nat.{ℕ, _≤_, _<_}
+use Prim.Native.Nat.{ℕ, zero, suc, _+_, _*_, _≤_, _<_}
 use mathlib.Core.Path.{_≡_, refl, sym, ap, _∙_}
 use mathlib.Core.Bool.{Bool, true, false, cond, _||_}
 use mathlib.Core.List.{List}
-use borrow.Author.Tests.{lt-ltb, le-ltb, eq-eqb, ne-eqb}
+use native.Mathlib.Omega.{arith}
+use borrow.Author.Tests.{lt-ltb, le-ltb, le-leb, leb-true, eq-eqb, ne-eqb}
 use lib.Dec.{ltb, eqb}
-use Rattle.rules.specs.Limits.{entries}
+use Rattle.occurrences.proofs.Counts.{bit-le}
+use Rattle.rules.specs.Limits.{places, entries}
 use Rattle.segment.specs.declared.PlaceRow.{PlaceRow}
 use Rattle.segment.specs.Layout.{writeQueue}
 use Rattle.segment.specs.Table.{nth}
-use Rattle.blocks.specs.declared.ring.Ring.{Ring}
-use Rattle.judges.specs.Sides.{countSide}
+use Rattle.segment.specs.Fields.{placeAt}
+use Rattle.rules.specs.Geometry.{capacity}
+use Rattle.ring.specs.declared.Ring.{Ring}
+use Rattle.accessors.specs.Sides.{countSide, sidesFrom}
+use Rattle.ring.specs.Ring.{used}
 use Rattle.settling.specs.Turns.{fitsRing}
 use Rattle.transfers.specs.Rows.{mayWaitRow, admits}
 
@@ -37,6 +42,20 @@ module _ (n k : ℕ) (r : PlaceRow) (is : n ≡ k) where
   unfolding mayWaitRow
   may-first h e = any-third (ltb 0 k) (eqb (r .extended) 1) _ (ap (λ (m : ℕ). ltb 0 m) (sym is) ∙ le-ltb 0 n h) (ne-eqb (r .extended) 1 e)
 
+-- as many as there are places
+sides-most : (xs : List ℕ) (side i n : ℕ) → sidesFrom xs side i n ≤ n
+unfolding sidesFrom
+sides-most xs side i zero = omega arith
+sides-most xs side i (suc n) = omega (arith, bit-le (eqb (placeAt xs i .side) side), sides-most xs side (suc i) n)
+
+pub count-most : (xs : List ℕ) (f side : ℕ) → countSide xs f side ≤ places
+count-most xs f side = sides-most xs side (places * f) places
+
+-- what fits beside m writers fits beside fewer
+fits-fewer : (r : Ring) (n m : ℕ) → n ≤ m → fitsRing r m ≡ true → fitsRing r n ≡ true
+unfolding fitsRing
+fits-fewer r n m h e = le-leb (used r + n + 1) (capacity (r .factor) (r .blocks)) (omega (arith, leb-true (used r + m + 1) (capacity (r .factor) (r .blocks)) e))
+
 -- e is the head of the write queue
 module _ (xs : List ℕ) (f : ℕ) (r : Ring) (e : ℕ) (is : e ≡ nth xs (writeQueue f)) where
   pub admits-not : e < entries → false ≡ admits xs f r
@@ -47,3 +66,7 @@ module _ (xs : List ℕ) (f : ℕ) (r : Ring) (e : ℕ) (is : e ≡ nth xs (writ
   unfolding admits
   admits-so t n h u v =
       u ∙ ap (fitsRing r) v ∙ sym (ap (λ (t : Bool). cond t false (fitsRing r (countSide xs f 2))) (ap (λ (m : ℕ). ltb m entries) (sym is) ∙ le-ltb e entries h))
+
+  -- beside more writers
+  pub admits-any : (t : Bool) (m : ℕ) → entries ≤ e → t ≡ fitsRing r m → t ≡ true → countSide xs f 2 ≤ m → true ≡ admits xs f r
+  admits-any t m h u y k = admits-so true (countSide xs f 2) h (sym (fits-fewer r (countSide xs f 2) m k (sym u ∙ y))) refl

@@ -14,7 +14,7 @@ use Rattle.rules.specs.State.{Rec, writing, idle, Acc, Built}
 use Rattle.rules.specs.Count.{inWords, countBytes, logOf}
 use Rattle.rules.specs.Requests.{readers, fits, accAt, withStore, withAccs, alterAcc, say, putRec, begun, wait}
 use Rattle.rules.specs.Settle.{dataRec, settle}
-use Rattle.rules.specs.Reply.{answers, leaves, done, status}
+use Rattle.rules.specs.Reply.{answers, leaves, answering, status}
 use Rattle.rules.specs.Transfer.{mayWait, isNil, writeOn}
 use Rattle.rules.specs.Calls.{ask}
 use Rattle.rules.specs.Calls as calls
@@ -27,28 +27,27 @@ use Rattle.laws.specs.Midst as laws
 use Rattle.laws.proofs.Calls.{begun-mild}
 use Rattle.laws.proofs.Midst.{mid-walks}
 use Rattle.segment.specs.declared.PlaceRow.{PlaceRow}
-use Rattle.segment.specs.Layout.{writeQueue, rowAt, placeRow, freeList, segmentBytes}
-use Rattle.segment.specs.Table.{nth, fill}
-use Rattle.segment.specs.Fields.{placeWords, fileAt, placeAt}
+use Rattle.segment.specs.Layout.{writeQueue, freeList, segmentBytes}
+use Rattle.segment.specs.Table.{nth}
+use Rattle.segment.specs.Fields.{fileAt, placeAt}
 use Rattle.requests.specs.Moves.{queued, waiting}
 use Rattle.buffers.specs.Buffer.{filled}
-use Rattle.blocks.specs.declared.ring.Ring.{Ring}
-use Rattle.blocks.specs.Ring as ring
+use Rattle.ring.specs.declared.Ring.{Ring}
+use Rattle.ring.specs.Ring as ring
 use Rattle.blocks.specs.Memory as code
 use Rattle.blocks.specs.Writing.{recOf, Ready, inscribed}
 use Rattle.blocks.proofs.Held.{held-ready}
-use Rattle.judges.specs.Sides.{countSide}
-use Rattle.judges.proofs.Counted.{count-readers}
+use Rattle.accessors.specs.Sides.{countSide}
 use Rattle.memory.specs.Image.{reqWords}
 use Rattle.memory.specs.Stands.{shareAt}
 use Rattle.memory.specs.Fine.{Fine, StandsFor}
 use Rattle.midst.specs.declared.File as hand
 use Rattle.midst.specs.File.{fileOfRow}
-use Rattle.midst.specs.Mid.{Start, Mid}
+use Rattle.midst.specs.Mid.{Start, Mid, start}
 use Rattle.midst.specs.Outcome.{refusalOf}
 use Rattle.midst.specs.Accepted.{Accepted, WriteKnown}
 use Rattle.midst.proofs.Accepted.{accepted-write}
-use Rattle.midst.proofs.Begins.{mid-lengths, mid-row}
+use Rattle.midst.proofs.Begins.{mid-lengths}
 use Rattle.midst.proofs.Changes.{fine-knows, stands-rest}
 use Rattle.midst.proofs.Heads.{head-none, head-some}
 use Rattle.midst.proofs.Requests.{step-wait-free, step-wait-write}
@@ -56,10 +55,10 @@ use Rattle.midst.proofs.Stores.{mid-held, mid-put}
 use Rattle.midst.proofs.Walks.{fine-walks}
 use Rattle.settling.specs.Turns.{fitsRing}
 use Rattle.settling.proofs.FirstWriter.{fits-is}
-use Rattle.transfers.specs.Rows.{begunRow, mayWaitRow, admits, writeEntry}
-use Rattle.transfers.specs.Acts.{start, Acts}
+use Rattle.transfers.specs.Rows.{begunSegment, mayWaitRow, admits, writeEntry}
+use Rattle.transfers.specs.Acts.{Acts}
 use Rattle.transfers.proofs.Fits.{Fit, fit}
-use Rattle.transfers.proofs.Begun.{begin-mid, begun-mid, at-begun, row-id, row-timeout, row-waits}
+use Rattle.transfers.proofs.Begun.{begin-mid, begun-mid, at-begun, row-id, row-timeout, row-waits, begun-readers}
 
 and-false : (t : Bool) → t && false ≡ false
 and-false true = refl
@@ -115,7 +114,7 @@ module _ {xs blocks buffers : List ℕ} {d : Desk} {s : Alloc} (S : StandsFor xs
         held-ready (x .words) (x .ring) (shareAt f blocks) (mid-held M (M .good .room .geo) (M .good .room .holds)) r (recordWords-most (x .words) r (rw w write-short))
 
     -- the accessor's row, read and written
-    module _ (row : PlaceRow) (read : row ≡ placeAt xs (placeOf f p)) (xs₁ : List ℕ) (began : xs₁ ≡ fill xs (rowAt (placeRow (placeOf f p))) (placeWords (begunRow row))) where
+    module _ (row : PlaceRow) (read : row ≡ placeAt xs (placeOf f p)) (xs₁ : List ℕ) (began : xs₁ ≡ begunSegment xs (placeOf f p)) where
       abbrev b₁ : Built
       b₁ = alterAcc p begun b
 
@@ -146,7 +145,7 @@ module _ {xs blocks buffers : List ℕ} {d : Desk} {s : Alloc} (S : StandsFor xs
             (mid-walks f (M .file) s .writes p a v b (known .known .at) (known .known .side) write-short (and-left (fits b) _ now) (M .allots))
 
         put-out : ask (fileOf d f) (calls.write p n v) ≡ leaves (answers (Written (logOf (inWords n) (length v))) []) (settle (putRec r b₁))
-        unfolding writeOn done putRec say withStore alterAcc withAccs
+        unfolding writeOn answering putRec say withStore alterAcc withAccs
         put-out = known .known .out ∙ pick-true (fits b && isNil (b .wq)) _ _ now
 
         pub write-put : (blocks₁ : List ℕ) (z : Ring) (log : ℕ) (t : Bool) → z ≡ ring.put (x .ring)
@@ -169,8 +168,8 @@ module _ {xs blocks buffers : List ℕ} {d : Desk} {s : Alloc} (S : StandsFor xs
         never : fits b && isNil (b .wq) ≡ false
         never = sym (admits-is M) ∙ sym full
 
-        others : countSide xs f 1 ≡ readers b
-        others = count-readers xs f b (M .allots .matches .agrees .eight) (mid-row M)
+        others : countSide xs₁ f 1 ≡ readers b
+        others = begun-readers S f p (known .file) b (known .stands) a (known .known .at) row read x took xs₁ began
 
         abbrev w : Bool
         w = inWords n
@@ -189,13 +188,13 @@ module _ {xs blocks buffers : List ℕ} {d : Desk} {s : Alloc} (S : StandsFor xs
         write-free t et =
             (mid-lengths N, free .0, subst (λ (u : Bool). nth (queued xs₁ (writeQueue f) (writeEntry (placeOf f p) u (length v))) freeList < entries) (sym et) (free .1))
 
-        module _ (waits : true ≡ mayWaitRow (countSide xs f 1) row) where
+        module _ (waits : true ≡ mayWaitRow (countSide xs₁ f 1) row) where
           fine-wait : Fine (wait true p (a .timeout) (writing w v) b₁)
           unfolding begun alterAcc withAccs
           fine-wait = fine-walks .writeWaits p (a .timeout) w v (begun a) b₁ opens still (known .known .side) write-short (N .good)
 
           wait-out : ask (fileOf d f) (calls.write p n v) ≡ leaves (answers (Status 4 1) []) (settle (wait true p (a .timeout) (writing w v) b₁))
-          unfolding writeOn status done
+          unfolding writeOn status answering
           wait-out =
               known .known .out ∙ pick-false (fits b && isNil (b .wq)) _ _ never
               ∙ pick-true (mayWait (readers b) a) _ _ (sym (waits ∙ row-waits S f p (known .file) b (known .stands) a (known .known .at) row read _ _ others))
@@ -215,8 +214,8 @@ module _ {xs blocks buffers : List ℕ} {d : Desk} {s : Alloc} (S : StandsFor xs
           }
 
         -- it ends
-        pub write-ends : false ≡ mayWaitRow (countSide xs f 1) row → Acts f o (ask (fileOf d f) (calls.write p n v)) xs₁ blocks buffers x (Status 4 2) []
-        unfolding writeOn status done
+        pub write-ends : false ≡ mayWaitRow (countSide xs₁ f 1) row → Acts f o (ask (fileOf d f) (calls.write p n v)) xs₁ blocks buffers x (Status 4 2) []
+        unfolding writeOn status answering
         write-ends h = record {
           acted = b₁;
           mid = N;

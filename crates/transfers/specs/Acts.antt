@@ -1,4 +1,4 @@
--- "Read, write, open and close first act, which fixes their answer, then the file settles."
+-- "Read, write, open and close first act, which fixes their answer, then the file settles"
 use Prim.Native.Nat.{ℕ, _≤_}
 use mathlib.Core.Path.{_≡_}
 use mathlib.Core.List.{List}
@@ -9,14 +9,9 @@ use Rattle.rules.specs.Limits.{bufferBytes}
 use Rattle.rules.specs.State.{Built}
 use Rattle.rules.specs.Settle.{settle}
 use Rattle.rules.specs.Reply.{answers, Out, leaves}
-use Rattle.rules.specs.Desk.{Desk}
-use Rattle.rules.specs.Allocation.{Alloc}
 use Rattle.memory.specs.Fine.{Fine}
 use Rattle.midst.specs.declared.File as hand
 use Rattle.midst.specs.Mid.{Start, Mid}
-
-abbrev pub start : Desk → Alloc → List ℕ → List ℕ → Start
-start d s blocks buffers = record { desk = d; alloc = s; blocks = blocks; buffers = buffers }
 
 -- a call of file f, which comes to x, has acted: its answer is a with these bytes, and the file in hand is about to settle
 pub record Acts (f : ℕ) (o : Start) (x : Out) (xs blocks buffers : List ℕ) (file : hand.File) (a : Answer) (bytes : List ℕ) : Type 0 where

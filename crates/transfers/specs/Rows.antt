@@ -3,16 +3,17 @@ use Prim.Native.Nat.{ℕ}
 use mathlib.Core.Bool.{Bool, false, cond, _||_}
 use mathlib.Core.List.{List, [], _∷_}
 use lib.Dec.{ltb, eqb}
-use Rattle.tally.specs.Count.{bit}
+use Rattle.occurrences.specs.Count.{bit}
 use Rattle.rules.specs.Limits.{entries}
 use Rattle.segment.specs.declared.PlaceRow.{PlaceRow}
-use Rattle.segment.specs.Layout.{writeQueue}
-use Rattle.segment.specs.Table.{nth}
-use Rattle.blocks.specs.declared.ring.Ring.{Ring}
-use Rattle.judges.specs.Sides.{countSide}
+use Rattle.segment.specs.Layout.{writeQueue, placeRowAt}
+use Rattle.segment.specs.Table.{nth, fill}
+use Rattle.segment.specs.Fields.{placeWords, placeAt}
+use Rattle.ring.specs.declared.Ring.{Ring}
+use Rattle.accessors.specs.Sides.{countSide}
 use Rattle.settling.specs.Turns.{fitsRing}
 
--- control 47 and the first operation are spent
+-- no longer the first; a read spends control 47
 unfoldable pub begunRow : PlaceRow → PlaceRow
 begunRow r =
     record {
@@ -22,9 +23,12 @@ begunRow r =
       timeout = r .timeout;
       extended = r .extended;
       typed = r .typed;
-      keep = 0;
+      keep = cond (eqb (r .side) 2) (r .keep) 0;
       first = 0;
     }
+
+unfoldable pub begunSegment : List ℕ → ℕ → List ℕ
+begunSegment xs i = fill xs (placeRowAt i) (placeWords (begunRow (placeAt xs i)))
 
 -- "waits if the other side has an accessor, or extended wait (45) is on, or it is this accessor's first read or write"
 unfoldable pub mayWaitRow : ℕ → PlaceRow → Bool

@@ -5,7 +5,7 @@ ghost use Prim.Native.Nat.{ℕ, _*_, _<_};
 ghost use lib.ListN.{length};
 ghost use lib.Seq.{sets};
 ghost use Rattle.words.specs.Word.{zeros};
-ghost use Rattle.segment.specs.Layout.{segmentBytes, replyPort};
+ghost use Rattle.segment.specs.Layout.{segmentBytes, replyPort, deskPlaces};
 ghost use Rattle.segment.specs.Table.{nth};
 ghost use Rattle.rules.specs.Limits.{entries, bufferBytes, answerRoom};
 ghost use Rattle.rules.specs.Calls.{ask};
@@ -16,17 +16,17 @@ ghost use Rattle.requests.specs.Moves.{collected};
 ghost use Rattle.buffers.specs.Buffer.{buffersBytes};
 ghost use Rattle.memory.specs.Fine.{StandsFor};
 ghost use Rattle.midst.specs.Outcome.{refusalOf, Sound, Gave, Accepted};
-use crate::COLLECT;
-use crate::DATA_AT;
 use crate::Given;
-use crate::WAITING;
 use kinds::Answer;
+use kinds::limits::ANSWER_HEAD;
 use kinds::limits::PLACES;
+use kinds::operations;
+use kinds::statuses;
 use segment::layout;
 
 // The completed request of a place goes, and nothing lies in the place's buffer.
 fn free(segment: &mut [u8], buffers: &mut [u8], place: usize)
-    requires { ⌜ (length (now segment) ≡ segmentBytes) × (length (now buffers) ≡ buffersBytes) × (place < 64) × (nth (now segment) (replyPort place) < entries) ⌝ }
+    requires { ⌜ (length (now segment) ≡ segmentBytes) × (length (now buffers) ≡ buffersBytes) × (place < deskPlaces) × (nth (now segment) (replyPort place) < entries) ⌝ }
     ensures segment { λ _. ⌜ now (segment .exit) ≡ collected (now (segment .entry)) place ⌝ }
     ensures buffers { λ _. ⌜ now (buffers .exit) ≡ sets (now (buffers .entry)) (bufferBytes * place) (zeros bufferBytes) ⌝ }
 {
@@ -51,8 +51,8 @@ pub fn collect(
     if e >= layout::ENTRIES {
         return Given {
             answer: Answer::Status {
-                operation: COLLECT,
-                status: WAITING,
+                operation: operations::COLLECT,
+                status: statuses::WAITING,
             },
             size: 0,
         };
@@ -62,7 +62,7 @@ pub fn collect(
         free(segment, buffers, place);
         return Given {
             answer: Answer::Status {
-                operation: COLLECT,
+                operation: operations::COLLECT,
                 status: m.status as u8,
             },
             size: 0,
@@ -70,7 +70,7 @@ pub fn collect(
     }
     words::copy(
         answer,
-        DATA_AT,
+        ANSWER_HEAD,
         buffers::lies(buffers, place, m.size as usize),
     );
     free(segment, buffers, place);

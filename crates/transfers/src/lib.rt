@@ -15,17 +15,3 @@ pub struct Given {
     pub answer: Answer,
     pub size: u16,
 }
-
-// Where the data stand.
-const DATA_AT: usize = 4;
-
-// The operations, and two statuses.
-const READ: u8 = 3;
-
-const WRITE: u8 = 4;
-
-const COLLECT: u8 = 6;
-
-const WAITING: u8 = 1;
-
-const END: u8 = 2;

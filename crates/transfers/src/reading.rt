@@ -1,48 +1,41 @@
 // A read: it is handed a record, or it waits, or it ends. Open and close records at the head go in any case, unless control 46 is on.
 ghost use mathlib.Core.Path.{_≡_};
 ghost use mathlib.Core.List.{List};
-ghost use Prim.Native.Nat.{ℕ, _≤_, _<_};
+ghost use Prim.Native.Nat.{ℕ, _≤_};
 ghost use lib.ListN.{length};
 ghost use lib.Seq.{sets};
 ghost use Rattle.rules.specs.Limits.{bufferBytes, answerRoom};
-ghost use Rattle.rules.specs.State.{Store};
 ghost use Rattle.rules.specs.Settle.{handed};
 ghost use Rattle.rules.specs.Calls.{ask};
 ghost use Rattle.rules.specs.Calls as calls;
 ghost use Rattle.rules.specs.Desk.{Desk, on, fileOf, answered};
 ghost use Rattle.rules.specs.Allocation.{Alloc};
-ghost use Rattle.blocks.specs.Ring.{geo, ringOf, Fitted};
-ghost use Rattle.blocks.specs.Held.{Held};
-ghost use Rattle.blocks.specs.Reading.{Readable};
-ghost use Rattle.blocks.specs.Memory.{blocksBytes, shareAt};
-ghost use Rattle.fetch.specs.Fetch.{Stores, ahead};
+ghost use Rattle.shares.specs.Back.{recAt};
+ghost use Rattle.records.specs.Reading.{Readable};
 ghost use Rattle.memory.specs.Fine.{StandsFor};
 ghost use Rattle.midst.specs.Outcome.{refusalOf, Sound, Accepted, Gave};
-ghost use Rattle.settling.specs.Turns.{headAt, headRec};
-ghost use Rattle.transfers.specs.Acts.{start, Hands};
-use crate::DATA_AT;
-use crate::END;
+ghost use Rattle.transfers.specs.Acts.{Hands};
+ghost use Rattle.midst.specs.Mid.{start};
 use crate::Given;
-use crate::READ;
-use crate::WAITING;
 use crate::waiting::begin;
 use crate::waiting::may_wait;
 use crate::waiting::wait_read;
 use blocks::memory::share;
-use blocks::reading::head;
-use blocks::ring::Ring;
-use counts::count_bytes;
-use counts::in_words;
-use counts::log_of;
-use fetch::found;
-use fetch::handed;
-use judges::sides::WRITER;
 use kinds::Answer;
+use kinds::limits::ANSWER_HEAD;
 use kinds::limits::PLACES;
+use kinds::operations;
+use kinds::sides::WRITER;
+use kinds::statuses;
 use midst::File;
 use midst::take_file;
+use records::fetch::found;
+use records::fetch::handed;
 use settling::rest;
 use settling::taken;
+use transfer_counts::count_bytes;
+use transfer_counts::in_words;
+use transfer_counts::log_of;
 
 // The answer is fixed, with the data behind it, and the file in hand is about to settle.
 pub struct Handed {
@@ -51,26 +44,15 @@ pub struct Handed {
     pub file: File,
 }
 
-// The ring whose head the read takes.
-fn found_in(blocks: &[u8], f: usize, file: File, typed: bool) -> Ring
-    requires { ⌜ (length (now blocks) ≡ blocksBytes) × (f < 8) × Held (file .words) (file .ring) (shareAt f (now blocks)) ⌝ }
-    ensures { λ r. ⌜ ((s : Store) → Stores (file .words) (file .ring) (shareAt f (now (blocks .entry))) s → r ≡ ringOf (geo (file .words) (file .ring)) (ahead (geo (file .words) (file .ring)) typed s)) ⌝ }
+// What the read is handed of the record at `at` stands in the answer memory; how many bytes.
+fn give(own: &[u8], answer: &mut [u8], at: usize, typed: bool, limit: u16) -> u16
+    requires { ⌜ Readable (now own) at × (length (now answer) ≡ answerRoom) ⌝ }
+    requires { ⌜ length (handed typed limit (recAt (now own) at)) ≤ bufferBytes ⌝ }
+    ensures size { λ r. ⌜ r ≡ length (handed typed limit (recAt (now (own .entry)) at)) ⌝ }
+    ensures answer { λ _. ⌜ now (answer .exit) ≡ sets (now (answer .entry)) 4 (handed typed limit (recAt (now (own .entry)) at)) ⌝ }
 {
-    found(share(blocks, f), file.ring, file.words, typed)
-}
-
-// What the read is handed of the head record stands in the answer memory; how many bytes.
-fn give(blocks: &[u8], answer: &mut [u8], f: usize, file: File, typed: bool, limit: u16) -> u16
-    requires { ⌜ (length (now blocks) ≡ blocksBytes) × (f < 8) × (length (now answer) ≡ answerRoom) ⌝ }
-    requires { ⌜ Fitted (file .words) (file .ring) × (file .ring .block < file .ring .blocks) × Readable (shareAt f (now blocks)) (headAt file (shareAt f (now blocks))) ⌝ }
-    requires { ⌜ length (handed typed limit (headRec file (shareAt f (now blocks)))) ≤ bufferBytes ⌝ }
-    ensures size { λ r. ⌜ r ≡ length (handed typed limit (headRec file (shareAt f (now (blocks .entry))))) ⌝ }
-    ensures answer { λ _. ⌜ now (answer .exit) ≡ sets (now (answer .entry)) 4 (handed typed limit (headRec file (shareAt f (now (blocks .entry))))) ⌝ }
-{
-    let own = share(blocks, f);
-    let at = head(own, file.ring, file.words);
     let bytes = handed(own, at, typed, limit);
-    words::copy(answer, DATA_AT, bytes);
+    words::copy(answer, ANSWER_HEAD, bytes);
     bytes.len() as u16
 }
 
@@ -90,9 +72,10 @@ fn act(
     let place = PLACES * f + acc;
     let row = segment::read_place(segment, place);
     let file = take_file(segment, f);
-    let waits = may_wait(segment, f, WRITER, row);
     let typed = row.typed == 1;
-    let ring = found_in(blocks, f, file, typed);
+    let own = share(blocks, f);
+    let cursor = found(own, file.ring, file.words, typed);
+    let ring = cursor.ring;
     begin(segment, place, row);
     let limit = count_bytes(count) as u16;
     let in_hand = File {
@@ -100,7 +83,7 @@ fn act(
         ring,
     };
     if ring.held > 0 {
-        let size = give(blocks, answer, f, in_hand, typed, limit);
+        let size = give(own, answer, cursor.at, typed, limit);
         let log = log_of(in_words(count), size);
         return Handed {
             answer: Answer::Read { log },
@@ -111,7 +94,7 @@ fn act(
             },
         };
     }
-    if waits {
+    if may_wait(segment, f, WRITER, row) {
         wait_read(
             segment,
             f,
@@ -123,8 +106,8 @@ fn act(
         );
         return Handed {
             answer: Answer::Status {
-                operation: READ,
-                status: WAITING,
+                operation: operations::READ,
+                status: statuses::WAITING,
             },
             size: 0,
             file: in_hand,
@@ -132,8 +115,8 @@ fn act(
     }
     Handed {
         answer: Answer::Status {
-            operation: READ,
-            status: END,
+            operation: operations::READ,
+            status: statuses::END_OF_FILE,
         },
         size: 0,
         file: in_hand,

@@ -1,38 +1,40 @@
 // What an accepted read or write does to its accessor's row, and how it begins to wait.
 ghost use mathlib.Core.Path.{_≡_};
+ghost use mathlib.Core.Bool.{cond};
 ghost use Prim.Native.Nat.{_*_, _≤_, _<_};
+ghost use lib.Dec.{eqb};
 ghost use lib.ListN.{length};
 ghost use lib.Seq.{sets};
-ghost use Rattle.tally.specs.Count.{bit};
-ghost use Rattle.segment.specs.Layout.{segmentBytes, freeList, readQueue, writeQueue, rowAt, placeRow};
-ghost use Rattle.segment.specs.Table.{nth, fill};
-ghost use Rattle.segment.specs.Fields.{placeWords};
+ghost use Rattle.occurrences.specs.Count.{bit};
+ghost use Rattle.segment.specs.Layout.{segmentBytes, freeList, readQueue, writeQueue, deskPlaces};
+ghost use Rattle.segment.specs.Fields.{placeAt};
+ghost use Rattle.segment.specs.Table.{nth};
 ghost use Rattle.rules.specs.Limits.{entries, bufferBytes};
 ghost use Rattle.requests.specs.Moves.{queued, waiting};
 ghost use Rattle.buffers.specs.Buffer.{buffersBytes, filled};
-ghost use Rattle.judges.specs.Sides.{countSide};
-ghost use Rattle.transfers.specs.Rows.{begunRow, mayWaitRow, readEntry, writeEntry};
-use judges::sides::count_side;
+ghost use Rattle.accessors.specs.Sides.{countSide};
+ghost use Rattle.transfers.specs.Rows.{mayWaitRow, readEntry, writeEntry, begunSegment};
+use accessors::sides::count_side;
+use kinds::sides::WRITER;
 use segment::Entry;
 use segment::PlaceRow;
 use segment::layout;
 
-// "The setting is spent by that read, whatever its outcome", and this was the accessor's first read or write.
-pub fn begin(segment: &mut [u8], place: usize, row: PlaceRow)
-    requires { ⌜ (length (now segment) ≡ segmentBytes) × (place < 64) ⌝ }
-    ensures { λ _. ⌜ now (segment .exit) ≡ fill (now (segment .entry)) (rowAt (placeRow place)) (placeWords (begunRow row)) ⌝ }
+// "The setting is spent by that read, whatever its outcome"; a write leaves it.
+fn kept(side: u16, keep: u16) -> u16
+    ensures { λ r. ⌜ r ≡ cond (eqb side 2) keep 0 ⌝ }
 {
-    let begun = PlaceRow {
-        side: row.side,
-        id: row.id,
-        share: row.share,
-        timeout: row.timeout,
-        extended: row.extended,
-        typed: row.typed,
-        keep: 0,
-        first: 0,
-    };
-    segment::write_place(segment, place, begun);
+    if side == WRITER { keep } else { 0 }
+}
+
+// An accepted read or write: this was the accessor's first. Two words of its row change.
+pub fn begin(segment: &mut [u8], place: usize, row: PlaceRow)
+    requires { ⌜ (length (now segment) ≡ segmentBytes) × (place < deskPlaces) × (row ≡ placeAt (now segment) place) ⌝ }
+    ensures { λ _. ⌜ now (segment .exit) ≡ begunSegment (now (segment .entry)) place ⌝ }
+{
+    let at = layout::PLACE_ROWS + layout::PLACE_ROW_WORDS * place;
+    segment::put(segment, at + layout::PLACE_KEEP, kept(row.side, row.keep));
+    segment::put(segment, at + layout::PLACE_FIRST, 0);
 }
 
 // "waits if the other side has an accessor, or extended wait (45) is on, or it is this accessor's first read or write".
@@ -65,7 +67,7 @@ pub fn wait_read(
     limit: u16,
     keep: u16,
 )
-    requires { ⌜ (length (now segment) ≡ segmentBytes) × (f < 8) × (place < 64) × (nth (now segment) freeList < entries) ⌝ }
+    requires { ⌜ (length (now segment) ≡ segmentBytes) × (f < 8) × (place < deskPlaces) × (nth (now segment) freeList < entries) ⌝ }
     requires { ⌜ nth (queued (now segment) (readQueue f) (readEntry place words limit keep)) freeList < entries ⌝ }
     ensures { λ _. ⌜ now (segment .exit) ≡ waiting (now (segment .entry)) (readQueue f) (readEntry place words limit keep) place seconds ⌝ }
 {
@@ -92,7 +94,7 @@ pub fn wait_write(
     words: bool,
     data: &[u8],
 )
-    requires { ⌜ (length (now segment) ≡ segmentBytes) × (length (now buffers) ≡ buffersBytes) × (f < 8) × (place < 64) × (length (now «data») ≤ bufferBytes) × (nth (now segment) freeList < entries) ⌝ }
+    requires { ⌜ (length (now segment) ≡ segmentBytes) × (length (now buffers) ≡ buffersBytes) × (f < 8) × (place < deskPlaces) × (length (now «data») ≤ bufferBytes) × (nth (now segment) freeList < entries) ⌝ }
     requires { ⌜ nth (queued (now segment) (writeQueue f) (writeEntry place words (length (now «data»)))) freeList < entries ⌝ }
     ensures segment { λ _. ⌜ now (segment .exit) ≡ waiting (now (segment .entry)) (writeQueue f) (writeEntry place words (length (now («data» .entry)))) place seconds ⌝ }
     ensures buffers { λ _. ⌜ now (buffers .exit) ≡ sets (now (buffers .entry)) (bufferBytes * place) (filled (now («data» .entry))) ⌝ }

@@ -9,33 +9,32 @@ ghost use Rattle.rules.specs.Calls.{ask};
 ghost use Rattle.rules.specs.Calls as calls;
 ghost use Rattle.rules.specs.Desk.{Desk, fileOf};
 ghost use Rattle.rules.specs.Allocation.{Alloc};
-ghost use Rattle.blocks.specs.Ring.{Ranged};
+ghost use Rattle.ring.specs.Ring.{Ranged};
 ghost use Rattle.memory.specs.Fine.{StandsFor};
 ghost use Rattle.midst.specs.Outcome.{Sound, Accepted, Done};
 ghost use Rattle.transfers.specs.Rows.{admits};
-ghost use Rattle.transfers.specs.Acts.{start, Acts};
-use crate::END;
-use crate::WAITING;
-use crate::WRITE;
+ghost use Rattle.transfers.specs.Acts.{Acts};
+ghost use Rattle.midst.specs.Mid.{start};
 use crate::waiting::begin;
 use crate::waiting::may_wait;
 use crate::waiting::wait_write;
+use accessors::sides::count_side;
 use blocks::memory::put_at;
-use blocks::ring::Ring;
-use counts::in_words;
-use counts::log_of;
-use judges::sides::READER;
-use judges::sides::WRITER;
-use judges::sides::count_side;
 use kinds::Answer;
 use kinds::limits::PLACES;
+use kinds::operations;
+use kinds::records::DATA;
+use kinds::sides::READER;
+use kinds::sides::WRITER;
+use kinds::statuses;
 use midst::File;
 use midst::take_file;
+use ring::Ring;
 use segment::layout;
 use settling::fits;
 use settling::rest;
-
-const DATA: u16 = 0;
+use transfer_counts::in_words;
+use transfer_counts::log_of;
 
 // The answer is fixed, and the file in hand is about to settle.
 pub struct Acted {
@@ -50,6 +49,10 @@ fn taken_now(segment: &[u8], f: usize, ring: Ring) -> bool
 {
     if segment::get(segment, layout::WRITE_QUEUES + f) < layout::ENTRIES {
         return false;
+    }
+    // beside as many writers as a file has places: they need no counting
+    if fits(ring, PLACES as u16) {
+        return true;
     }
     fits(ring, count_side(segment, f, WRITER))
 }
@@ -72,7 +75,6 @@ fn act(
     let row = segment::read_place(segment, place);
     let file = take_file(segment, f);
     let at_once = taken_now(segment, f, file.ring);
-    let waits = may_wait(segment, f, READER, row);
     begin(segment, place, row);
     if at_once {
         let ring = put_at(blocks, f, file.ring, file.words, DATA, row.id, data);
@@ -85,7 +87,7 @@ fn act(
             },
         };
     }
-    if waits {
+    if may_wait(segment, f, READER, row) {
         wait_write(
             segment,
             buffers,
@@ -97,16 +99,16 @@ fn act(
         );
         return Acted {
             answer: Answer::Status {
-                operation: WRITE,
-                status: WAITING,
+                operation: operations::WRITE,
+                status: statuses::WAITING,
             },
             file,
         };
     }
     Acted {
         answer: Answer::Status {
-            operation: WRITE,
-            status: END,
+            operation: operations::WRITE,
+            status: statuses::END_OF_FILE,
         },
         file,
     }

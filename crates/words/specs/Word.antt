@@ -1,5 +1,5 @@
 -- Words of 16 bits in lists of bytes: "Words are stored high byte first."
-use Prim.Native.Nat.{ℕ, zero, suc, _+_, _*_, _/_, _%_}
+use Prim.Native.Nat.{ℕ, zero, suc, _+_, _*_, _/_, _%_, _<_}
 use mathlib.Core.Bool.{Bool, true, false}
 use mathlib.Core.List.{List, [], _∷_}
 use lib.Dec.{eqb}
@@ -25,3 +25,7 @@ quiet xs p (suc n) = elim (eqb (getD xs p 0) 0) [ true ↦ quiet xs (suc p) n | 
 -- the i-th of the parts, k bytes each, that a memory consists of
 abbrev pub part : ℕ → ℕ → List ℕ → List ℕ
 part k i xs = take k (drop (k * i) xs)
+
+-- each element is a byte
+unfoldable pub Bytes : List ℕ → Type 0
+Bytes xs = (i : ℕ) → getD xs i 0 < 256

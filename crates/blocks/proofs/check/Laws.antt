@@ -20,10 +20,10 @@ use Rattle.shares.specs.Laid.{fair, walk, laid}
 use Rattle.shares.specs.Sound.{sweep}
 use Rattle.shares.proofs.Laid.{Fair, fair-says, fair-made}
 use Rattle.shares.proofs.Sound.{sweep-mod}
-use Rattle.blocks.specs.declared.layout.Span.{Span}
-use Rattle.blocks.specs.Ring.{spanOf, wrapped}
+use Rattle.ring.specs.declared.layout.Span.{Span}
+use Rattle.ring.specs.Ring.{spanOf, wrapped}
 use Rattle.blocks.specs.Check.{laidAt}
-use Rattle.blocks.proofs.ring.Laws.{wrapped-mod}
+use Rattle.ring.proofs.Laws.{wrapped-mod}
 
 -- two tests that pass together
 same-test : (s t : Bool) → (s ≡ true → t ≡ true) → (t ≡ true → s ≡ true) → s ≡ t

@@ -5,7 +5,7 @@ use mathlib.Core.List.{List}
 use lib.ListN.{length}
 use Rattle.rules.specs.State.{Rec}
 use Rattle.shares.proofs.Put.{length-inscribedAt}
-use Rattle.blocks.specs.declared.ring.Ring.{Ring}
+use Rattle.ring.specs.declared.Ring.{Ring}
 use Rattle.blocks.specs.Writing.{inscribed}
 
 pub length-inscribed : (words : ℕ) (r : Ring) (q : Rec) (xs : List ℕ) → length (inscribed words r q xs) ≡ length xs

@@ -1,6 +1,6 @@
 -- Rows of stores are the rules' record, zeroed block and record more.
 use Prim.Native.Nat.{ℕ, _+_, _-_, _*_, _/_, _≤_}
-use mathlib.Core.Path.{_≡_, refl, sym, ap}
+use mathlib.Core.Path.{_≡_, refl, sym}
 use mathlib.Core.List.{List, _++_}
 use native.Mathlib.Omega.{arith}
 use lib.Dec.{eqb}
@@ -11,13 +11,13 @@ use Rattle.words.specs.Word.{word, wordAt, zeros}
 use Rattle.words.proofs.Runs.{sets-sets, sets-at, sets-part}
 use Rattle.rules.specs.State.{Rec}
 use Rattle.rules.specs.Store.{pad, recordBytes, recordWords, blockBytes, zeroed, added}
-use Rattle.rules.proofs.Split.{both, pick-true, pick-false}
+use Rattle.rules.proofs.Split.{pick-true, pick-false}
 use Rattle.shares.specs.Inscribed.{inscribedAt}
 use Rattle.shares.proofs.Image.{length-recordBytes}
-use Rattle.blocks.specs.declared.ring.Ring.{Ring}
-use Rattle.blocks.specs.declared.ring.Place.{Place}
-use Rattle.blocks.specs.declared.layout.Span.{Span}
-use Rattle.blocks.specs.Ring.{geo, spanOf, tail}
+use Rattle.ring.specs.declared.Ring.{Ring}
+use Rattle.ring.specs.declared.Place.{Place}
+use Rattle.ring.specs.declared.layout.Span.{Span}
+use Rattle.ring.specs.Ring.{geo, spanOf, tail}
 use Rattle.blocks.specs.Writing.{recOf, recordSize, begun, Roomy, tailAt, inscribed}
 
 -- the five stores of a record, one right behind another, are one run
@@ -72,9 +72,7 @@ module _ (n : ℕ) (x₀ : List ℕ) (at i : ℕ) where
 
 pub inscribedAt-begun : (n : ℕ) (xs : List ℕ) (at i : ℕ) (r : Rec) → inscribedAt n xs at i r ≡ added (begun n xs at i) at r
 unfolding inscribedAt begun
-inscribedAt-begun n xs at i r = both (λ (ys : List ℕ). ys ≡ added (begun n xs at i) at r) (eqb i 0)
-    (λ e. ap (λ (ys : List ℕ). added ys at r) (sym (pick-true (eqb i 0) _ _ e)))
-    (λ e. ap (λ (ys : List ℕ). added ys at r) (sym (pick-false (eqb i 0) _ _ e)))
+inscribedAt-begun n xs at i r = refl
 
 -- the block as the code has it
 module _ (words : ℕ) (ring : Ring) (t : Place) (b : Span) (x₀ x₁ : List ℕ) (f : t ≡ tail ring) (e : b ≡ spanOf (geo words ring) (t .block))

@@ -21,9 +21,9 @@ use Rattle.shares.proofs.Added.{zeroed-stands}
 use Rattle.shares.proofs.Ring.{ring-inside, block-fits-more}
 use Rattle.shares.proofs.Blocks.{tail-put, tail-room}
 use Rattle.shares.proofs.Put.{inscribed-at}
-use Rattle.blocks.specs.Ring.{ringOf, tail}
+use Rattle.ring.specs.Ring.{ringOf, tail}
 use Rattle.blocks.specs.Writing.{begun, Roomy, tailAt, Ready, inscribed}
-use Rattle.blocks.proofs.ring.Stores.{fitted, ranged, ring-tail, ring-index}
+use Rattle.ring.proofs.Stores.{fitted, ranged, ring-tail, ring-index}
 use Rattle.blocks.proofs.writing.Laws.{size-words}
 
 -- a block with a place left, zeroed or begun

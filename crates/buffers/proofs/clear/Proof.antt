@@ -2,9 +2,6 @@ use Rattle.buffers.proofs.Filled.{clear-written}
 use borrow.Author.Needs.{needs}
 use Rattle.buffers.proofs.clear.Statement.{statement}
 use Rattle.buffers.proofs.clear.Tie as tie
-use Rattle.buffers.proofs.clear.Reads as reads
-use Rattle.buffers.proofs.clear.Lts as lts
-use Rattle.words.proofs.zero.Reads as zero-reads
 
 zero-requires : tie.Need-zero-requires
 zero-requires c κs = search needs
@@ -13,7 +10,9 @@ same-length : tie.Need-same-length
 same-length c = search needs
 
 returns : tie.Need-returns
-returns c = clear-written _ _ (c .before .before .before .before .before .pre) (c .before .before .zero .ensures)
+returns c =
+    let start : tie.Start = search in
+    clear-written _ _ (start .pre) (c .before .before .zero .ensures)
 
 pub clear-spec : {M : Type 1} → statement M
 clear-spec = tie.close (tie.spec zero-requires same-length returns)

@@ -1,11 +1,10 @@
 use Rattle.words.proofs.Parts.{span, part-lent}
 use Rattle.words.proofs.Runs.{length-zeros}
+use Rattle.rules.specs.Limits.{bufferBytes}
+use Rattle.buffers.specs.Buffer.{bufferCount}
 use borrow.Author.Needs.{needs}
 use Rattle.buffers.proofs.clear_at.Statement.{statement}
 use Rattle.buffers.proofs.clear_at.Tie as tie
-use Rattle.buffers.proofs.clear_at.Reads as reads
-use Rattle.buffers.proofs.clear_at.Lts as lts
-use Rattle.buffers.proofs.clear.Reads as clear-reads
 
 mul-a : tie.Need-mul-a
 mul-a c = search needs
@@ -29,7 +28,11 @@ same-length : tie.Need-same-length
 same-length c = search needs
 
 returns : tie.Need-returns
-returns c = rw span (part-lent _ _ _ _ 64 _ (c .before .before .before .before .before .pre .0) (c .before .before .before .before .before .pre .1) (length-zeros 260) (c .before .before .clear .ensures))
+returns c =
+    let start : tie.Start = search in
+    rw span
+    (part-lent _ _ _ _ bufferCount _ (start .pre .0) (start .pre .1) (length-zeros bufferBytes)
+    (c .before .before .clear .ensures))
 
 pub clear-at-spec : {M : Type 1} → statement M
 clear-at-spec =

@@ -1,11 +1,9 @@
 use Rattle.words.proofs.Parts.{span, part-lent}
 use Rattle.buffers.proofs.Filled.{length-filled}
+use Rattle.buffers.specs.Buffer.{bufferCount}
 use borrow.Author.Needs.{needs}
 use Rattle.buffers.proofs.fill_at.Statement.{statement}
 use Rattle.buffers.proofs.fill_at.Tie as tie
-use Rattle.buffers.proofs.fill_at.Reads as reads
-use Rattle.buffers.proofs.fill_at.Lts as lts
-use Rattle.buffers.proofs.fill.Reads as fill-reads
 
 mul-a : tie.Need-mul-a
 mul-a c = search needs
@@ -29,7 +27,11 @@ same-length : tie.Need-same-length
 same-length c = search needs
 
 returns : tie.Need-returns
-returns c = rw span (part-lent _ _ _ _ 64 _ (c .before .before .before .before .before .before .pre .0) (c .before .before .before .before .before .before .pre .1) (length-filled _ (c .before .before .before .before .before .before .pre .2)) (c .before .before .fill .ensures))
+returns c =
+    let start : tie.Start = search in
+    rw span
+    (part-lent _ _ _ _ bufferCount _ (start .pre .0) (start .pre .1) (length-filled _ (start .pre .2))
+    (c .before .before .fill .ensures))
 
 pub fill-at-spec : {M : Type 1} → statement M
 fill-at-spec =

@@ -1,33 +1,37 @@
+-- `cancel` meets its contract: an answer to each need, in the order of the code.
 use mathlib.Core.Path.{sym, _∙_}
 use borrow.Author.Needs.{needs}
 use Rattle.closing.proofs.cancel.Statement.{statement}
 use Rattle.closing.proofs.cancel.Tie as tie
 
--- src/lib.rt:51:8
 waits-requires : tie.Need-waits-requires
 waits-requires c κs = (c .before .before .before .pre .0 .0, (c .before .before .before .pre .0 .2, c .before .before .before .pre .0 .3))
 
--- src/lib.rt:52:9
 remove-requires : tie.Need-remove-requires
-remove-requires c κs = (c .before .before .before .before .before .before .before .pre .0, c .before .before .before .before .before .before .before .pre .1 (sym (c .before .before .before .waits .ensures) ∙ c .before .before .if1 .taken))
+remove-requires c κs =
+    let start : tie.Start = search in (
+      start .pre .0,
+      start .pre .1 (sym (c .before .before .before .waits .ensures) ∙ c .before .before .if1 .taken),
+    )
 
--- src/lib.rt:45:1
 same-length : tie.Need-same-length
 same-length c = search needs
 
--- src/lib.rt:45:1
 same-length-2 : tie.Need-same-length-2
 same-length-2 c = search needs
 
--- src/lib.rt:45:1
 returns : tie.Need-returns
-returns c = (rw (← c .before .before .before .before .before .before .before .before .waits .ensures, c .before .before .before .before .before .before .before .if1 .taken) (c .before .before .before .before .remove .ensures .0), rw (← c .before .before .before .before .before .before .before .before .waits .ensures, c .before .before .before .before .before .before .before .if1 .taken) (c .before .before .before .before .remove .ensures .1))
+returns c =
+    let here : tie.After-remove = search in let remove = here .remove in
+    let here : tie.Then1 = search in let if1 = here .if1 in
+    let here : tie.After-waits = search in let waits = here .waits in (
+      rw (← waits .ensures, if1 .taken) (remove .ensures .0),
+      rw (← waits .ensures, if1 .taken) (remove .ensures .1),
+    )
 
--- src/lib.rt:45:1
 same-length-3 : tie.Need-same-length-3
 same-length-3 c = search needs
 
--- src/lib.rt:45:1
 returns-2 : tie.Need-returns-2
 returns-2 c = (rw (← c .before .waits .ensures, c .if1 .left), rw (← c .before .waits .ensures, c .if1 .left))
 

@@ -1,52 +1,103 @@
+-- `close` meets its contract: an answer to each need, in the order of the code.
 use mathlib.Core.Path.{_∙_}
 use native.Mathlib.Omega.{arith}
 use Rattle.closing.proofs.Clears.{close-size, close-found, clears, close-done}
 use Rattle.closing.proofs.close.Statement.{statement}
 use Rattle.closing.proofs.close.Tie as tie
 
--- src/lib.rt:98:45
+-- The way back from one place to another.
+abbrev after-cancel-from-after-rest : tie.After-rest → tie.After-cancel
+after-cancel-from-after-rest c = c .before .before .before .before .before .before .before .before .before .before .before .before .before .before .before
+
 mul-place-side : tie.Need-mul-place-side
-mul-place-side c = let (d, s, S) = c .before .before .before .before .pre .0 in record { fits = omega (arith, close-size S _ _ (c .before .before .before .before .pre .1 d s S) .2) }
+mul-place-side c =
+    let start : tie.Start = search in
+    let (d, s, S) = start .pre .0 in
+    record { fits = omega (arith, close-size S _ _ (start .pre .1 d s S) .2) }
 
--- src/lib.rt:98:45
 add-place-side : tie.Need-add-place-side
-add-place-side c = let (d, s, S) = c .before .before .before .before .pre .0 in record { fits = omega (arith, close-size S _ _ (c .before .before .before .before .pre .1 d s S) .2, close-size S _ _ (c .before .before .before .before .pre .1 d s S) .3) }
+add-place-side c =
+    let start : tie.Start = search in
+    let (d, s, S) = start .pre .0 in
+    let size = close-size S _ _ (start .pre .1 d s S) in
+    record { fits = omega (arith, size .2, size .3) }
 
--- src/lib.rt:98:9
 place-side-requires : tie.Need-place-side-requires
-place-side-requires c κs = let (d, s, S) = c .before .before .before .before .pre .0 in (close-size S _ _ (c .before .before .before .before .pre .1 d s S) .0, omega (arith, close-size S _ _ (c .before .before .before .before .pre .1 d s S) .2, close-size S _ _ (c .before .before .before .before .pre .1 d s S) .3))
+place-side-requires c κs =
+    let start : tie.Start = search in
+    let (d, s, S) = start .pre .0 in
+    let size = close-size S _ _ (start .pre .1 d s S) in
+    (size .0, omega (arith, size .2, size .3))
 
--- src/lib.rt:99:9
 take-file-requires : tie.Need-take-file-requires
-take-file-requires c κs = let (d, s, S) = c .before .before .before .before .before .before .pre .0 in (close-size S _ _ (c .before .before .before .before .before .before .pre .1 d s S) .0, close-size S _ _ (c .before .before .before .before .before .before .pre .1 d s S) .2)
+take-file-requires c κs =
+    let start : tie.Start = search in
+    let (d, s, S) = start .pre .0 in
+    let size = close-size S _ _ (start .pre .1 d s S) in
+    (size .0, size .2)
 
--- src/lib.rt:100:5
 cancel-requires : tie.Need-cancel-requires
-cancel-requires c κs = let (d, s, S) = c .before .before .before .before .before .before .before .before .before .pre .0 in (close-size S _ _ (c .before .before .before .before .before .before .before .before .before .pre .1 d s S), close-found S _ _ (c .before .before .before .before .before .before .before .before .before .pre .1 d s S) _ (c .before .before .before .before .place-side .ensures))
+cancel-requires c κs =
+    let here : tie.After-place-side = search in let place-side = here .place-side in
+    let start : tie.Start = search in
+    let (d, s, S) = start .pre .0 in
+    (close-size S _ _ (start .pre .1 d s S), close-found S _ _ (start .pre .1 d s S) _ (place-side .ensures))
 
--- src/lib.rt:101:9
 leave-requires : tie.Need-leave-requires
-leave-requires c κs = let (d, s, S) = c .before .before .before .before .before .before .before .before .before .before .before .before .before .before .before .before .pre .0 in let C = clears S _ _ (c .before .before .before .before .before .before .before .before .before .before .before .before .before .before .before .before .pre .1 d s S) _ (c .before .before .before .before .before .before .before .before .before .before .before .place-side .ensures) _ (c .before .before .before .before .before .before .before .before .before .take-file .ensures) _ _ (c .before .before .before .before .before .before .cancel .ensures .0) (c .before .before .before .before .before .before .cancel .ensures .1) in (_, _, C .file, C .acc, C .mid, C .at, C .still)
+leave-requires c κs =
+    let here : tie.After-cancel = search in let cancel = here .cancel in
+    let here : tie.After-take-file = search in let take-file = here .take-file in
+    let here : tie.After-place-side = search in let place-side = here .place-side in
+    let start : tie.Start = search in
+    let (d, s, S) = start .pre .0 in
+    let C = clears S _ _ (start .pre .1 d s S) _ (place-side .ensures) _ (take-file .ensures) _ _
+    (cancel .ensures .0) (cancel .ensures .1) in
+    (_, _, C .file, C .acc, C .mid, C .at, C .still)
 
--- src/lib.rt:102:5
 rest-requires : tie.Need-rest-requires
-rest-requires c κs = let (d, s, S) = c .before .before .before .before .before .before .before .before .before .before .before .before .before .before .before .before .before .before .before .before .before .before .before .before .pre .0 in let C = clears S _ _ (c .before .before .before .before .before .before .before .before .before .before .before .before .before .before .before .before .before .before .before .before .before .before .before .before .pre .1 d s S) _ (c .before .before .before .before .before .before .before .before .before .before .before .before .before .before .before .before .before .before .before .place-side .ensures) _ (c .before .before .before .before .before .before .before .before .before .before .before .before .before .before .before .before .before .take-file .ensures) _ _ (c .before .before .before .before .before .before .before .before .before .before .before .before .before .before .cancel .ensures .0) (c .before .before .before .before .before .before .before .before .before .before .before .before .before .before .cancel .ensures .1) in (_, _, c .before .before .before .before .before .before .before .leave .ensures _ _ (C .file) (C .acc) (C .mid) (C .at) (C .still))
+rest-requires c κs =
+    let here : tie.After-leave = search in let leave = here .leave in
+    let here : tie.After-cancel = search in let cancel = here .cancel in
+    let here : tie.After-take-file = search in let take-file = here .take-file in
+    let here : tie.After-place-side = search in let place-side = here .place-side in
+    let start : tie.Start = search in
+    let (d, s, S) = start .pre .0 in
+    let C = clears S _ _ (start .pre .1 d s S) _ (place-side .ensures) _ (take-file .ensures) _ _
+    (cancel .ensures .0) (cancel .ensures .1) in
+    (_, _, leave .ensures _ _ (C .file) (C .acc) (C .mid) (C .at) (C .still))
 
--- src/lib.rt:94:1
 same-length : tie.Need-same-length
-same-length c = c .before .before .before .before .before .before .rest .kept .0 ∙ (c .before .before .before .before .before .before .before .before .before .before .before .before .before .before .leave .kept .0 ∙ c .before .before .before .before .before .before .before .before .before .before .before .before .before .before .before .before .before .before .before .before .before .cancel .kept .0)
+same-length c =
+    let here : tie.After-rest = search in let rest = here .rest in
+    let here : tie.After-leave = search in let leave = here .leave in
+    let here : tie.After-cancel = search in let cancel = here .cancel in
+    rest .kept .0 ∙ (leave .kept .0 ∙ cancel .kept .0)
 
--- src/lib.rt:94:1
 same-length-2 : tie.Need-same-length-2
-same-length-2 c = c .before .before .before .before .before .before .rest .kept .1 .0 ∙ c .before .before .before .before .before .before .before .before .before .before .before .before .before .before .leave .kept .1 .0
+same-length-2 c =
+    let here : tie.After-rest = search in let rest = here .rest in
+    let here : tie.After-leave = search in let leave = here .leave in
+    rest .kept .1 .0 ∙ leave .kept .1 .0
 
--- src/lib.rt:94:1
 same-length-3 : tie.Need-same-length-3
-same-length-3 c = c .before .before .before .before .before .before .rest .kept .1 .1 .0 ∙ c .before .before .before .before .before .before .before .before .before .before .before .before .before .before .before .before .before .before .before .before .before .cancel .kept .1 .0
+same-length-3 c =
+    let here : tie.After-rest = search in let rest = here .rest in
+    let here = after-cancel-from-after-rest here in let cancel = here .cancel in
+    rest .kept .1 .1 .0 ∙ cancel .kept .1 .0
 
--- src/lib.rt:94:1
 returns : tie.Need-returns
-returns c = λ d s S. let C = clears S _ _ (c .before .before .before .before .before .before .before .before .before .before .before .before .before .before .before .before .before .before .before .before .before .before .before .before .before .before .before .before .before .before .before .pre .1 d s S) _ (c .before .before .before .before .before .before .before .before .before .before .before .before .before .before .before .before .before .before .before .before .before .before .before .before .before .before .place-side .ensures) _ (c .before .before .before .before .before .before .before .before .before .before .before .before .before .before .before .before .before .before .before .before .before .before .before .before .take-file .ensures) _ _ (c .before .before .before .before .before .before .before .before .before .before .before .before .before .before .before .before .before .before .before .before .before .cancel .ensures .0) (c .before .before .before .before .before .before .before .before .before .before .before .before .before .before .before .before .before .before .before .before .before .cancel .ensures .1) in close-done C (c .before .before .before .before .before .before .rest .ensures _ _ (c .before .before .before .before .before .before .before .before .before .before .before .before .before .before .leave .ensures _ _ (C .file) (C .acc) (C .mid) (C .at) (C .still)) (S .stands .bodies) _)
+returns c =
+    let here : tie.After-rest = search in let rest = here .rest in
+    let here : tie.After-leave = search in let leave = here .leave in
+    let here : tie.After-cancel = search in let cancel = here .cancel in
+    let here : tie.After-take-file = search in let take-file = here .take-file in
+    let here : tie.After-place-side = search in let place-side = here .place-side in
+    let start : tie.Start = search in
+    λ d s S.
+    let C = clears S _ _ (start .pre .1 d s S) _ (place-side .ensures) _ (take-file .ensures) _ _
+    (cancel .ensures .0) (cancel .ensures .1) in
+    close-done C
+    (rest .ensures _ _ (leave .ensures _ _ (C .file) (C .acc) (C .mid) (C .at) (C .still)) (S .stands .bodies) _)
 
 pub close-spec : {M : Type 1} → statement M
 close-spec =

@@ -1,58 +1,47 @@
+-- `changed` meets its contract: an answer to each need, in the order of the code.
 use Rattle.controls.specs.Changed.{changedRow}
 use borrow.Author.Needs.{needs}
 use Rattle.controls.proofs.changed.Statement.{statement}
 use Rattle.controls.proofs.changed.Tie as tie
 
--- src/lib.rt:29:26
 enum-known-asked : tie.Need-enum-known-asked
 enum-known-asked c = search needs
 
--- src/lib.rt:33:27
 enum-known-asked-2 : tie.Need-enum-known-asked-2
 enum-known-asked-2 c = search needs
 
--- src/lib.rt:37:24
 enum-known-asked-3 : tie.Need-enum-known-asked-3
 enum-known-asked-3 c = search needs
 
--- src/lib.rt:41:23
 enum-known-asked-4 : tie.Need-enum-known-asked-4
 enum-known-asked-4 c = search needs
 
--- src/lib.rt:45:31
 enum-told : tie.Need-enum-told
 enum-told c = search needs
 
--- src/lib.rt:46:30
 enum-told-2 : tie.Need-enum-told-2
 enum-told-2 c = search needs
 
--- src/lib.rt:24:1
 returns : tie.Need-returns
 unfolding changedRow
 returns c = rw (c .before .asked .given .1)
 
--- src/lib.rt:24:1
 returns-2 : tie.Need-returns-2
 unfolding changedRow
 returns-2 c = rw (c .before .asked2 .given .1)
 
--- src/lib.rt:24:1
 returns-3 : tie.Need-returns-3
 unfolding changedRow
 returns-3 c = rw (c .before .asked3 .given .1)
 
--- src/lib.rt:24:1
 returns-4 : tie.Need-returns-4
 unfolding changedRow
 returns-4 c = rw (c .before .asked4 .given .1)
 
--- src/lib.rt:24:1
 returns-5 : tie.Need-returns-5
 unfolding changedRow
 returns-5 c = rw (c .enum-told .given .1)
 
--- src/lib.rt:24:1
 returns-6 : tie.Need-returns-6
 unfolding changedRow
 returns-6 c = rw (c .enum-told2 .given .1)

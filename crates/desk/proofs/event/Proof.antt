@@ -1,132 +1,197 @@
-use Rattle.memory.specs.Stands.{Bytes}
-use Rattle.desk.proofs.Refuses.{event-refused, frame-refused, not-refused}
+-- `event` meets its contract: an answer to each need, in the order of the code.
+use Rattle.words.specs.Word.{Bytes}
+use Rattle.desk.proofs.Refuses.{frame-refused, not-refused, first-refused}
+use Rattle.desk.proofs.First.{first-there}
 use Rattle.promises.proofs.Events.{event-length, event-unsound, event-done}
-use Rattle.sound.proofs.desk.Both.{sound-stands}
+use Rattle.promises.proofs.Room.{with-room}
+use Rattle.decision.proofs.desk.Both.{sound-stands}
 use borrow.Author.Tests.{not-true, not-false}
 use native.Mathlib.Omega.{arith}
-use mathlib.Core.Path.{_≡_, refl, sym, ap, _∙_}
+use mathlib.Core.Path.{refl, sym, _∙_}
 use borrow.Author.Needs.{needs}
 use Rattle.desk.proofs.event.Statement.{statement}
 use Rattle.desk.proofs.event.Tie as tie
-use Rattle.desk.proofs.event.Reads as reads
-use Rattle.desk.proofs.event.Lts as lts
-use Rattle.desk.proofs.refusals.refuse.Reads as refuse-reads
-use Rattle.desk.proofs.refusals.refuse_event.Reads as refuse-event-reads
-use Rattle.desk.proofs.serve.Reads as serve-reads
-use Rattle.frames.proofs.decode.Reads as decode-reads
-use Rattle.judges.proofs.judge.Reads as judge-reads
-use Rattle.sound.proofs.sound.Reads as sound-reads
 
--- src/lib.rt:47:9
 returns : tie.Need-returns
-returns c = event-length _ _ _ (c .if1 .taken)
+returns c = (event-length _ _ _ (c .if1 .taken), omega arith)
 
--- src/lib.rt:49:9
 sound-requires : tie.Need-sound-requires
 sound-requires c κs = search needs
 
--- src/lib.rt:50:9
 same-length : tie.Need-same-length
 same-length c = refl
 
--- src/lib.rt:50:9
 same-length-2 : tie.Need-same-length-2
 same-length-2 c = refl
 
--- src/lib.rt:50:9
 same-length-3 : tie.Need-same-length-3
 same-length-3 c = refl
 
--- src/lib.rt:50:9
 returns-2 : tie.Need-returns-2
-returns-2 c = event-unsound _ _ _ (c .before .before .before .before .before .if1 .left) (sym (c .before .sound .ensures) ∙ not-true _ (c .if2 .taken))
+returns-2 c =
+    let here : tie.Else1 = search in let if1 = here .if1 in
+    (event-unsound _ _ _ (if1 .left) (sym (c .before .sound .ensures) ∙ not-true _ (c .if2 .taken)), omega arith)
 
--- src/lib.rt:52:9
 decode-requires : tie.Need-decode-requires
 decode-requires c κs = search needs
 
--- src/lib.rt:53:22
 enum-known-said : tie.Need-enum-known-said
 enum-known-said c = search needs
 
--- src/lib.rt:54:9
 refuse-requires : tie.Need-refuse-requires
 unfolding Bytes
-refuse-requires c κs = ((_, _, (sound-stands _ _ _ (λ i. c .before .before .before .before .before .before .before .before .before .before .before .before .before .before .slice-known .given i .fits) (λ i. c .before .before .before .before .before .before .before .before .before .before .before .before .before .slice-known2 .given i .fits) (λ i. c .before .before .before .before .before .before .before .before .before .before .before .before .slice-known3 .given i .fits) (sym (c .before .before .before .before .before .sound .ensures) ∙ not-false _ (c .before .before .before .before .if2 .left)))), omega (arith, c .before .before .before .before .before .before .before .before .before .if1 .left))
+refuse-requires c κs =
+    let here : tie.Else2 = search in let if2 = here .if2 in
+    let here : tie.After-sound = search in let sound = here .sound in
+    let here : tie.Else1 = search in let if1 = here .if1 in
+    let here : tie.After-slice-known3 = search in let slice-known3 = here .slice-known3 in
+    let here : tie.After-slice-known2 = search in let slice-known2 = here .slice-known2 in
+    let here : tie.After-slice-known = search in let slice-known = here .slice-known in (
+      (
+        _,
+        _,
+        (sound-stands _ _ _ (λ i. slice-known .given i .fits) (λ i. slice-known2 .given i .fits)
+            (λ i. slice-known3 .given i .fits) (sym (sound .ensures) ∙ not-false _ (if2 .left))),
+      ),
+      omega (arith, if1 .left),
+    )
 
--- src/lib.rt:54:9
 same-length-4 : tie.Need-same-length-4
 same-length-4 c = search needs
 
--- src/lib.rt:54:9
 same-length-5 : tie.Need-same-length-5
 same-length-5 c = search needs
 
--- src/lib.rt:54:9
 same-length-6 : tie.Need-same-length-6
 same-length-6 c = search needs
 
--- src/lib.rt:54:9
 same-length-7 : tie.Need-same-length-7
 same-length-7 c = search needs
 
--- src/lib.rt:54:9
 returns-3 : tie.Need-returns-3
-returns-3 c = event-done _ _ _ (c .before .before .before .before .before .before .before .before .before .before .before .before .if1 .left) _ _ _ (sym (c .before .before .before .before .before .before .before .before .sound .ensures) ∙ not-false _ (c .before .before .before .before .before .before .before .if2 .left)) (λ d s S. let r = frame-refused S _ _ _ _ _ (sym (c .before .before .before .before .before .before .decode .ensures)) (c .before .before .before .before .before .match .keys2) (c .before .before .refuse .ensures) in (r .stays, r .told))
+unfolding Bytes
+returns-3 c =
+    let here : tie.At-match-keys2 = search in let match = here .match in
+    let here : tie.After-decode = search in let decode = here .decode in
+    let here : tie.Else2 = search in let if2 = here .if2 in
+    let here : tie.After-sound = search in let sound = here .sound in
+    let here : tie.Else1 = search in let if1 = here .if1 in
+    let here : tie.After-slice-known3 = search in let slice-known3 = here .slice-known3 in
+    let here : tie.After-slice-known2 = search in let slice-known2 = here .slice-known2 in
+    let here : tie.After-slice-known = search in let slice-known = here .slice-known in
+    with-room _ _ _ _ _ _ (λ i. slice-known .given i .fits) (λ i. slice-known2 .given i .fits) (λ i. slice-known3 .given i .fits)
+    (event-done _ _ _ (if1 .left) _ _ _ (sym (sound .ensures) ∙ not-false _ (if2 .left))
+    (λ d s S.
+    let r = frame-refused S _ _ _ _ _ (sym (decode .ensures)) (match .keys2)
+    (c .before .before .refuse .ensures) in
+    (r .stays, r .told)))
 
--- src/lib.rt:56:9
 judge-requires : tie.Need-judge-requires
 unfolding Bytes
-judge-requires c κs = (_, _, (sound-stands _ _ _ (λ i. c .before .before .before .before .before .before .before .before .before .before .before .before .before .before .before .slice-known .given i .fits) (λ i. c .before .before .before .before .before .before .before .before .before .before .before .before .before .before .slice-known2 .given i .fits) (λ i. c .before .before .before .before .before .before .before .before .before .before .before .before .before .slice-known3 .given i .fits) (sym (c .before .before .before .before .before .before .sound .ensures) ∙ not-false _ (c .before .before .before .before .before .if2 .left))))
+judge-requires c κs =
+    let here : tie.Else2 = search in let if2 = here .if2 in
+    let here : tie.After-sound = search in let sound = here .sound in
+    let here : tie.After-slice-known3 = search in let slice-known3 = here .slice-known3 in
+    let here : tie.After-slice-known2 = search in let slice-known2 = here .slice-known2 in
+    let here : tie.After-slice-known = search in let slice-known = here .slice-known in (
+      _,
+      _,
+      (sound-stands _ _ _ (λ i. slice-known .given i .fits) (λ i. slice-known2 .given i .fits)
+          (λ i. slice-known3 .given i .fits) (sym (sound .ensures) ∙ not-false _ (if2 .left))),
+    )
 
--- src/lib.rt:58:9
-refuse-event-requires : tie.Need-refuse-event-requires
-refuse-event-requires c κs = omega (arith, c .before .before .before .before .before .before .before .before .before .before .before .before .before .if1 .left)
+shared-slice-read-status : tie.Need-shared-slice-read-status
+shared-slice-read-status c =
+    let judged = c .before .before in
+    let told = judged .before .before .before in
+    let h = first-there _ _ (sym (told .before .before .decode .ensures) ∙ told .said .given .1) in
+    search needs
 
--- src/lib.rt:58:9
+status-requires : tie.Need-status-requires
+status-requires c κs =
+    let judged = c .before .before .before in
+    let test = judged .before .before .before .before .before .before in
+    omega (arith, test .before .before .before .before .before .if1 .left)
+
 same-length-8 : tie.Need-same-length-8
 same-length-8 c = search needs
 
--- src/lib.rt:58:9
 same-length-9 : tie.Need-same-length-9
 same-length-9 c = search needs
 
--- src/lib.rt:58:9
 same-length-10 : tie.Need-same-length-10
 same-length-10 c = search needs
 
--- src/lib.rt:58:9
 same-length-11 : tie.Need-same-length-11
 same-length-11 c = search needs
 
--- src/lib.rt:58:9
 returns-4 : tie.Need-returns-4
-returns-4 c = event-done _ _ _ (c .before .before .before .before .before .before .before .before .before .before .before .before .before .before .before .before .if1 .left) _ _ _ (sym (c .before .before .before .before .before .before .before .before .before .before .before .before .sound .ensures) ∙ not-false _ (c .before .before .before .before .before .before .before .before .before .before .before .if2 .left)) (λ d s S. let r = event-refused S _ _ _ _ _ _ (sym (c .before .before .before .before .before .before .before .before .before .before .decode .ensures) ∙ c .before .before .before .before .before .before .before .before .said .given .1) (c .before .before .before .before .before .judge .ensures _ _ _ d s S) (c .before .before .before .before .if3 .taken) (c .before .before .refuse-event .ensures) in (r .stays, r .told))
+unfolding Bytes
+returns-4 c =
+    let done = c .before .before in
+    let then = done .before .before .before in
+    let judged = then .before in
+    let told = judged .before .before .before in
+    let decoded = told .before .before in
+    let test = decoded .before in
+    let asked = test .before .before .before in
+    let here : tie.After-slice-known3 = search in let slice-known3 = here .slice-known3 in
+    let here : tie.After-slice-known2 = search in let slice-known2 = here .slice-known2 in
+    let here : tie.After-slice-known = search in let slice-known = here .slice-known in
+    with-room _ _ _ _ _ _ (λ i. slice-known .given i .fits) (λ i. slice-known2 .given i .fits) (λ i. slice-known3 .given i .fits)
+    (event-done _ _ _ (asked .before .before .if1 .left) _ _ _ (sym (test .before .sound .ensures) ∙ not-false _ (test .if2 .left)) (λ d s S.
+    let said = sym (decoded .decode .ensures) ∙ told .said .given .1 in
+    let r = first-refused S _ _ _ _ _ _ said (judged .judge .ensures _ _ _ d s S) (then .if3 .taken) (done .status .ensures) in
+    (r .stays, r .told)))
 
--- src/lib.rt:60:5
 serve-requires : tie.Need-serve-requires
 unfolding Bytes
-serve-requires c κs = (((sound-stands _ _ _ (λ i. c .before .before .before .before .before .before .before .before .before .before .before .before .before .before .before .before .before .before .before .before .before .slice-known .given i .fits) (λ i. c .before .before .before .before .before .before .before .before .before .before .before .before .before .before .before .before .before .before .before .before .slice-known2 .given i .fits) (λ i. c .before .before .before .before .before .before .before .before .before .before .before .before .before .before .before .before .before .before .before .slice-known3 .given i .fits) (sym (c .before .before .before .before .before .before .before .before .before .before .before .before .sound .ensures) ∙ not-false _ (c .before .before .before .before .before .before .before .before .before .before .before .if2 .left))), c .before .before .before .before .before .before .before .before .before .before .before .before .before .before .before .before .if1 .left, (sym (c .before .before .before .before .before .before .before .before .before .before .decode .ensures) ∙ c .before .before .before .before .before .before .before .before .said .given .1)), λ d s S. not-refused _ _ _ d (sym (c .before .before .before .before .before .before .before .before .before .before .decode .ensures) ∙ c .before .before .before .before .before .before .before .before .said .given .1) (c .before .before .before .before .before .judge .ensures _ _ _ d s S) (c .before .before .before .before .if3 .left))
+serve-requires c κs =
+    let here : tie.Else3 = search in let if3 = here .if3 in
+    let here : tie.After-judge = search in let judge = here .judge in
+    let here : tie.After-said = search in let said = here .said in
+    let here : tie.After-decode = search in let decode = here .decode in
+    let here : tie.Else2 = search in let if2 = here .if2 in
+    let here : tie.After-sound = search in let sound = here .sound in
+    let here : tie.Else1 = search in let if1 = here .if1 in
+    let here : tie.After-slice-known3 = search in let slice-known3 = here .slice-known3 in
+    let here : tie.After-slice-known2 = search in let slice-known2 = here .slice-known2 in
+    let here : tie.After-slice-known = search in let slice-known = here .slice-known in (
+      (
+        (sound-stands _ _ _ (λ i. slice-known .given i .fits) (λ i. slice-known2 .given i .fits)
+            (λ i. slice-known3 .given i .fits) (sym (sound .ensures) ∙ not-false _ (if2 .left))),
+        if1 .left,
+        (sym (decode .ensures) ∙ said .given .1),
+      ),
+      λ d s S.
+          not-refused _ _ _ d (sym (decode .ensures) ∙ said .given .1) (judge .ensures _ _ _ d s S) (if3 .left),
+    )
 
--- src/lib.rt:43:1
 same-length-12 : tie.Need-same-length-12
 same-length-12 c = search needs
 
--- src/lib.rt:43:1
 same-length-13 : tie.Need-same-length-13
 same-length-13 c = search needs
 
--- src/lib.rt:43:1
 same-length-14 : tie.Need-same-length-14
 same-length-14 c = search needs
 
--- src/lib.rt:43:1
 same-length-15 : tie.Need-same-length-15
 same-length-15 c = search needs
 
--- src/lib.rt:43:1
 returns-5 : tie.Need-returns-5
-returns-5 c = event-done _ _ _ (c .before .before .before .before .before .before .before .before .before .before .before .before .before .before .before .before .before .before .before .before .before .before .before .before .before .if1 .left) _ _ _ (sym (c .before .before .before .before .before .before .before .before .before .before .before .before .before .before .before .before .before .before .before .before .before .sound .ensures) ∙ not-false _ (c .before .before .before .before .before .before .before .before .before .before .before .before .before .before .before .before .before .before .before .before .if2 .left)) (λ d s S. let r = (c .before .before .before .before .before .before .before .before .serve .ensures) d s S in (r .stays, r .told))
+unfolding Bytes
+returns-5 c =
+    let here : tie.After-serve = search in let serve = here .serve in
+    let here : tie.Else2 = search in let if2 = here .if2 in
+    let here : tie.After-sound = search in let sound = here .sound in
+    let here : tie.Else1 = search in let if1 = here .if1 in
+    let here : tie.After-slice-known3 = search in let slice-known3 = here .slice-known3 in
+    let here : tie.After-slice-known2 = search in let slice-known2 = here .slice-known2 in
+    let here : tie.After-slice-known = search in let slice-known = here .slice-known in
+    with-room _ _ _ _ _ _ (λ i. slice-known .given i .fits) (λ i. slice-known2 .given i .fits) (λ i. slice-known3 .given i .fits)
+    (event-done _ _ _ (if1 .left) _ _ _ (sym (sound .ensures) ∙ not-false _ (if2 .left))
+    (λ d s S. let r = (serve .ensures) d s S in (r .stays, r .told)))
 
 pub event-spec : {M : Type 1} → statement M
 event-spec =
@@ -147,7 +212,8 @@ event-spec =
     same-length-7
     returns-3
     judge-requires
-    refuse-event-requires
+    shared-slice-read-status
+    status-requires
     same-length-8
     same-length-9
     same-length-10

@@ -1,13 +1,12 @@
 use mathlib.Core.Path.{refl}
 use native.Mathlib.Omega.{arith}
 use Rattle.rules.specs.Geometry.{capacity}
-use Rattle.rules.specs.Limits.{mostFactor, shareWords}
 use Rattle.geometry.proofs.Sizes.{product-most}
 use Rattle.geometry.proofs.capacity.Statement.{statement}
 use Rattle.geometry.proofs.capacity.Tie as tie
 
 mul-result : tie.Need-mul-result
-mul-result c = omega (arith, product-most (c .args .factor) (c .args .blocks) mostFactor shareWords (omega arith) (omega arith))
+mul-result c = omega (arith, product-most (c .args .factor) (c .args .blocks) 255 65535 (omega arith) (omega arith))
 
 returns : tie.Need-returns
 unfolding capacity

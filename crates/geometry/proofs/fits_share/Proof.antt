@@ -14,7 +14,12 @@ cast-result : tie.Need-cast-result
 cast-result c = search needs
 
 mul-result : tie.Need-mul-result
-mul-result c = omega (arith, product-most (c .before .args .blocks) (c .block-size .result) 65535 ((mostWords + 3) * mostFactor + 2) (omega arith) (omega arith))
+mul-result c =
+    omega (
+      arith,
+      product-most (c .before .args .blocks) (c .block-size .result) 65535 ((mostWords + 3) * mostFactor + 2)
+          (omega arith) (omega arith),
+    )
 
 returns : tie.Need-returns
 unfolding fitsShare

@@ -23,11 +23,24 @@ within-requires-3 c κs = search needs
 within-requires-4 : tie.Need-within-requires-4
 within-requires-4 c κs = search needs
 
-two : (c : lts.Joined1 (within-reads.Asked, within-reads.Learnt) reads.Pre reads.Post) → c .if1 .if2 ≡ (within 1 mostWords (c .before .before .args .words) && within 1 mostFactor (c .before .before .args .factor))
-two c = ⊎-elim (λ w. w .2 ∙ and-on (c .before .within .ensures) (w .0 .taken) (w .1 .ensures)) (λ w. w .1 ∙ and-off _ (c .before .within .ensures) (w .0 .left)) (c .if1 .came)
+two :
+    (c : lts.Joined1 (within-reads.Asked, within-reads.Learnt) reads.Pre reads.Post)
+    → c .if1 .if2 ≡
+    (within 1 mostWords (c .before .before .args .words) && within 1 mostFactor
+    (c .before .before .args .factor))
+two c =
+    ⊎-elim (λ w. w .2 ∙ and-on (c .before .within .ensures) (w .0 .taken) (w .1 .ensures))
+    (λ w. w .1 ∙ and-off _ (c .before .within .ensures) (w .0 .left)) (c .if1 .came)
 
-three : (c : lts.Joined2 (within-reads.Asked, within-reads.Learnt) reads.Pre reads.Post) → c .if2 .if3 ≡ (within 1 mostWords (c .before .before .before .args .words) && within 1 mostFactor (c .before .before .before .args .factor) && within 1 mostRecords (c .before .before .before .args .records))
-three c = ⊎-elim (λ w. w .2 ∙ and-on (two (c .before)) (w .0 .taken) (w .1 .ensures)) (λ w. w .1 ∙ and-off _ (two (c .before)) (w .0 .left)) (c .if2 .came)
+three :
+    (c : lts.Joined2 (within-reads.Asked, within-reads.Learnt) reads.Pre reads.Post)
+    → c .if2 .if3 ≡
+    (within 1 mostWords (c .before .before .before .args .words) && within 1 mostFactor
+    (c .before .before .before .args .factor) && within 1 mostRecords
+    (c .before .before .before .args .records))
+three c =
+    ⊎-elim (λ w. w .2 ∙ and-on (two (c .before)) (w .0 .taken) (w .1 .ensures))
+    (λ w. w .1 ∙ and-off _ (two (c .before)) (w .0 .left)) (c .if2 .came)
 
 returns : tie.Need-returns
 unfolding inRange

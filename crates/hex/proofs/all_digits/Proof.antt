@@ -23,7 +23,12 @@ value-requires : tie.Need-value-requires Inv-loop μ-loop
 value-requires c κs = search needs
 
 returns : tie.Need-returns Inv-loop μ-loop
-returns c = sym (c .before .before .before .before .loop .inv .1 ∙ digits-stop _ _ (c .before .before .before .loop-test .taken) (rw (c .before .value .ensures .0) at (c .if1 .taken)))
+returns c =
+    let here : tie.At-loop Inv-loop μ-loop = search in let loop = here .loop in
+    sym
+    (loop .inv .1
+    ∙ digits-stop _ _ (c .before .before .before .loop-test .taken)
+    (rw (c .before .value .ensures .0) at (c .if1 .taken)))
 
 add-i : tie.Need-add-i Inv-loop μ-loop
 add-i c = search needs
@@ -32,7 +37,13 @@ loop-less : tie.Need-loop-less Inv-loop μ-loop
 loop-less c = search needs
 
 loop-again : tie.Need-loop-again Inv-loop μ-loop
-loop-again c = (search needs, c .before .before .before .before .loop .inv .1 ∙ digits-step _ _ (c .before .before .before .loop-test .taken) (rw (c .before .value .ensures .0) at (c .if1 .left)))
+loop-again c =
+    let here : tie.At-loop Inv-loop μ-loop = search in let loop = here .loop in (
+      search needs,
+      loop .inv .1
+          ∙ digits-step _ _ (c .before .before .before .loop-test .taken)
+          (rw (c .before .value .ensures .0) at (c .if1 .left)),
+    )
 
 returns-2 : tie.Need-returns-2 Inv-loop μ-loop
 returns-2 c = sym (c .before .loop .inv .1 ∙ digits-end _ _ (c .loop-test .left))

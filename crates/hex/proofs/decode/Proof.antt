@@ -19,10 +19,15 @@ same-length c = search needs
 
 returns : tie.Need-returns
 returns c =
-    let s = c .before .before .before .before .before .before .before .before .args .s .now in
-    let e = sym (c .before .before .before .before .before .is-line .ensures) ∙ c .before .before .before .before .if1 .taken in
-    let l = line-is lineBytes s e in
-    (rw (frame-line _ e) (sym (length-bytes s)), (rw (frame-line _ e) (c .before .before .fill .ensures), omega arith))
+    let here : tie.Then1 = search in let if1 = here .if1 in
+    let here : tie.After-is-line = search in let is-line = here .is-line in
+    let start : tie.Start = search in
+    let s = start .args .s .now in
+    let e = sym (is-line .ensures) ∙ if1 .taken in
+    let l = line-is lineBytes s e in (
+      rw (frame-line _ e) (sym (length-bytes s)),
+      (rw (frame-line _ e) (c .before .before .fill .ensures), omega arith),
+    )
 
 returns-2 : tie.Need-returns-2
 returns-2 c =

@@ -50,8 +50,12 @@ loop-less c = search needs
 
 loop-again : tie.Need-loop-again Inv-loop μ-loop
 loop-again c =
-    let l = c .before .before .before .before .loop in
-    (search needs, search needs, rw (c .before .digit .ensures, c .digit2 .ensures) (sym (encode-step _ (l .out) (l .i) (c .before .before .before .loop-test .taken)) ∙ l .inv .2))
+    let here : tie.At-loop Inv-loop μ-loop = search in let l = here .loop in (
+      search needs,
+      search needs,
+      rw (c .before .digit .ensures, c .digit2 .ensures)
+          (sym (encode-step _ (l .out) (l .i) (c .before .before .before .loop-test .taken)) ∙ l .inv .2),
+    )
 
 mul-result : tie.Need-mul-result Inv-loop μ-loop
 mul-result c = search needs

@@ -10,7 +10,11 @@ use Rattle.hex.proofs.fill.Statement.{statement}
 use Rattle.hex.proofs.fill.Tie as tie
 
 abbrev Inv-loop : tie.InvT-loop
-Inv-loop s out₀ n i₀ out i = (i ≤ n) × (n ≡ length s / 2) × (length out ≡ length out₀) × (sets out i (bytesOf (drop (2 * i) s)) ≡ sets out₀ 0 (bytesOf s))
+Inv-loop s out₀ n i₀ out i =
+    (i ≤ n)
+    × (n ≡ length s / 2)
+    × (length out ≡ length out₀)
+    × (sets out i (bytesOf (drop (2 * i) s)) ≡ sets out₀ 0 (bytesOf s))
 
 abbrev μ-loop : tie.MeasureT-loop
 μ-loop s out₀ n i₀ out i = n - i
@@ -35,9 +39,11 @@ shared-slice-read-b c = search needs
 
 pair-requires : tie.Need-pair-requires Inv-loop μ-loop
 pair-requires c κs =
-    let a = c .before .before .before .before .before .before in
-    let i = c .before .before .before .loop .i in
-    (digits-at (a .args .s .now) (2 * i) (a .pre .0) (omega arith), digits-at (a .args .s .now) (2 * i + 1) (a .pre .0) (omega arith))
+    let a : tie.Start Inv-loop μ-loop = search in
+    let i = c .before .before .before .loop .i in (
+      digits-at (a .args .s .now) (2 * i) (a .pre .0) (omega arith),
+      digits-at (a .args .s .now) (2 * i + 1) (a .pre .0) (omega arith),
+    )
 
 slice-write-out : tie.Need-slice-write-out Inv-loop μ-loop
 slice-write-out c = search needs
@@ -50,18 +56,24 @@ loop-less c = search needs
 
 loop-again : tie.Need-loop-again Inv-loop μ-loop
 loop-again c =
-    let l = c .before .before .before .before .loop in
-    let s = c .before .before .before .before .before .before .before .args .s .now in
-    let h : 2 * l .i + 1 < length s = omega arith in
-    (search needs, l .inv .1, search needs, rw (c .pair .ensures) (sym (fill-step s (l .out) (l .i) h) ∙ l .inv .3))
+    let here : tie.At-loop Inv-loop μ-loop = search in let l = here .loop in
+    let start : tie.Start Inv-loop μ-loop = search in
+    let s = start .args .s .now in
+    let h : 2 * l .i + 1 < length s = omega arith in (
+      search needs,
+      l .inv .1,
+      search needs,
+      rw (c .pair .ensures) (sym (fill-step s (l .out) (l .i) h) ∙ l .inv .3),
+    )
 
 same-length : tie.Need-same-length Inv-loop μ-loop
 same-length c = search needs
 
 returns : tie.Need-returns Inv-loop μ-loop
 returns c =
+    let start : tie.Start Inv-loop μ-loop = search in
     let l = c .before .loop in
-    let s = c .before .before .before .before .args .s .now in
+    let s = start .args .s .now in
     let h : length s ≤ 2 * l .i + 1 = omega arith in
     sym (fill-end s (l .out) (l .i) h) ∙ l .inv .3
 

@@ -29,7 +29,12 @@ same-length : tie.Need-same-length
 same-length c = search needs
 
 returns : tie.Need-returns
-returns c = (omega arith, line-printed _ (c .before .before .before .before .before .before .args .out .now) _ _ _ (c .before .before .encode .ensures .0) (c .before .before .before .before .before .before .pre) (c .before .before .encode .ensures .1))
+returns c =
+    let start : tie.Start = search in (
+      omega arith,
+      line-printed _ (start .args .out .now) _ _ _ (c .before .before .encode .ensures .0) (start .pre)
+          (c .before .before .encode .ensures .1),
+    )
 
 pub line-spec : {M : Type 1} → statement M
 line-spec =

@@ -17,10 +17,14 @@ add-result : tie.Need-add-result
 add-result c = search needs
 
 returns-4 : tie.Need-returns-4
-returns-4 c = omega (arith, value-letter (c .before .before .before .before .args .b) (omega arith) (omega arith))
+returns-4 c =
+    let start : tie.Start = search in
+    omega (arith, value-letter (start .args .b) (omega arith) (omega arith))
 
 returns-5 : tie.Need-returns-5
-returns-5 c = omega (arith, value-over (c .before .before .before .before .args .b) (omega arith))
+returns-5 c =
+    let start : tie.Start = search in
+    omega (arith, value-over (start .args .b) (omega arith))
 
 pub value-spec : {M : Type 1} → statement M
 value-spec = tie.close (tie.spec returns returns-2 returns-3 add-result returns-4 returns-5)

@@ -1,9 +1,6 @@
-use Rattle.memory.specs.Stands.{Bytes}
 use Rattle.words.specs.Word.{zeros}
 use Rattle.lines.proofs.Parts.{frame-decoded, line-asked}
-use Rattle.promises.proofs.Room.{answer-fits}
 use native.Mathlib.Omega.{arith}
-use mathlib.Core.Path.{_≡_, refl, _∙_}
 use borrow.Author.Needs.{needs}
 use Rattle.lines.proofs.answer_line.Statement.{statement}
 use Rattle.lines.proofs.answer_line.Tie as tie
@@ -36,12 +33,19 @@ part-line-start : tie.Need-part-line-start
 part-line-start c = search needs
 
 part-line-end : tie.Need-part-line-end
-unfolding Bytes
-part-line-end c = omega (arith, answer-fits _ _ _ _ _ _ (λ i. c .before .before .before .before .before .before .before .before .before .before .before .before .before .before .before .before .before .before .before .before .before .before .slice-known .given i .fits) (λ i. c .before .before .before .before .before .before .before .before .before .before .before .before .before .before .before .before .before .before .before .before .before .slice-known2 .given i .fits) (λ i. c .before .before .before .before .before .before .before .before .before .before .before .before .before .before .before .before .before .before .before .before .slice-known3 .given i .fits) (c .before .before .before .before .before .before .before .before .event .ensures))
+part-line-end c =
+    let here : tie.After-event = search in let event = here .event in
+    omega (arith, event .ensures .1)
 
 line-requires : tie.Need-line-requires
-unfolding Bytes
-line-requires c κs = omega (arith, answer-fits _ _ _ _ _ _ (λ i. c .before .before .before .before .before .before .before .before .before .before .before .before .before .before .before .before .before .before .before .before .before .before .before .before .slice-known .given i .fits) (λ i. c .before .before .before .before .before .before .before .before .before .before .before .before .before .before .before .before .before .before .before .before .before .before .before .slice-known2 .given i .fits) (λ i. c .before .before .before .before .before .before .before .before .before .before .before .before .before .before .before .before .before .before .before .before .before .before .slice-known3 .given i .fits) (c .before .before .before .before .before .before .before .before .before .before .event .ensures), c .before .before .before .before .before .before .before .before .before .before .before .before .before .before .before .before .before .before .before .before .before .before .before .before .before .pre)
+line-requires c κs =
+    let here : tie.After-event = search in let event = here .event in
+    let start : tie.Start = search in
+    omega (
+      arith,
+      event .ensures .1,
+      start .pre,
+    )
 
 same-length : tie.Need-same-length
 same-length c = search needs
@@ -56,10 +60,17 @@ same-length-4 : tie.Need-same-length-4
 same-length-4 c = search needs
 
 returns : tie.Need-returns
-unfolding zeros Bytes
+unfolding zeros
 returns c =
-    let fits = answer-fits _ _ _ _ _ _ (λ i. c .before .before .before .before .before .before .before .before .before .before .before .before .before .before .before .before .before .before .before .before .before .before .before .before .before .before .before .slice-known .given i .fits) (λ i. c .before .before .before .before .before .before .before .before .before .before .before .before .before .before .before .before .before .before .before .before .before .before .before .before .before .before .slice-known2 .given i .fits) (λ i. c .before .before .before .before .before .before .before .before .before .before .before .before .before .before .before .before .before .before .before .before .before .before .before .before .before .slice-known3 .given i .fits) (c .before .before .before .before .before .before .before .before .before .before .before .before .before .event .ensures) in
-    ((omega (arith, c .before .before .line .ensures .0), omega (arith, c .before .before .line .ensures .0, fits)), line-asked _ _ _ _ _ _ _ _ _ _ _ _ _ _ (c .before .before .before .before .before .before .before .before .before .before .before .before .before .event .ensures) (frame-decoded _ _ _ _ (c .before .before .before .before .before .before .before .before .before .before .before .before .before .before .before .before .before .before .before .before .before .decode .ensures .0) (c .before .before .before .before .before .before .before .before .before .before .before .before .before .before .before .before .before .before .before .before .before .decode .ensures .1 .0) (c .before .before .before .before .before .before .before .before .before .before .before .before .before .before .before .before .before .before .before .before .before .decode .ensures .1 .1)) (c .before .before .line .ensures .1) (omega (arith, c .before .before .line .ensures .0, fits)))
+    let here : tie.After-line = search in let line = here .line in
+    let here : tie.After-event = search in let event = here .event in
+    let here : tie.After-decode = search in let decode = here .decode in
+    let fits = event .ensures .1 in (
+      (omega (arith, line .ensures .0), omega (arith, line .ensures .0, fits)),
+      line-asked _ _ _ _ _ _ _ _ _ _ _ _ _ _ (event .ensures .0)
+          (frame-decoded _ _ _ _ (decode .ensures .0) (decode .ensures .1 .0) (decode .ensures .1 .1))
+          (line .ensures .1) (omega (arith, line .ensures .0, fits)),
+    )
 
 pub answer-line-spec : {M : Type 1} → statement M
 answer-line-spec =

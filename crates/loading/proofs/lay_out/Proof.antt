@@ -28,7 +28,12 @@ same-length-3 : tie.Need-same-length-3
 same-length-3 c = search needs
 
 returns : tie.Need-returns
-returns c = λ s e. lays _ s _ _ _ _ _ _ _ (c .before .before .before .before .before .before .before .before .before .before .before .pack .ensures .0 s e) (c .before .before .put-file .ensures) (c .before .before .before .before .before .before .before .before .before .before .before .pack .ensures .1 s e) (c .before .before .before .before .before .before .zero .ensures)
+returns c =
+    let here : tie.After-zero = search in let zero = here .zero in
+    let here : tie.After-pack = search in let pack = here .pack in
+    λ s e.
+    lays _ s _ _ _ _ _ _ _ (pack .ensures s e .0) (c .before .before .put-file .ensures) (pack .ensures s e .1)
+    (zero .ensures)
 
 pub lay-out-spec : {M : Type 1} → statement M
 lay-out-spec =

@@ -1,17 +1,13 @@
+-- `take_file` meets its contract: an answer to each need, in the order of the code.
 use Rattle.midst.specs.File.{fileOfRow}
 use mathlib.Core.Path.{ap}
 use borrow.Author.Needs.{needs}
 use Rattle.midst.proofs.take_file.Statement.{statement}
 use Rattle.midst.proofs.take_file.Tie as tie
-use Rattle.midst.proofs.take_file.Reads as reads
-use Rattle.midst.proofs.take_file.Lts as lts
-use Rattle.segment.proofs.read_file.Reads as read-file-reads
 
--- src/lib.rt:24:9
 read-file-requires : tie.Need-read-file-requires
 read-file-requires c κs = search needs
 
--- src/lib.rt:19:1
 returns : tie.Need-returns
 returns c = ap fileOfRow (c .read-file .ensures)
 

@@ -14,7 +14,9 @@ same-length c = search needs
 
 returns : tie.Need-returns
 unfolding append
-returns c = rw (c .before .before .insert-at .ensures, c .before .before .before .before .end-slot .ensures .0)
+returns c =
+    let here : tie.After-end-slot = search in let end-slot = here .end-slot in
+    rw (c .before .before .insert-at .ensures, end-slot .ensures .0)
 
 pub append-to-spec : {M : Type 1} → statement M
 append-to-spec = tie.close (tie.spec end-slot-requires insert-at-requires same-length returns)

@@ -20,7 +20,11 @@ same-length c = search needs
 
 returns : tie.Need-returns
 unfolding insert
-returns c = rw (c .before .before .put2 .ensures, c .before .before .before .before .before .before .put .ensures, c .before .before .before .before .before .before .before .link-at .ensures .0, c .before .before .before .before .before .before .before .before .before .get .ensures)
+returns c =
+    let here : tie.After-put = search in let put = here .put in
+    let here : tie.After-link-at = search in let link-at = here .link-at in
+    let here : tie.After-get = search in let get = here .get in
+    rw (c .before .before .put2 .ensures, put .ensures, link-at .ensures .0, get .ensures)
 
 pub insert-at-spec : {M : Type 1} → statement M
 insert-at-spec =

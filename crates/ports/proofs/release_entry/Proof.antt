@@ -15,7 +15,9 @@ same-length c = search needs
 
 returns : tie.Need-returns
 unfolding released entryWords
-returns c = rw (c .before .before .insert-at .ensures, c .before .before .before .before .before .before .write-entry .ensures)
+returns c =
+    let here : tie.After-write-entry = search in let write-entry = here .write-entry in
+    rw (c .before .before .insert-at .ensures, write-entry .ensures)
 
 pub release-entry-spec : {M : Type 1} → statement M
 release-entry-spec =

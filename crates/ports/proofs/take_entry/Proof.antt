@@ -16,14 +16,26 @@ same-length c = search needs
 
 returns : tie.Need-returns
 unfolding taken
-returns c = (c .before .before .before .before .before .before .before .unlink-at .ensures .0, rw (c .before .before .write-entry .ensures, c .before .before .before .before .before .before .before .unlink-at .ensures .1, ← c .before .before .before .before .before .before .before .unlink-at .ensures .0, lt-ltb _ _ (c .before .before .before .before .if1 .taken)))
+returns c =
+    let here : tie.Then1 = search in let if1 = here .if1 in
+    let here : tie.After-unlink-at = search in let unlink-at = here .unlink-at in (
+      unlink-at .ensures .0,
+      rw (
+        c .before .before .write-entry .ensures,
+        unlink-at .ensures .1,
+        ← unlink-at .ensures .0,
+        lt-ltb _ _ (if1 .taken),
+      ),
+    )
 
 same-length-2 : tie.Need-same-length-2
 same-length-2 c = search needs
 
 returns-2 : tie.Need-returns-2
 unfolding taken unlink
-returns-2 c = (c .before .before .before .unlink-at .ensures .0, c .before .before .before .unlink-at .ensures .1 ∙ rw (← c .before .before .before .unlink-at .ensures .0, le-ltb _ _ (c .if1 .left)))
+returns-2 c =
+    let here : tie.After-unlink-at = search in let unlink-at = here .unlink-at in
+    (unlink-at .ensures .0, unlink-at .ensures .1 ∙ rw (← unlink-at .ensures .0, le-ltb _ _ (c .if1 .left)))
 
 pub take-entry-spec : {M : Type 1} → statement M
 take-entry-spec =

@@ -21,7 +21,20 @@ same-length c = search needs
 
 returns : tie.Need-returns
 unfolding unlink
-returns c = (c .before .before .before .before .before .before .before .before .get .ensures, rw (c .before .before .put .ensures, c .before .before .before .before .get2 .ensures, c .before .before .before .before .before .link-at .ensures .0, ← c .before .before .before .before .before .before .before .before .get .ensures, lt-ltb _ _ (c .before .before .before .before .before .before .before .if1 .taken)))
+returns c =
+    let here : tie.After-get2 = search in let get2 = here .get2 in
+    let here : tie.After-link-at = search in let link-at = here .link-at in
+    let here : tie.Then1 = search in let if1 = here .if1 in
+    let here : tie.After-get = search in let get = here .get in (
+      get .ensures,
+      rw (
+        c .before .before .put .ensures,
+        get2 .ensures,
+        link-at .ensures .0,
+        ← get .ensures,
+        lt-ltb _ _ (if1 .taken),
+      ),
+    )
 
 same-length-2 : tie.Need-same-length-2
 same-length-2 c = search needs

@@ -1,6 +1,6 @@
 use mathlib.Core.Path.{sym, _∙_}
 use borrow.Author.Tests.{not-true, not-false}
-use Rattle.geometry.proofs.Sizes.{in-range-is, fits-few}
+use Rattle.geometry.proofs.Sizes.{in-range-is}
 use Rattle.reader.proofs.Heads.{numbers-range, numbers-share, numbers-held, numbers-room}
 use borrow.Author.Needs.{needs}
 use Rattle.reader.proofs.good_numbers.Statement.{statement}
@@ -13,19 +13,31 @@ returns : tie.Need-returns
 returns c = sym (numbers-range _ _ _ _ (sym (c .before .in-range .ensures) ∙ not-true _ (c .if1 .taken)))
 
 fits-share-requires : tie.Need-fits-share-requires
-fits-share-requires c κs = let p = in-range-is _ _ 1 1 (sym (c .before .in-range .ensures) ∙ not-false _ (c .if1 .left)) in (p .0 .1, p .1 .1)
+fits-share-requires c κs =
+    let p = in-range-is _ _ 1 1 (sym (c .before .in-range .ensures) ∙ not-false _ (c .if1 .left)) in
+    (p .0 .1, p .1 .1)
 
 returns-2 : tie.Need-returns-2
 returns-2 c = sym (numbers-share _ _ _ _ (sym (c .before .fits-share .ensures) ∙ not-true _ (c .if2 .taken)))
 
 capacity-requires : tie.Need-capacity-requires
-capacity-requires c κs = let p = in-range-is _ _ 1 1 (sym (c .before .before .before .in-range .ensures) ∙ not-false _ (c .before .before .if1 .left)) in (p .1 .1, fits-few _ _ _ (sym (c .before .fits-share .ensures) ∙ not-false _ (c .if2 .left)))
+capacity-requires c κs = search needs
 
 returns-3 : tie.Need-returns-3
-returns-3 c = numbers-held _ _ _ _ _ (sym (c .before .before .before .before .before .in-range .ensures) ∙ not-false _ (c .before .before .before .before .if1 .left)) (sym (c .before .before .before .fits-share .ensures) ∙ not-false _ (c .before .before .if2 .left)) (c .before .capacity .ensures) (c .if3 .taken)
+returns-3 c =
+    let here : tie.Else1 = search in let if1 = here .if1 in
+    let here : tie.After-in-range = search in let in-range = here .in-range in
+    numbers-held _ _ _ _ _ (sym (in-range .ensures) ∙ not-false _ (if1 .left))
+    (sym (c .before .before .before .fits-share .ensures) ∙ not-false _ (c .before .before .if2 .left))
+    (c .before .capacity .ensures) (c .if3 .taken)
 
 returns-4 : tie.Need-returns-4
-returns-4 c = numbers-room _ _ _ _ _ (sym (c .before .before .before .before .before .in-range .ensures) ∙ not-false _ (c .before .before .before .before .if1 .left)) (sym (c .before .before .before .fits-share .ensures) ∙ not-false _ (c .before .before .if2 .left)) (c .before .capacity .ensures) (c .if3 .left)
+returns-4 c =
+    let here : tie.Else1 = search in let if1 = here .if1 in
+    let here : tie.After-in-range = search in let in-range = here .in-range in
+    numbers-room _ _ _ _ _ (sym (in-range .ensures) ∙ not-false _ (if1 .left))
+    (sym (c .before .before .before .fits-share .ensures) ∙ not-false _ (c .before .before .if2 .left))
+    (c .before .capacity .ensures) (c .if3 .left)
 
 pub good-numbers-spec : {M : Type 1} → statement M
 good-numbers-spec =

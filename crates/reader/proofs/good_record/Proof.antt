@@ -23,7 +23,13 @@ most-size-requires : tie.Need-most-size-requires
 most-size-requires c κs = search needs
 
 returns-4 : tie.Need-returns-4
-returns-4 c = rw (c .most-size .ensures, c .before .before .before .before .get .ensures) (sym (rec-size _ _ (c .before .before .before .before .before .if1 .left) (rw (c .before .before .before .before .get .ensures) at (c .before .before .before .if2 .left)) (rw (c .before .before .get2 .ensures) at (c .before .if3 .left))))
+returns-4 c =
+    let here : tie.After-get = search in let get = here .get in
+    let here : tie.Else1 = search in let if1 = here .if1 in
+    rw (c .most-size .ensures, get .ensures)
+    (sym
+    (rec-size _ _ (if1 .left) (rw (get .ensures) at (c .before .before .before .if2 .left))
+    (rw (c .before .before .get2 .ensures) at (c .before .if3 .left))))
 
 pub good-record-spec : {M : Type 1} → statement M
 good-record-spec =

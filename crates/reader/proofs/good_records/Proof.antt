@@ -11,7 +11,10 @@ use Rattle.reader.proofs.good_records.Statement.{statement}
 use Rattle.reader.proofs.good_records.Tie as tie
 
 abbrev Inv-loop : tie.InvT-loop
-Inv-loop text words start held frame₀ at₀ left₀ frame at left = (at ≤ length text) × (length frame ≡ length frame₀) × (goodFrom words text start held ≡ goodFrom words text at left)
+Inv-loop text words start held frame₀ at₀ left₀ frame at left =
+    (at ≤ length text)
+    × (length frame ≡ length frame₀)
+    × (goodFrom words text start held ≡ goodFrom words text at left)
 
 abbrev μ-loop : tie.MeasureT-loop
 μ-loop text words start held frame₀ at₀ left₀ frame at left = left
@@ -39,9 +42,13 @@ same-length c = search needs
 
 returns : tie.Need-returns Inv-loop μ-loop
 returns c =
-    let l = c .before .before .before .before .before .before .before .before .before .loop in
-    let n = c .before .before .before .before .before .before .next-frame in
-    sym (l .inv .2 ∙ round-bad _ _ _ _ _ _ _ (c .before .before .before .before .before .before .before .before .loop-test .taken) (n .ensures .0) (n .ensures .1 .0) (omega arith) (c .before .good-record .ensures) (not-true _ (c .if1 .taken)))
+    let here : tie.After-next-frame Inv-loop μ-loop = search in let n = here .next-frame in
+    let here : tie.In-loop Inv-loop μ-loop = search in let loop-test = here .loop-test in
+    let here : tie.At-loop Inv-loop μ-loop = search in let l = here .loop in
+    sym
+    (l .inv .2
+    ∙ round-bad _ _ _ _ _ _ _ (loop-test .taken) (n .ensures .0) (n .ensures .1 .0) (omega arith)
+    (c .before .good-record .ensures) (not-true _ (c .if1 .taken)))
 
 sub-left : tie.Need-sub-left Inv-loop μ-loop
 sub-left c = search needs
@@ -51,9 +58,15 @@ loop-less c = search needs
 
 loop-again : tie.Need-loop-again Inv-loop μ-loop
 loop-again c =
-    let l = c .before .before .before .before .before .before .before .before .before .loop in
-    let n = c .before .before .before .before .before .before .next-frame in
-    (search needs, search needs, l .inv .2 ∙ round-on _ _ _ _ _ _ _ (c .before .before .before .before .before .before .before .before .loop-test .taken) (n .ensures .0) (n .ensures .1 .0) (omega arith) (c .before .good-record .ensures) (not-false _ (c .if1 .left)))
+    let here : tie.After-next-frame Inv-loop μ-loop = search in let n = here .next-frame in
+    let here : tie.In-loop Inv-loop μ-loop = search in let loop-test = here .loop-test in
+    let here : tie.At-loop Inv-loop μ-loop = search in let l = here .loop in (
+      search needs,
+      search needs,
+      l .inv .2
+          ∙ round-on _ _ _ _ _ _ _ (loop-test .taken) (n .ensures .0) (n .ensures .1 .0) (omega arith)
+          (c .before .good-record .ensures) (not-false _ (c .if1 .left)),
+    )
 
 same-length-2 : tie.Need-same-length-2 Inv-loop μ-loop
 same-length-2 c = search needs

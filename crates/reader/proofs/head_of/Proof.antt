@@ -39,10 +39,22 @@ no-head-requires-3 : tie.Need-no-head-requires-3
 no-head-requires-3 c κs = search needs
 
 returns-3 : tie.Need-returns-3
-returns-3 c = c .no-head3 .ensures ∙ sym (says-bad _ _ _ _ _ (c .before .before .before .before .before .before .get .ensures) (c .before .before .before .before .get2 .ensures) (c .before .before .before .get3 .ensures) (sym (c .before .before .good-numbers .ensures) ∙ not-true _ (c .before .if3 .taken)))
+returns-3 c =
+    let here : tie.After-get2 = search in let get2 = here .get2 in
+    let here : tie.After-get = search in let get = here .get in
+    c .no-head3 .ensures
+    ∙ sym
+    (says-bad _ _ _ _ _ (get .ensures) (get2 .ensures) (c .before .before .before .get3 .ensures)
+    (sym (c .before .before .good-numbers .ensures) ∙ not-true _ (c .before .if3 .taken)))
 
 returns-4 : tie.Need-returns-4
-returns-4 c = says-good _ _ _ _ _ (c .before .before .before .before .before .get .ensures) (c .before .before .before .get2 .ensures) (c .before .before .get3 .ensures) (c .before .before .before .before .before .before .before .before .if1 .left) (c .before .before .before .before .before .before .if2 .left) (sym (c .before .good-numbers .ensures) ∙ not-false _ (c .if3 .left))
+returns-4 c =
+    let here : tie.After-get = search in let get = here .get in
+    let here : tie.Else2 = search in let if2 = here .if2 in
+    let here : tie.Else1 = search in let if1 = here .if1 in
+    says-good _ _ _ _ _ (get .ensures) (c .before .before .before .get2 .ensures)
+    (c .before .before .get3 .ensures) (if1 .left) (if2 .left)
+    (sym (c .before .good-numbers .ensures) ∙ not-false _ (c .if3 .left))
 
 pub head-of-spec : {M : Type 1} → statement M
 head-of-spec =

@@ -17,7 +17,10 @@ good-records-requires : tie.Need-good-records-requires
 good-records-requires c κs = search needs
 
 returns-2 : tie.Need-returns-2
-returns-2 c = rw (c .before .before .before .before .before .read-head .ensures .0) at (c .before .good-records .ensures) ∙ sym (sheet-some _ (rw (c .before .before .before .before .before .read-head .ensures .0) at (c .before .before .before .if1 .left)))
+returns-2 c =
+    let here : tie.After-read-head = search in let read-head = here .read-head in
+    rw (read-head .ensures .0) at (c .before .good-records .ensures)
+    ∙ sym (sheet-some _ (rw (read-head .ensures .0) at (c .before .before .before .if1 .left)))
 
 pub is-sheet-spec : {M : Type 1} → statement M
 is-sheet-spec =

@@ -11,7 +11,8 @@ line-end-requires c κs = search needs
 
 returns : tie.Need-returns
 returns c =
-    let e = next-none _ _ _ (c .before .line-end .ensures .0) (c .before .before .before .before .pre .0) (c .if1 .taken) in
+    let start : tie.Start = search in
+    let e = next-none _ _ _ (c .before .line-end .ensures .0) (start .pre .0) (c .if1 .taken) in
     (next-is _ _ _ (sym (ap length (e .0))) (sym (e .1)), (rw (e .0), (omega arith, omega arith)))
 
 sub-decode : tie.Need-sub-decode
@@ -34,8 +35,12 @@ same-length c = search needs
 
 returns-2 : tie.Need-returns-2
 returns-2 c =
-    let e = next-line _ _ _ (c .before .before .before .before .before .before .line-end .ensures .0) (c .before .before .before .before .before .before .line-end .ensures .1) (omega arith) in
-    (next-is _ _ _ (rw (e .0) (c .before .before .decode .ensures .0)) (sym (e .1)), (rw (e .0) (c .before .before .decode .ensures .1 .0), (c .before .before .decode .ensures .1 .1, omega arith)))
+    let here : tie.After-decode = search in let decode = here .decode in
+    let here : tie.After-line-end = search in let line-end = here .line-end in
+    let e = next-line _ _ _ (line-end .ensures .0) (line-end .ensures .1) (omega arith) in (
+      next-is _ _ _ (rw (e .0) (decode .ensures .0)) (sym (e .1)),
+      (rw (e .0) (decode .ensures .1 .0), (decode .ensures .1 .1, omega arith)),
+    )
 
 pub next-frame-spec : {M : Type 1} → statement M
 next-frame-spec =

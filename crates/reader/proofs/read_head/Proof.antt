@@ -23,7 +23,11 @@ head-of-requires : tie.Need-head-of-requires
 head-of-requires c κs = search needs
 
 returns : tie.Need-returns
-returns c = let e = head-read _ _ _ _ _ (c .before .before .before .before .next-frame .ensures .0) (c .before .before .before .before .next-frame .ensures .1 .0) (omega arith) (c .head-of .ensures) in (e, rw e (head-within _))
+returns c =
+    let here : tie.After-next-frame = search in let next-frame = here .next-frame in
+    let e = head-read _ _ _ _ _ (next-frame .ensures .0) (next-frame .ensures .1 .0) (omega arith)
+    (c .head-of .ensures) in
+    (e, rw e (head-within _))
 
 pub read-head-spec : {M : Type 1} → statement M
 read-head-spec =

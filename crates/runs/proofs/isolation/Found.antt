@@ -18,7 +18,7 @@ use Rattle.laws.specs.Runs.{names, theirs}
 use Rattle.laws.proofs.Isolation.{length-answered}
 use Rattle.laws.proofs.Proper.{asked-proper}
 use Rattle.midst.specs.Outcome.{replyStatus}
-use Rattle.midst.proofs.Keeps.{answered-fine}
+use Rattle.midst.proofs.StaysFine.{answered-fine}
 use Rattle.promises.specs.Promise.{HostCall, fresh, event, look, save, load, Given, givenStatus, givenSize, givenMemory, answered, shown, said}
 use Rattle.promises.proofs.Room.{event-fits}
 use Rattle.promises.proofs.Fits.{FineDesk, look-fits, save-fits}

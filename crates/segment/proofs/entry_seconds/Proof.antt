@@ -1,6 +1,7 @@
 use mathlib.Core.Path.{sym, _∙_}
 use native.Mathlib.Omega.{arith}
 use borrow.Author.Needs.{needs}
+use Rattle.segment.specs.Layout.{dataWords}
 use Rattle.segment.specs.Table.{dataOf}
 use Rattle.segment.specs.Fields.{entryAt, entryOf}
 use Rattle.segment.proofs.Rows.{row-at}
@@ -18,7 +19,10 @@ get-requires c κs = search needs
 
 returns : tie.Need-returns
 unfolding entryAt entryOf dataOf
-returns c = c .get .ensures ∙ rw (c .before .data-at .ensures .0) (sym (row-at (c .before .before .before .args .s .now) _ 9 7 (omega arith)))
+returns c =
+    c .get .ensures
+    ∙ rw (c .before .data-at .ensures .0)
+    (sym (row-at (c .before .before .before .args .s .now) _ dataWords 7 (omega arith)))
 
 pub entry-seconds-spec : {M : Type 1} → statement M
 entry-seconds-spec = tie.close (tie.spec data-at-requires add-get get-requires returns)

@@ -1,6 +1,7 @@
 use mathlib.Core.Path.{sym, _∙_}
 use native.Mathlib.Omega.{arith}
 use borrow.Author.Needs.{needs}
+use Rattle.segment.specs.Layout.{placeWidth}
 use Rattle.segment.specs.Fields.{placeAt, placeRowOf}
 use Rattle.segment.proofs.Rows.{row-at}
 use Rattle.segment.proofs.place_side.Statement.{statement}
@@ -17,7 +18,10 @@ get-requires c κs = search needs
 
 returns : tie.Need-returns
 unfolding placeAt placeRowOf
-returns c = c .get .ensures ∙ rw (c .before .place-at .ensures .0) (sym (row-at (c .before .before .before .args .s .now) _ 8 0 (omega arith)))
+returns c =
+    c .get .ensures
+    ∙ rw (c .before .place-at .ensures .0)
+    (sym (row-at (c .before .before .before .args .s .now) _ placeWidth 0 (omega arith)))
 
 pub place-side-spec : {M : Type 1} → statement M
 place-side-spec = tie.close (tie.spec place-at-requires add-get get-requires returns)

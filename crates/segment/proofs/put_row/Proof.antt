@@ -36,7 +36,13 @@ loop-less : tie.Need-loop-less Inv-loop μ-loop
 loop-less c = search needs
 
 loop-again : tie.Need-loop-again Inv-loop μ-loop
-loop-again c = (search needs, rw (c .before .before .put .ensures) (fill-turn _ _ _ _ (c .before .before .before .before .before .loop-test .taken)) ∙ c .before .before .before .before .before .before .loop .inv .1, search needs)
+loop-again c =
+    let here : tie.In-loop Inv-loop μ-loop = search in let loop-test = here .loop-test in
+    let here : tie.At-loop Inv-loop μ-loop = search in let loop = here .loop in (
+      search needs,
+      rw (c .before .before .put .ensures) (fill-turn _ _ _ _ (loop-test .taken)) ∙ loop .inv .1,
+      search needs,
+    )
 
 same-length : tie.Need-same-length Inv-loop μ-loop
 same-length c = search needs

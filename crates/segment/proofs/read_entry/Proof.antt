@@ -1,59 +1,66 @@
 use Prim.Native.Nat.{ℕ}
-use mathlib.Core.Path.{ap, sym, _∙_}
+use mathlib.Core.Path.{ap, _∙_}
 use borrow.Author.Needs.{needs}
-use Rattle.segment.specs.Layout.{rowWords}
-use Rattle.segment.specs.Table.{row}
-use Rattle.segment.specs.Fields.{entryOf}
-use Rattle.segment.proofs.Fields.{entryAt-eight}
+use Rattle.segment.specs.Layout.{dataWords}
+use Rattle.segment.specs.Table.{row, dataOf}
+use Rattle.segment.specs.Fields.{entryAt, entryOf}
 use Rattle.segment.proofs.read_entry.Statement.{statement}
 use Rattle.segment.proofs.read_entry.Tie as tie
 
 data-at-requires : tie.Need-data-at-requires
 data-at-requires c κs = search needs
 
+slice-aggregate-get-row : tie.Need-slice-aggregate-get-row
+slice-aggregate-get-row c = search needs
+
 get-row-requires : tie.Need-get-row-requires
 get-row-requires c κs = search needs
 
-array-read-t8 : tie.Need-array-read-t8
-array-read-t8 c = search needs
+array-read-t10 : tie.Need-array-read-t10
+array-read-t10 c = search needs
 
-array-read-t11 : tie.Need-array-read-t11
-array-read-t11 c = search needs
+array-read-t13 : tie.Need-array-read-t13
+array-read-t13 c = search needs
 
-array-read-t14 : tie.Need-array-read-t14
-array-read-t14 c = search needs
+array-read-t16 : tie.Need-array-read-t16
+array-read-t16 c = search needs
 
-array-read-t17 : tie.Need-array-read-t17
-array-read-t17 c = search needs
+array-read-t19 : tie.Need-array-read-t19
+array-read-t19 c = search needs
 
-array-read-t20 : tie.Need-array-read-t20
-array-read-t20 c = search needs
+array-read-t22 : tie.Need-array-read-t22
+array-read-t22 c = search needs
 
-array-read-t23 : tie.Need-array-read-t23
-array-read-t23 c = search needs
+array-read-t25 : tie.Need-array-read-t25
+array-read-t25 c = search needs
 
-array-read-t26 : tie.Need-array-read-t26
-array-read-t26 c = search needs
+array-read-t28 : tie.Need-array-read-t28
+array-read-t28 c = search needs
 
-array-read-t29 : tie.Need-array-read-t29
-array-read-t29 c = search needs
+array-read-t31 : tie.Need-array-read-t31
+array-read-t31 c = search needs
 
 returns : tie.Need-returns
-unfolding entryOf
-returns c = ap entryOf (c .get-row .ensures ∙ ap (λ (k : ℕ). row (c .before .before .before .args .s .now) k rowWords) (c .before .data-at .ensures .0)) ∙ sym (entryAt-eight (c .before .before .before .args .s .now) (c .before .before .before .args .e))
+unfolding entryAt entryOf dataOf
+returns c =
+    let start : tie.Start = search in
+    ap entryOf
+    (c .before .get-row .ensures
+    ∙ ap (λ (k : ℕ). row (start .args .s .now) k dataWords) (c .before .before .before .data-at .ensures .0))
 
 pub read-entry-spec : {M : Type 1} → statement M
 read-entry-spec =
     tie.close
     (tie.spec
     data-at-requires
+    slice-aggregate-get-row
     get-row-requires
-    array-read-t8
-    array-read-t11
-    array-read-t14
-    array-read-t17
-    array-read-t20
-    array-read-t23
-    array-read-t26
-    array-read-t29
+    array-read-t10
+    array-read-t13
+    array-read-t16
+    array-read-t19
+    array-read-t22
+    array-read-t25
+    array-read-t28
+    array-read-t31
     returns)

@@ -18,7 +18,9 @@ same-length c = search needs
 
 returns : tie.Need-returns
 unfolding putData entryWords
-returns c = rw (← c .before .before .before .before .data-at .ensures .0) (c .before .before .put-row .ensures)
+returns c =
+    let here : tie.After-data-at = search in let data-at = here .data-at in
+    rw (← data-at .ensures .0) (c .before .before .put-row .ensures)
 
 pub write-entry-spec : {M : Type 1} → statement M
 write-entry-spec =

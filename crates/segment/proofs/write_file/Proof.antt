@@ -17,7 +17,9 @@ same-length c = search needs
 
 returns : tie.Need-returns
 unfolding fileWords
-returns c = rw (← c .before .before .before .before .file-at .ensures .0) (c .before .before .put-row .ensures)
+returns c =
+    let here : tie.After-file-at = search in let file-at = here .file-at in
+    rw (← file-at .ensures .0) (c .before .before .put-row .ensures)
 
 pub write-file-spec : {M : Type 1} → statement M
 write-file-spec =

@@ -17,7 +17,9 @@ same-length c = search needs
 
 returns : tie.Need-returns
 unfolding placeWords
-returns c = rw (← c .before .before .before .before .place-at .ensures .0) (c .before .before .put-row .ensures)
+returns c =
+    let here : tie.After-place-at = search in let place-at = here .place-at in
+    rw (← place-at .ensures .0) (c .before .before .put-row .ensures)
 
 pub write-place-spec : {M : Type 1} → statement M
 write-place-spec =

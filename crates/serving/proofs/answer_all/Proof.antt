@@ -55,7 +55,15 @@ same-length-6 : tie.Need-same-length-6 Inv-loop μ-loop
 same-length-6 c = search needs
 
 returns : tie.Need-returns Inv-loop μ-loop
-returns c = ((λ d s h. let t = c .before .before .before .before .before .before .before .before .before .before .before .before .before .before .before .before .before .before .before .before .before .before .loop .inv .7 d s h in let u = turned-on (begun d s) _ _ _ _ _ _ _ _ _ _ _ _ _ t (c .before .before .before .before .before .before .before .before .before .before .before .before .before .before .answer-read .ensures .1 .0 _ (t .on refl)) in (u .text, u .stands)), kept-on _ _ _ _ _ _ _ _ _ (c .before .before .before .before .before .before .before .before .before .before .before .before .before .before .before .before .before .before .before .before .before .before .loop .inv .8) (c .before .before .before .before .before .before .before .before .before .before .before .before .before .before .answer-read .ensures .1 .1))
+returns c =
+    let here : tie.After-answer-read Inv-loop μ-loop = search in let answer-read = here .answer-read in
+    let here : tie.At-loop Inv-loop μ-loop = search in let loop = here .loop in (
+      (λ d s h.
+          let t = loop .inv .7 d s h in
+          let u = turned-on (begun d s) _ _ _ _ _ _ _ _ _ _ _ _ _ t (answer-read .ensures .1 .0 _ (t .on refl)) in
+          (u .text, u .stands)),
+      kept-on _ _ _ _ _ _ _ _ _ (loop .inv .8) (answer-read .ensures .1 .1),
+    )
 
 sub-reads : tie.Need-sub-reads Inv-loop μ-loop
 sub-reads c = search needs
@@ -64,7 +72,22 @@ loop-less : tie.Need-loop-less Inv-loop μ-loop
 loop-less c = search needs
 
 loop-again : tie.Need-loop-again Inv-loop μ-loop
-loop-again c = (search needs, search needs, search needs, search needs, search needs, search needs, omega (arith, c .before .before .before .before .before .before .before .before .before .before .before .before .before .before .answer-read .ensures .0), (λ d s h. let t = c .before .before .before .before .before .before .before .before .before .before .before .before .before .before .before .before .before .before .before .before .before .before .loop .inv .7 d s h in let u = turned-on (begun d s) _ _ _ _ _ _ _ _ _ _ _ _ _ t (c .before .before .before .before .before .before .before .before .before .before .before .before .before .before .answer-read .ensures .1 .0 _ (t .on refl)) in record { text = u .text; stands = u .stands; on = λ _. u .on (not-false _ (c .if1 .left)) }), kept-on _ _ _ _ _ _ _ _ _ (c .before .before .before .before .before .before .before .before .before .before .before .before .before .before .before .before .before .before .before .before .before .before .loop .inv .8) (c .before .before .before .before .before .before .before .before .before .before .before .before .before .before .answer-read .ensures .1 .1))
+loop-again c =
+    let here : tie.After-answer-read Inv-loop μ-loop = search in let answer-read = here .answer-read in
+    let here : tie.At-loop Inv-loop μ-loop = search in let loop = here .loop in (
+      search needs,
+      search needs,
+      search needs,
+      search needs,
+      search needs,
+      search needs,
+      omega (arith, answer-read .ensures .0),
+      (λ d s h.
+          let t = loop .inv .7 d s h in
+          let u = turned-on (begun d s) _ _ _ _ _ _ _ _ _ _ _ _ _ t (answer-read .ensures .1 .0 _ (t .on refl)) in
+          record { text = u .text; stands = u .stands; on = λ _. u .on (not-false _ (c .if1 .left)) }),
+      kept-on _ _ _ _ _ _ _ _ _ (loop .inv .8) (answer-read .ensures .1 .1),
+    )
 
 same-length-7 : tie.Need-same-length-7 Inv-loop μ-loop
 same-length-7 c = search needs

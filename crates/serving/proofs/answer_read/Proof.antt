@@ -1,133 +1,119 @@
+-- `answer_read` meets its contract: an answer to each need, in the order of the code.
 use native.Mathlib.Omega.{arith}
 use borrow.Author.Needs.{needs}
 use mathlib.Core.Path.{refl}
 use Rattle.serving.proofs.Turns.{turned-last, failed-behind, ends-behind, chunk-turned}
 use Rattle.serving.proofs.answer_read.Statement.{statement}
 use Rattle.serving.proofs.answer_read.Tie as tie
-use Rattle.serving.proofs.answer_read.Reads as reads
-use Rattle.serving.proofs.answer_read.Lts as lts
-use Rattle.io.proofs.count.Reads as count-reads
-use Rattle.libc.proofs.read.Reads as read-reads
-use Rattle.serving.proofs.answer_chunk.Reads as answer-chunk-reads
-use Rattle.serving.proofs.feeding.finish.Reads as finish-reads
-use Rattle.serving.proofs.last.Reads as last-reads
-use Rattle.serving.proofs.print.Reads as print-reads
 
--- src/lib.rt:91:9
 read-requires : tie.Need-read-requires
 read-requires c κs = search needs
 
--- src/lib.rt:93:9
 last-requires : tie.Need-last-requires
 last-requires c κs = search needs
 
--- src/lib.rt:93:9
 same-length : tie.Need-same-length
 same-length c = search needs
 
--- src/lib.rt:93:9
 returns : tie.Need-returns
-returns c = (omega (arith, c .last .ensures .0), ((λ g a. turned-last g _ _ _ _ _ _ _ (c .last .ensures .1) (failed-behind g _ _ _ _ _ _ _ a)), λ _. (refl, refl, refl)))
+returns c = (
+  omega (arith, c .last .ensures .0),
+  (
+    (λ g a. turned-last g _ _ _ _ _ _ _ (c .last .ensures .1) (failed-behind g _ _ _ _ _ _ _ a)),
+    λ _. (refl, refl, refl),
+  ),
+)
 
--- src/lib.rt:96:13
 finish-requires : tie.Need-finish-requires
 finish-requires c κs = search needs
 
--- src/lib.rt:97:22
 sub-print : tie.Need-sub-print
 sub-print c = search needs
 
--- src/lib.rt:97:22
 part-print-start : tie.Need-part-print-start
 part-print-start c = search needs
 
--- src/lib.rt:97:22
 part-print-end : tie.Need-part-print-end
 part-print-end c = search needs
 
--- src/lib.rt:97:9
 print-requires : tie.Need-print-requires
 print-requires c κs = search needs
 
--- src/lib.rt:98:9
 last-requires-2 : tie.Need-last-requires-2
 last-requires-2 c κs = search needs
 
--- src/lib.rt:98:9
 same-length-2 : tie.Need-same-length-2
 same-length-2 c = search needs
 
--- src/lib.rt:98:9
 same-length-3 : tie.Need-same-length-3
 same-length-3 c = search needs
 
--- src/lib.rt:98:9
 same-length-4 : tie.Need-same-length-4
 same-length-4 c = search needs
 
--- src/lib.rt:98:9
 same-length-5 : tie.Need-same-length-5
 same-length-5 c = search needs
 
--- src/lib.rt:98:9
 same-length-6 : tie.Need-same-length-6
 same-length-6 c = search needs
 
--- src/lib.rt:98:9
 same-length-7 : tie.Need-same-length-7
 same-length-7 c = search needs
 
--- src/lib.rt:98:9
 returns-2 : tie.Need-returns-2
-returns-2 c = (omega (arith, c .last2 .ensures .0), ((λ g a. turned-last g _ _ _ _ _ _ _ (c .last2 .ensures .1) (ends-behind g _ _ _ _ _ (c .before .before .before .before .before .before .before .before .before .before .before .before .finish .ensures .1 .0 _ a))), c .before .before .before .before .before .before .before .before .before .before .before .before .finish .ensures .1 .1))
+returns-2 c =
+    let here : tie.After-finish = search in let finish = here .finish in (
+      omega (arith, c .last2 .ensures .0),
+      (
+        (λ g a.
+            turned-last g _ _ _ _ _ _ _ (c .last2 .ensures .1) (ends-behind g _ _ _ _ _ (finish .ensures .1 .0 _ a))),
+        finish .ensures .1 .1,
+      ),
+    )
 
--- src/lib.rt:100:9
 count-requires : tie.Need-count-requires
 count-requires c κs = search needs
 
--- src/lib.rt:107:9
 sub-answer-chunk : tie.Need-sub-answer-chunk
 sub-answer-chunk c = search needs
 
--- src/lib.rt:107:9
 part-answer-chunk-start : tie.Need-part-answer-chunk-start
 part-answer-chunk-start c = search needs
 
--- src/lib.rt:107:9
 part-answer-chunk-end : tie.Need-part-answer-chunk-end
 part-answer-chunk-end c = search needs
 
--- src/lib.rt:101:5
 answer-chunk-requires : tie.Need-answer-chunk-requires
 answer-chunk-requires c κs = search needs
 
--- src/lib.rt:76:1
 same-length-8 : tie.Need-same-length-8
 same-length-8 c = search needs
 
--- src/lib.rt:76:1
 same-length-9 : tie.Need-same-length-9
 same-length-9 c = search needs
 
--- src/lib.rt:76:1
 same-length-10 : tie.Need-same-length-10
 same-length-10 c = search needs
 
--- src/lib.rt:76:1
 same-length-11 : tie.Need-same-length-11
 same-length-11 c = search needs
 
--- src/lib.rt:76:1
 same-length-12 : tie.Need-same-length-12
 same-length-12 c = search needs
 
--- src/lib.rt:76:1
 same-length-13 : tie.Need-same-length-13
 same-length-13 c = search needs
 
--- src/lib.rt:76:1
 returns-3 : tie.Need-returns-3
-returns-3 c = (c .before .before .before .before .before .before .before .before .before .before .answer-chunk .ensures .0, ((λ g a. chunk-turned g _ _ _ _ _ _ _ _ (c .before .before .before .before .before .before .before .before .before .before .answer-chunk .ensures .1 .1 .0 g a) (c .before .before .before .before .before .before .before .before .before .before .answer-chunk .ensures .1 .0 g a)), c .before .before .before .before .before .before .before .before .before .before .answer-chunk .ensures .1 .1 .1))
+returns-3 c =
+    let here : tie.After-answer-chunk = search in let answer-chunk = here .answer-chunk in (
+      answer-chunk .ensures .0,
+      (
+        (λ g a.
+            chunk-turned g _ _ _ _ _ _ _ _ (answer-chunk .ensures .1 .1 .0 g a) (answer-chunk .ensures .1 .0 g a)),
+        answer-chunk .ensures .1 .1 .1,
+      ),
+    )
 
 pub answer-read-spec : {M : Type 1} → statement M
 answer-read-spec =

@@ -1,5 +1,5 @@
 -- A free entry's eighteen bytes, in three parts.
-use Prim.Native.Nat.{ℕ, _+_, _*_, _-_}
+use Prim.Native.Nat.{ℕ, _+_, _*_}
 use mathlib.Core.Path.{_≡_, refl, sym, ap, _∙_}
 use mathlib.Core.Bool.{Bool, true, false, _&&_}
 use mathlib.Core.List.{List}
@@ -22,7 +22,7 @@ overlap s p h =
 
 whole : (s : List ℕ) (k : ℕ) → zeroWords s k dataWords ≡ (quiet s (2 * k) 8 && (quiet s (2 * k + 8) 8 && quiet s (2 * k + 16) 2))
 whole s k =
-    sym (zero-bytes s 9 k) ∙ quiet-join s 10 8 18 (2 * k) (2 * k + 8) refl refl
+    sym (zero-bytes s dataWords k) ∙ quiet-join s 10 8 18 (2 * k) (2 * k + 8) refl refl
     ∙ ap (λ (b : Bool). quiet s (2 * k) 8 && b) (quiet-join s 2 8 10 (2 * k + 8) (2 * k + 16) refl (omega arith))
 
 module _ (s : List ℕ) (k x : ℕ) (ex : eqb x 0 ≡ quiet s (2 * k) 8) where

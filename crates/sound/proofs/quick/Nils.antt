@@ -1,7 +1,7 @@
 -- Heads that are all 255: their lists are empty.
 use Prim.Native.Nat.{ℕ, zero, suc, _+_, _*_, _-_, _≤_, _<_}
 use mathlib.Core.Path.{_≡_, refl, sym, _∙_}
-use mathlib.Core.Bool.{Bool, true, false, cond, true≢false}
+use mathlib.Core.Bool.{Bool, true, false, true≢false}
 use mathlib.Core.List.{List}
 use native.Mathlib.Omega.{arith}
 use native.Mathlib.Numerals.{add-one}
@@ -9,10 +9,11 @@ use borrow.Author.Tests.{eqb-true, eqb-false, eq-eqb, ne-eqb}
 use lib.Dec.{eqb}
 use lib.ListN.{getD}
 use Rattle.rules.specs.Limits.{entries}
-use Rattle.segment.specs.Layout.{nil, readQueue, writeQueue, replyPort}
+use Rattle.segment.specs.Layout.{nil, replyPort}
 use Rattle.segment.specs.Table.{nth}
 use Rattle.sound.specs.Walks.{walked, queueWalk, queueWalks, portWalk, portWalks}
 use Rattle.sound.proofs.Steps.{queue-end, queues-step, port-end, ports-step}
+use Rattle.accessors.specs.Outstanding.{queueOf}
 use Rattle.sound.specs.quick.Ones.{ones}
 
 pub ones-step : (xs : List ℕ) (p n : ℕ) → 0 < n → getD xs p 0 ≡ 255 → ones xs p n ≡ ones xs (p + 1) (n - 1)
@@ -50,7 +51,7 @@ word-first s l n h =
 
 -- the walks of n lists whose heads are nil: h is the head of the first file's queue
 
-pub queues-none : (s bufs seen busy : List ℕ) (side n f h : ℕ) → (k : (g : ℕ) → cond (eqb side 1) (readQueue g) (writeQueue g) ≡ h + g)
+pub queues-none : (s bufs seen busy : List ℕ) (side n f h : ℕ) → (k : (g : ℕ) → queueOf g side ≡ h + g)
     → ones s (2 * (h + f)) (2 * n) ≡ true → queueWalks s bufs side f seen busy n ≡ walked true seen busy
 unfolding queueWalks
 queues-none s bufs seen busy side zero f h k e = refl

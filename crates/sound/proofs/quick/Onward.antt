@@ -13,7 +13,7 @@ use Rattle.rules.specs.Limits.{entries}
 use Rattle.words.specs.Word.{quiet}
 use Rattle.words.proofs.Zeros.{quiet-end}
 use Rattle.words.proofs.Ors.{or-left, or-right, xor-same}
-use Rattle.segment.specs.Layout.{nil, linkAt, dataAt}
+use Rattle.segment.specs.Layout.{nil, dataWords, linkAt, dataAt}
 use Rattle.segment.specs.Table.{nth}
 use Rattle.sound.specs.Walks.{walked, freeEntry, freeWalk}
 use Rattle.sound.specs.quick.Onward.{Led, Linked, freeFrom}
@@ -118,7 +118,7 @@ unfolding Led freeEntry
 clean s e at n a l =
     let p : at + 2 ≡ 2 * dataAt e = omega arith in
     let q : quiet s (2 * dataAt e) 18 ≡ true = rw p at (l .2) in
-    sym (zero-bytes s 9 (dataAt e)) ∙ q
+    sym (zero-bytes s dataWords (dataAt e)) ∙ q
 
 -- the plain walk goes on to the next number
 pub onto : (s seen busy : List ℕ) (e at n m : ℕ) → at ≡ 2 * linkAt e → n ≡ e + 1 → Linked s at n → getD seen e 0 ≡ 0 → n < entries → 0 < m

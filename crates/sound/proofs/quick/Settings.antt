@@ -7,7 +7,7 @@ use native.Mathlib.Omega.{arith}
 use borrow.Author.Tests.{eq-eqb, ne-eqb, eqb-true, eqb-false}
 use lib.Dec.{leb, eqb}
 use Rattle.words.specs.Word.{quiet}
-use Rattle.segment.specs.Layout.{rowAt, rowWords, placeRow}
+use Rattle.segment.specs.Layout.{placeWidth, placeRowAt}
 use Rattle.segment.specs.Table.{nth}
 use Rattle.sound.specs.Rows.{placeWord, sideAt, zeroWords, goodPlace, placeOk}
 use Rattle.sound.proofs.Steps.{zero-bad, zero-step}
@@ -36,45 +36,45 @@ four-zero s k h =
     (a .0, b .0, rw p at (c .0), rw q at (d .0))
 
 -- a place that is not open
-pub closed-row : (s : List ℕ) (i a b : ℕ) → eqb a 0 ≡ quiet s (2 * rowAt (placeRow i)) 8 → a ≡ 0 → eqb b 0 ≡ quiet s (2 * rowAt (placeRow i) + 8) 8 → eqb b 0 ≡ placeOk s i
+pub closed-row : (s : List ℕ) (i a b : ℕ) → eqb a 0 ≡ quiet s (2 * placeRowAt i) 8 → a ≡ 0 → eqb b 0 ≡ quiet s (2 * placeRowAt i + 8) 8 → eqb b 0 ≡ placeOk s i
 unfolding placeOk sideAt placeWord
 closed-row s i a b ea ha eb =
-    let q : quiet s (2 * rowAt (placeRow i)) 8 ≡ true = sym ea ∙ eq-eqb a 0 ha in
-    let z : zeroWords s (rowAt (placeRow i)) rowWords ≡ eqb b 0 = sym (zero-bytes s 8 (rowAt (placeRow i))) ∙ quiet-join s 8 8 16 (2 * rowAt (placeRow i)) (2 * rowAt (placeRow i) + 8) refl refl ∙ rw q (sym eb) in
-    let f : nth s (rowAt (placeRow i)) ≡ 0 = first-zero s (rowAt (placeRow i)) 4 (omega arith) (sym (zero-bytes s 4 (rowAt (placeRow i))) ∙ q) .0 in
-    let n : rowAt (placeRow i) + 0 ≡ rowAt (placeRow i) = omega arith in
-    let g : nth s (rowAt (placeRow i) + 0) ≡ 0 = rw n f in
-    sym (rw (eq-eqb (nth s (rowAt (placeRow i) + 0)) 0 g, placeOk) z)
+    let q : quiet s (2 * placeRowAt i) 8 ≡ true = sym ea ∙ eq-eqb a 0 ha in
+    let z : zeroWords s (placeRowAt i) placeWidth ≡ eqb b 0 = sym (zero-bytes s 8 (placeRowAt i)) ∙ quiet-join s 8 8 16 (2 * placeRowAt i) (2 * placeRowAt i + 8) refl refl ∙ rw q (sym eb) in
+    let f : nth s (placeRowAt i) ≡ 0 = first-zero s (placeRowAt i) 4 (omega arith) (sym (zero-bytes s 4 (placeRowAt i)) ∙ q) .0 in
+    let n : placeRowAt i + 0 ≡ placeRowAt i = omega arith in
+    let g : nth s (placeRowAt i + 0) ≡ 0 = rw n f in
+    sym (rw (eq-eqb (nth s (placeRowAt i + 0)) 0 g, placeOk) z)
 
 -- where the settings are 0
-module _ (s : List ℕ) (i a b : ℕ) (eb : eqb b 0 ≡ quiet s (2 * rowAt (placeRow i) + 8) 8) (hb : b ≡ 0) (ea : eqb a 0 ≡ quiet s (2 * rowAt (placeRow i)) 8) where
-  row-zero : zeroWords s (rowAt (placeRow i)) rowWords ≡ eqb a 0
+module _ (s : List ℕ) (i a b : ℕ) (eb : eqb b 0 ≡ quiet s (2 * placeRowAt i + 8) 8) (hb : b ≡ 0) (ea : eqb a 0 ≡ quiet s (2 * placeRowAt i) 8) where
+  row-zero : zeroWords s (placeRowAt i) placeWidth ≡ eqb a 0
   row-zero =
-      let q : quiet s (2 * rowAt (placeRow i) + 8) 8 ≡ true = sym eb ∙ eq-eqb b 0 hb in
-      sym (zero-bytes s 8 (rowAt (placeRow i))) ∙ quiet-join s 8 8 16 (2 * rowAt (placeRow i)) (2 * rowAt (placeRow i) + 8) refl refl ∙ rw q (and-true (quiet s (2 * rowAt (placeRow i)) 8) ∙ sym ea)
+      let q : quiet s (2 * placeRowAt i + 8) 8 ≡ true = sym eb ∙ eq-eqb b 0 hb in
+      sym (zero-bytes s 8 (placeRowAt i)) ∙ quiet-join s 8 8 16 (2 * placeRowAt i) (2 * placeRowAt i + 8) refl refl ∙ rw q (and-true (quiet s (2 * placeRowAt i) 8) ∙ sym ea)
 
-  settings : (nth s (rowAt (placeRow i) + 4) ≡ 0) × (nth s (rowAt (placeRow i) + 5) ≡ 0) × (nth s (rowAt (placeRow i) + 6) ≡ 0) × (nth s (rowAt (placeRow i) + 7) ≡ 0)
+  settings : (nth s (placeRowAt i + 4) ≡ 0) × (nth s (placeRowAt i + 5) ≡ 0) × (nth s (placeRowAt i + 6) ≡ 0) × (nth s (placeRowAt i + 7) ≡ 0)
   settings =
-      let p : 2 * rowAt (placeRow i) + 8 ≡ 2 * (rowAt (placeRow i) + 4) = omega arith in
-      let q : quiet s (2 * rowAt (placeRow i) + 8) 8 ≡ true = sym eb ∙ eq-eqb b 0 hb in
-      let q′ : quiet s (2 * (rowAt (placeRow i) + 4)) 8 ≡ true = rw p at q in
-      let z = four-zero s (rowAt (placeRow i) + 4) (sym (zero-bytes s 4 (rowAt (placeRow i) + 4)) ∙ q′) in
-      let x : rowAt (placeRow i) + 4 + 1 ≡ rowAt (placeRow i) + 5 = omega arith in
-      let y : rowAt (placeRow i) + 4 + 2 ≡ rowAt (placeRow i) + 6 = omega arith in
-      let w : rowAt (placeRow i) + 4 + 3 ≡ rowAt (placeRow i) + 7 = omega arith in
+      let p : 2 * placeRowAt i + 8 ≡ 2 * (placeRowAt i + 4) = omega arith in
+      let q : quiet s (2 * placeRowAt i + 8) 8 ≡ true = sym eb ∙ eq-eqb b 0 hb in
+      let q′ : quiet s (2 * (placeRowAt i + 4)) 8 ≡ true = rw p at q in
+      let z = four-zero s (placeRowAt i + 4) (sym (zero-bytes s 4 (placeRowAt i + 4)) ∙ q′) in
+      let x : placeRowAt i + 4 + 1 ≡ placeRowAt i + 5 = omega arith in
+      let y : placeRowAt i + 4 + 2 ≡ placeRowAt i + 6 = omega arith in
+      let w : placeRowAt i + 4 + 3 ≡ placeRowAt i + 7 = omega arith in
       (z .0, rw x at (z .1), rw y at (z .2), rw w at (z .3))
 
   module _ (side id : ℕ) (es : side ≡ placeWord s i 0) (ei : id ≡ placeWord s i 1) where
     good : (eqb side 1 && eqb id 0 || eqb side 2 && leb 1 id) ≡ goodPlace s i
     unfolding goodPlace sideAt placeWord
     good = rw (es, ei, settings .0, settings .1, settings .2, settings .3)
-        (and-held (eqb (nth s (rowAt (placeRow i) + 0)) 1 && eqb (nth s (rowAt (placeRow i) + 1)) 0 || eqb (nth s (rowAt (placeRow i) + 0)) 2 && leb 1 (nth s (rowAt (placeRow i) + 1))))
+        (and-held (eqb (nth s (placeRowAt i + 0)) 1 && eqb (nth s (placeRowAt i + 1)) 0 || eqb (nth s (placeRowAt i + 0)) 2 && leb 1 (nth s (placeRowAt i + 1))))
 
     at-side : (t : Bool) → eqb side 0 ≡ t → eqb (sideAt s i) 0 ≡ t
     unfolding sideAt
     at-side t h = ap (λ (x : ℕ). eqb x 0) (sym es) ∙ h
 
-    closed : eqb (sideAt s i) 0 ≡ true → placeOk s i ≡ zeroWords s (rowAt (placeRow i)) rowWords
+    closed : eqb (sideAt s i) 0 ≡ true → placeOk s i ≡ zeroWords s (placeRowAt i) placeWidth
     unfolding placeOk
     closed h = rw (h, placeOk)
 

@@ -1,9 +1,10 @@
 // Lists that are all empty: where all their heads are nil, all bytes of them are 255, one `or` for all and no walk. `queues-none` and `ports-none`
 // (proofs/quick/Nils.antt): the plain walks then meet nothing.
-use crate::READER;
+use crate::ENTRY_COUNT;
 use crate::walks;
 use kinds::limits::FILES;
 use kinds::limits::PLACES;
+use kinds::sides::WRITER;
 use segment::layout;
 ghost use mathlib.Core.Path.{_≡_};
 ghost use mathlib.Core.Bool.{true};
@@ -39,10 +40,10 @@ fn no_queues(s: &[u8], side: u16) -> bool
     requires { ⌜ length (now s) ≡ segmentBytes ⌝ }
     ensures { λ r. ⌜ (r ≡ true → (bufs seen busy : List ℕ) → queueWalks (now (s .entry)) bufs side 0 seen busy files ≡ walked true seen busy) ⌝ }
 {
-    if side == READER {
-        return ones(s, 2 * layout::READ_QUEUES, 2 * FILES);
+    if side == WRITER {
+        return ones(s, 2 * layout::WRITE_QUEUES, 2 * FILES);
     }
-    ones(s, 2 * layout::WRITE_QUEUES, 2 * FILES)
+    ones(s, 2 * layout::READ_QUEUES, 2 * FILES)
 }
 
 // Whether no request is completed.
@@ -57,8 +58,8 @@ pub fn queue_walks(
     s: &[u8],
     buffers: &[u8],
     side: u16,
-    seen: &mut [u8; 128],
-    busy: &mut [u8; 64],
+    seen: &mut [u8; ENTRY_COUNT],
+    busy: &mut [u8; layout::DESK_PLACES],
 ) -> bool
     requires { ⌜ (length (now s) ≡ segmentBytes) × (length (now buffers) ≡ places * bufferBytes * files) ⌝ }
     ensures { λ r. ⌜ walked r (now (seen .exit)) (now (busy .exit)) ≡ queueWalks (now (s .entry)) (now (buffers .entry)) side 0 (now (seen .entry)) (now (busy .entry)) files ⌝ }
@@ -69,7 +70,12 @@ pub fn queue_walks(
     walks::queue_walks(s, buffers, side, seen, busy)
 }
 
-pub fn port_walks(s: &[u8], buffers: &[u8], seen: &mut [u8; 128], busy: &mut [u8; 64]) -> bool
+pub fn port_walks(
+    s: &[u8],
+    buffers: &[u8],
+    seen: &mut [u8; ENTRY_COUNT],
+    busy: &mut [u8; layout::DESK_PLACES],
+) -> bool
     requires { ⌜ (length (now s) ≡ segmentBytes) × (length (now buffers) ≡ places * bufferBytes * files) ⌝ }
     ensures { λ r. ⌜ walked r (now (seen .exit)) (now (busy .exit)) ≡ portWalks (now (s .entry)) (now (buffers .entry)) 0 (now (seen .entry)) (now (busy .entry)) (files * places) ⌝ }
 {

@@ -2,6 +2,7 @@
 // (proofs/quick/Resting.antt): the plain test holds of them.
 use crate::idle;
 use kinds::limits::BUFFER_BYTES;
+use segment::layout;
 ghost use mathlib.Core.Path.{_≡_};
 ghost use mathlib.Core.Bool.{true};
 ghost use Prim.Native.Nat.{_+_, _*_, _≤_};
@@ -29,7 +30,7 @@ fn quiet_runs(s: &[u8], at: usize, n: usize) -> bool
     all == 0
 }
 
-pub fn places_idle(buffers: &[u8], busy: &[u8; 64], i: usize, n: usize) -> bool
+pub fn places_idle(buffers: &[u8], busy: &[u8; layout::DESK_PLACES], i: usize, n: usize) -> bool
     requires { ⌜ (length (now buffers) ≡ places * bufferBytes * files) × (i + n ≤ files * places) ⌝ }
     ensures { λ r. ⌜ r ≡ idleZero (now (buffers .entry)) (now (busy .entry)) i n ⌝ }
 {

@@ -1,6 +1,7 @@
 // The free list where its entries stand in order, as on a fresh desk. Which entry is next is counted, and not read from a link, so that no read waits for
 // the one before; the test is an `or` of differences, since of `if link == next` the compiler makes a read that waits. `onto` and `onto-four`
 // (proofs/quick/Onward.antt): the plain walk goes the same way.
+use crate::ENTRY_COUNT;
 use crate::MET;
 use crate::quick::bytes::broad;
 use crate::quick::bytes::eight;
@@ -27,7 +28,7 @@ fn farthest(e: usize, most: usize) -> usize
 }
 
 // The marks of four entries: 0 only where none was met.
-fn four_marks(seen: &[u8; 128], e: usize) -> u64
+fn four_marks(seen: &[u8; ENTRY_COUNT], e: usize) -> u64
     requires { ⌜ e + 3 < entries ⌝ }
     ensures { λ r. ⌜ (r ≡ 0 → (getD (now (seen .entry)) e 0 ≡ 0) × (getD (now (seen .entry)) (e + 1) 0 ≡ 0) × (getD (now (seen .entry)) (e + 2) 0 ≡ 0) × (getD (now (seen .entry)) (e + 3) 0 ≡ 0)) ⌝ }
 {
@@ -56,7 +57,7 @@ fn four_linked(s: &[u8], at: usize, e: usize) -> u64
 }
 
 // From a slot that holds e on to the last of the entries in order, `most` of them at most, four at a time.
-fn by_fours(s: &[u8], e: usize, most: usize, seen: &mut [u8; 128]) -> usize
+fn by_fours(s: &[u8], e: usize, most: usize, seen: &mut [u8; ENTRY_COUNT]) -> usize
     requires { ⌜ (length (now s) ≡ segmentBytes) × (e < entries) ⌝ }
     ensures { λ r. ⌜ (e ≤ r) × (r < entries) × (r ≤ e + most) × ((busy : List ℕ) → freeFrom (now (s .entry)) e (now (seen .entry)) busy most ≡ freeFrom (now (s .entry)) r (now (seen .exit)) busy (most - (r - e))) ⌝ }
 {
@@ -81,7 +82,7 @@ fn by_fours(s: &[u8], e: usize, most: usize, seen: &mut [u8; 128]) -> usize
 }
 
 // The same, one entry at most.
-fn by_one(s: &[u8], e: usize, most: usize, seen: &mut [u8; 128]) -> usize
+fn by_one(s: &[u8], e: usize, most: usize, seen: &mut [u8; ENTRY_COUNT]) -> usize
     requires { ⌜ (length (now s) ≡ segmentBytes) × (e < entries) ⌝ }
     ensures { λ r. ⌜ (e ≤ r) × (r < entries) × (r ≤ e + most) × ((busy : List ℕ) → freeFrom (now (s .entry)) e (now (seen .entry)) busy most ≡ freeFrom (now (s .entry)) r (now (seen .exit)) busy (most - (r - e))) ⌝ }
 {
@@ -102,7 +103,13 @@ fn by_one(s: &[u8], e: usize, most: usize, seen: &mut [u8; 128]) -> usize
 }
 
 // The same: by fours where e itself follows the entry before, else by one, since a run is then short, as that of a request and its timer.
-pub fn in_order(s: &[u8], before: usize, e: usize, most: usize, seen: &mut [u8; 128]) -> usize
+pub fn in_order(
+    s: &[u8],
+    before: usize,
+    e: usize,
+    most: usize,
+    seen: &mut [u8; ENTRY_COUNT],
+) -> usize
     requires { ⌜ (length (now s) ≡ segmentBytes) × (e < entries) × (before < 256) ⌝ }
     ensures { λ r. ⌜ (e ≤ r) × (r < entries) × (r ≤ e + most) × ((busy : List ℕ) → freeFrom (now (s .entry)) e (now (seen .entry)) busy most ≡ freeFrom (now (s .entry)) r (now (seen .exit)) busy (most - (r - e))) ⌝ }
 {

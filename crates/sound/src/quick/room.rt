@@ -6,14 +6,13 @@ ghost use mathlib.Core.Bool.{true, _&&_};
 ghost use mathlib.Core.List.{List};
 ghost use Prim.Native.Nat.{ℕ, _+_};
 ghost use lib.Dec.{leb};
-ghost use Rattle.rules.specs.Limits.{places};
-ghost use Rattle.sound.specs.Rows.{writersAt};
+ghost use Rattle.accessors.specs.Sides.{countSide};
 
 // A close record for each place, and a record.
 const AMPLE: u32 = PLACES as u32 + 1;
 
 pub fn ample(used: u32, most: u32) -> bool
-    ensures { λ r. ⌜ (r ≡ true → (s : List ℕ) (i : ℕ) → (leb (used + writersAt s i places) most && leb (writersAt s i places + 1) most) ≡ true) ⌝ }
+    ensures { λ r. ⌜ (r ≡ true → (s : List ℕ) (f : ℕ) → (leb (used + countSide s f 2) most && leb (countSide s f 2 + 1) most) ≡ true) ⌝ }
 {
     if most < AMPLE {
         return false;

@@ -4,7 +4,6 @@ use crate::quick::bytes::eight;
 use crate::rows;
 use crate::rows::good_side;
 use crate::rows::place_word;
-use kinds::limits::FILES;
 use segment::layout;
 ghost use mathlib.Core.Path.{_≡_};
 ghost use Prim.Native.Nat.{_*_, _<_};
@@ -17,7 +16,7 @@ pub fn place_ok(s: &[u8], i: usize) -> bool
     requires { ⌜ (length (now s) ≡ segmentBytes) × (i < files * places) ⌝ }
     ensures { λ r. ⌜ r ≡ placeOk (now (s .entry)) i ⌝ }
 {
-    let at = 2 * (layout::FILE_ROWS + layout::ROW_WORDS * (FILES + i));
+    let at = 2 * (layout::PLACE_ROWS + layout::PLACE_ROW_WORDS * i);
     if eight(s, at) == 0 {
         return eight(s, at + 8) == 0;
     }

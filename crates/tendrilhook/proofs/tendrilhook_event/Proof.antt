@@ -1,9 +1,6 @@
 use borrow.Author.Needs.{needs}
 use Rattle.tendrilhook.proofs.tendrilhook_event.Statement.{statement}
 use Rattle.tendrilhook.proofs.tendrilhook_event.Tie as tie
-use Rattle.tendrilhook.proofs.tendrilhook_event.Reads as reads
-use Rattle.tendrilhook.proofs.tendrilhook_event.Lts as lts
-use Rattle.desk.proofs.event.Reads as event-reads
 
 event-requires : tie.Need-event-requires
 event-requires c κs = search needs
@@ -21,7 +18,9 @@ same-length-4 : tie.Need-same-length-4
 same-length-4 c = search needs
 
 returns : tie.Need-returns
-returns c = c .before .before .before .before .before .before .before .before .event .ensures
+returns c =
+    let here : tie.After-event = search in let event = here .event in
+    event .ensures .0
 
 pub tendrilhook-event-spec : {M : Type 1} → statement M
 tendrilhook-event-spec =

@@ -2,9 +2,6 @@ use Rattle.tendrilhook.proofs.Fresh.{made-fresh}
 use borrow.Author.Needs.{needs}
 use Rattle.tendrilhook.proofs.tendrilhook_fresh.Statement.{statement}
 use Rattle.tendrilhook.proofs.tendrilhook_fresh.Tie as tie
-use Rattle.tendrilhook.proofs.tendrilhook_fresh.Reads as reads
-use Rattle.tendrilhook.proofs.tendrilhook_fresh.Lts as lts
-use Rattle.fresh.proofs.fresh.Reads as fresh-reads
 
 fresh-requires : tie.Need-fresh-requires
 fresh-requires c κs = search needs
@@ -19,7 +16,9 @@ same-length-3 : tie.Need-same-length-3
 same-length-3 c = search needs
 
 returns : tie.Need-returns
-returns c = made-fresh _ _ _ (c .before .before .before .before .before .before .fresh .ensures)
+returns c =
+    let here : tie.After-fresh = search in let fresh = here .fresh in
+    made-fresh _ _ _ (fresh .ensures)
 
 pub tendrilhook-fresh-spec : {M : Type 1} → statement M
 tendrilhook-fresh-spec =

@@ -1,9 +1,6 @@
 use borrow.Author.Needs.{needs}
 use Rattle.tendrilhook.proofs.tendrilhook_load.Statement.{statement}
 use Rattle.tendrilhook.proofs.tendrilhook_load.Tie as tie
-use Rattle.tendrilhook.proofs.tendrilhook_load.Reads as reads
-use Rattle.tendrilhook.proofs.tendrilhook_load.Lts as lts
-use Rattle.loading.proofs.load.Reads as load-reads
 
 load-requires : tie.Need-load-requires
 load-requires c κs = search needs
@@ -18,7 +15,7 @@ same-length-3 : tie.Need-same-length-3
 same-length-3 c = search needs
 
 returns : tie.Need-returns
-returns c = c .before .before .before .before .before .before .load .ensures
+returns c = let here : tie.After-load = search in let load = here .load in load .ensures
 
 pub tendrilhook-load-spec : {M : Type 1} → statement M
 tendrilhook-load-spec =

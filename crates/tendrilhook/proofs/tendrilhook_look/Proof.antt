@@ -1,32 +1,50 @@
 use Rattle.tendrilhook.proofs.Copied.{other-length, copied}
+use Rattle.looking.proofs.Parts.{given, said}
+use Rattle.looking.proofs.Short.{short}
+use Rattle.words.specs.Word.{Bytes}
+use native.Mathlib.Omega.{arith}
 use borrow.Author.Needs.{needs}
 use Rattle.tendrilhook.proofs.tendrilhook_look.Statement.{statement}
 use Rattle.tendrilhook.proofs.tendrilhook_look.Tie as tie
-use Rattle.tendrilhook.proofs.tendrilhook_look.Reads as reads
-use Rattle.tendrilhook.proofs.tendrilhook_look.Lts as lts
-use Rattle.looking.proofs.look.Reads as look-reads
-use Rattle.looking.proofs.look_status.Reads as look-status-reads
-use Rattle.words.proofs.copy.Reads as copy-reads
 
 returns : tie.Need-returns
 returns c = other-length _ _ _ _ (c .if1 .taken)
 
-look-requires : tie.Need-look-requires
-look-requires c κs = search needs
+shown-requires : tie.Need-shown-requires
+shown-requires c κs = search needs
+
+part-requires : tie.Need-part-requires
+part-requires c κs = c .shown .ensures .0
 
 copy-requires : tie.Need-copy-requires
-copy-requires c κs = search needs
+unfolding Bytes
+copy-requires c κs =
+    let part = c .before in
+    let what = part .before in
+    let left = what .before in
+    let known = left .before .before in
+    let shows = given _ _ _ _ _ _ (what .shown .ensures .1) _ (part .part .ensures) .1 in
+    let h = short _ _ _ (λ i. known .before .before .shared-slice-known .given i .fits)
+    (λ i. known .before .shared-slice-known2 .given i .fits)
+    (λ i. known .shared-slice-known3 .given i .fits) _ _ _ shows in
+    omega (arith, h, left .if1 .left)
 
-look-status-requires : tie.Need-look-status-requires
-look-status-requires c κs = search needs
+status-requires : tie.Need-status-requires
+status-requires c κs = search needs
 
 same-length : tie.Need-same-length
 same-length c = search needs
 
 returns-2 : tie.Need-returns-2
-returns-2 c = copied _ _ _ _ (c .before .before .before .before .before .before .if1 .left) _ (c .before .before .before .before .before .look .ensures .1 .0) _ (c .before .before .before .copy .ensures) _ (c .look-status .ensures)
+returns-2 c =
+    let copy = c .before .before .before in
+    let part = copy .before .before in
+    let what = part .before in
+    copied _ _ _ _ (what .before .if1 .left) _
+    (given _ _ _ _ _ _ (what .shown .ensures .1) _ (part .part .ensures) .1) _ (copy .copy .ensures) _
+    (said _ _ _ _ _ _ (what .shown .ensures .1) _ (c .status .ensures))
 
 pub tendrilhook-look-spec : {M : Type 1} → statement M
 tendrilhook-look-spec =
     tie.close
-    (tie.spec returns look-requires copy-requires look-status-requires same-length returns-2)
+    (tie.spec returns shown-requires part-requires copy-requires status-requires same-length returns-2)

@@ -1,9 +1,6 @@
 use borrow.Author.Needs.{needs}
 use Rattle.tendrilhook.proofs.tendrilhook_save.Statement.{statement}
 use Rattle.tendrilhook.proofs.tendrilhook_save.Tie as tie
-use Rattle.tendrilhook.proofs.tendrilhook_save.Reads as reads
-use Rattle.tendrilhook.proofs.tendrilhook_save.Lts as lts
-use Rattle.saving.proofs.save.Reads as save-reads
 
 save-requires : tie.Need-save-requires
 save-requires c κs = search needs

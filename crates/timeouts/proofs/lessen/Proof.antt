@@ -4,14 +4,17 @@ use native.Mathlib.Omega.{arith}
 use lib.ListN.{length}
 use borrow.Author.Needs.{needs}
 use Rattle.rules.specs.Limits.{entries}
-use Rattle.segment.specs.Layout.{timerList, segmentBytes}
+use Rattle.segment.specs.Layout.{timerList, segmentBytes, fileRows}
 use Rattle.timeouts.specs.Late.{lessAll}
 use Rattle.timeouts.proofs.Steps.{less-stop, less-step}
 use Rattle.timeouts.proofs.lessen.Statement.{statement}
 use Rattle.timeouts.proofs.lessen.Tie as tie
 
 abbrev Inv-loop : tie.InvT-loop
-Inv-loop segment₀ seconds p₀ n₀ segment p n = (length segment ≡ segmentBytes) × (p < 1362) × (lessAll segment₀ timerList seconds entries ≡ lessAll segment p seconds n)
+Inv-loop segment₀ seconds p₀ n₀ segment p n =
+    (length segment ≡ segmentBytes)
+    × (p < fileRows)
+    × (lessAll segment₀ timerList seconds entries ≡ lessAll segment p seconds n)
 
 abbrev μ-loop : tie.MeasureT-loop
 μ-loop segment₀ seconds p₀ n₀ segment p n = n
@@ -26,7 +29,9 @@ same-length : tie.Need-same-length Inv-loop μ-loop
 same-length c = search needs
 
 returns : tie.Need-returns Inv-loop μ-loop
-returns c = sym (c .before .before .before .before .loop .inv .2 ∙ less-stop _ _ _ (c .before .get .ensures) _ _ (c .if1 .taken))
+returns c =
+    let here : tie.At-loop Inv-loop μ-loop = search in let loop = here .loop in
+    sym (loop .inv .2 ∙ less-stop _ _ _ (c .before .get .ensures) _ _ (c .if1 .taken))
 
 lose-requires : tie.Need-lose-requires Inv-loop μ-loop
 lose-requires c κs = search needs
@@ -41,7 +46,16 @@ loop-less : tie.Need-loop-less Inv-loop μ-loop
 loop-less c = search needs
 
 loop-again : tie.Need-loop-again Inv-loop μ-loop
-loop-again c = (search needs, search needs, rw (c .link-at .ensures .0, c .before .before .before .lose .ensures) (c .before .before .before .before .before .before .before .before .before .loop .inv .2 ∙ less-step _ _ _ (c .before .before .before .before .before .before .get .ensures) _ _ (c .before .before .before .before .before .before .before .before .loop-test .taken) (c .before .before .before .before .before .if1 .left)))
+loop-again c =
+    let here : tie.Else1 Inv-loop μ-loop = search in let if1 = here .if1 in
+    let here : tie.After-get Inv-loop μ-loop = search in let get = here .get in
+    let here : tie.In-loop Inv-loop μ-loop = search in let loop-test = here .loop-test in
+    let here : tie.At-loop Inv-loop μ-loop = search in let loop = here .loop in (
+      search needs,
+      search needs,
+      rw (c .link-at .ensures .0, c .before .before .before .lose .ensures)
+          (loop .inv .2 ∙ less-step _ _ _ (get .ensures) _ _ (loop-test .taken) (if1 .left)),
+    )
 
 same-length-2 : tie.Need-same-length-2 Inv-loop μ-loop
 same-length-2 c = search needs

@@ -22,7 +22,11 @@ same-length c = search needs
 
 returns : tie.Need-returns
 unfolding less timer entryWords
-returns c = rw (c .before .before .write-entry .ensures, c .before .before .before .before .rest .ensures, c .before .before .before .before .before .entry-seconds .ensures, c .before .before .before .before .before .before .before .entry-place .ensures)
+returns c =
+    let here : tie.After-rest = search in let rest = here .rest in
+    let here : tie.After-entry-seconds = search in let entry-seconds = here .entry-seconds in
+    let here : tie.After-entry-place = search in let entry-place = here .entry-place in
+    rw (c .before .before .write-entry .ensures, rest .ensures, entry-seconds .ensures, entry-place .ensures)
 
 pub lose-spec : {M : Type 1} → statement M
 lose-spec =

@@ -33,7 +33,10 @@ same-length-2 : tie.Need-same-length-2 Inv-loop μ-loop
 same-length-2 c = search needs
 
 returns : tie.Need-returns Inv-loop μ-loop
-returns c = λ d s S. stop-none (c .before .before .before .before .loop .inv .2 d s S) _ (c .before .get .ensures) (c .if1 .taken)
+returns c =
+    let here : tie.At-loop Inv-loop μ-loop = search in let loop = here .loop in
+    λ d s S.
+    stop-none (loop .inv .2 d s S) _ (c .before .get .ensures) (c .if1 .taken)
 
 entry-seconds-requires : tie.Need-entry-seconds-requires Inv-loop μ-loop
 entry-seconds-requires c κs = search needs
@@ -45,13 +48,28 @@ same-length-4 : tie.Need-same-length-4 Inv-loop μ-loop
 same-length-4 c = search needs
 
 returns-2 : tie.Need-returns-2 Inv-loop μ-loop
-returns-2 c = λ d s S. stop-late (c .before .before .before .before .before .before .before .loop .inv .2 d s S) _ (c .before .before .before .before .get .ensures) (c .before .before .before .if1 .left) _ (c .before .entry-seconds .ensures) (c .if2 .taken)
+returns-2 c =
+    let here : tie.After-get Inv-loop μ-loop = search in let get = here .get in
+    let here : tie.At-loop Inv-loop μ-loop = search in let loop = here .loop in
+    λ d s S.
+    stop-late (loop .inv .2 d s S) _ (get .ensures) (c .before .before .before .if1 .left) _
+    (c .before .entry-seconds .ensures) (c .if2 .taken)
 
 entry-place-requires : tie.Need-entry-place-requires Inv-loop μ-loop
 entry-place-requires c κs = search needs
 
 time-out-requires : tie.Need-time-out-requires Inv-loop μ-loop
-time-out-requires c κs = let g = goes-on (c .before .before .before .before .before .before .before .before .before .before .before .loop .inv .2 (c .before .before .before .before .before .before .before .before .before .before .before .before .before .before .pre .1 .1 .0) (c .before .before .before .before .before .before .before .before .before .before .before .before .before .before .pre .1 .1 .1) (c .before .before .before .before .before .before .before .before .before .before .before .before .before .before .pre .1 .1 .2)) _ (c .before .before .before .before .before .before .before .before .get .ensures) (c .before .before .before .before .before .before .before .if1 .left) _ (c .before .before .before .before .before .entry-seconds .ensures) (c .before .before .before .before .if2 .left) _ (c .before .before .entry-place .ensures) in (search needs, (search needs, (g .0, g .1)))
+time-out-requires c κs =
+    let here : tie.Else2 Inv-loop μ-loop = search in let if2 = here .if2 in
+    let here : tie.After-entry-seconds Inv-loop μ-loop = search in let entry-seconds = here .entry-seconds in
+    let here : tie.Else1 Inv-loop μ-loop = search in let if1 = here .if1 in
+    let here : tie.After-get Inv-loop μ-loop = search in let get = here .get in
+    let here : tie.At-loop Inv-loop μ-loop = search in let loop = here .loop in
+    let start : tie.Start Inv-loop μ-loop = search in
+    let g = goes-on (loop .inv .2 (start .pre .1 .1 .0) (start .pre .1 .1 .1) (start .pre .1 .1 .2)) _
+    (get .ensures) (if1 .left) _ (entry-seconds .ensures) (if2 .left) _
+    (c .before .before .entry-place .ensures) in
+    (search needs, (search needs, (g .0, g .1)))
 
 sub-n : tie.Need-sub-n Inv-loop μ-loop
 sub-n c = search needs
@@ -60,7 +78,21 @@ loop-less : tie.Need-loop-less Inv-loop μ-loop
 loop-less c = search needs
 
 loop-again : tie.Need-loop-again Inv-loop μ-loop
-loop-again c = (search needs, search needs, rw (c .before .before .before .before .time-out .ensures .0, c .before .before .before .before .time-out .ensures .1) (λ d s S. goes-on (c .before .before .before .before .before .before .before .before .before .before .before .before .before .before .before .before .loop .inv .2 d s S) _ (c .before .before .before .before .before .before .before .before .before .before .before .before .before .get .ensures) (c .before .before .before .before .before .before .before .before .before .before .before .before .if1 .left) _ (c .before .before .before .before .before .before .before .before .before .before .entry-seconds .ensures) (c .before .before .before .before .before .before .before .before .before .if2 .left) _ (c .before .before .before .before .before .before .before .entry-place .ensures) .2))
+loop-again c =
+    let here : tie.After-time-out Inv-loop μ-loop = search in let time-out = here .time-out in
+    let here : tie.After-entry-place Inv-loop μ-loop = search in let entry-place = here .entry-place in
+    let here : tie.Else2 Inv-loop μ-loop = search in let if2 = here .if2 in
+    let here : tie.After-entry-seconds Inv-loop μ-loop = search in let entry-seconds = here .entry-seconds in
+    let here : tie.Else1 Inv-loop μ-loop = search in let if1 = here .if1 in
+    let here : tie.After-get Inv-loop μ-loop = search in let get = here .get in
+    let here : tie.At-loop Inv-loop μ-loop = search in let loop = here .loop in (
+      search needs,
+      search needs,
+      rw (time-out .ensures .0, time-out .ensures .1)
+          (λ d s S.
+          goes-on (loop .inv .2 d s S) _ (get .ensures) (if1 .left) _ (entry-seconds .ensures) (if2 .left) _
+          (entry-place .ensures) .2),
+    )
 
 same-length-5 : tie.Need-same-length-5 Inv-loop μ-loop
 same-length-5 c = search needs

@@ -7,8 +7,6 @@ use Rattle.words.proofs.Ors.{Sofar, sofar-start, sofar-on, sofar-end}
 use borrow.Author.Needs.{needs}
 use Rattle.words.proofs.quiet.Statement.{statement}
 use Rattle.words.proofs.quiet.Tie as tie
-use Rattle.words.proofs.quiet.Reads as reads
-use Rattle.words.proofs.quiet.Lts as lts
 
 abbrev Inv-loop : tie.InvT-loop
 Inv-loop s at n p₀ left₀ all₀ p left all = Sofar all (quiet s at n) (quiet s p left) × (p + left ≡ at + n)

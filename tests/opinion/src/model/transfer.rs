@@ -71,8 +71,6 @@ impl Desk {
             return Err(OUT_OF_RANGE);
         }
         let first = std::mem::replace(&mut writer.first, false);
-        // A writer has 47 on in no run; in memories that say so the rules let a write spend it too.
-        writer.leave_next = false;
         // It waits if it doesn't fit or has writers waiting ahead.
         let answer = if f.write_queue.is_empty() && f.data_fits() {
             f.notes.add_if(data.is_empty(), "zero-byte record written");

@@ -1,8 +1,6 @@
 use borrow.Author.Tests.{lt-ltb, le-ltb, eq-eqb, ne-eqb}
 use Rattle.blocks.proofs.check.begun.Statement.{statement}
 use Rattle.blocks.proofs.check.begun.Tie as tie
-use Rattle.blocks.proofs.check.begun.Reads as reads
-use Rattle.blocks.proofs.check.begun.Lts as lts
 
 returns : tie.Need-returns
 returns c = rw (eq-eqb _ _ (c .if1 .taken))

@@ -4,10 +4,6 @@ use Rattle.blocks.proofs.check.Laws.{unfair, fair-bare, fair-even, fair
 use borrow.Author.Needs.{needs}
 use Rattle.blocks.proofs.check.fair.Statement.{statement}
 use Rattle.blocks.proofs.check.fair.Tie as tie
-use Rattle.blocks.proofs.check.fair.Reads as reads
-use Rattle.blocks.proofs.check.fair.Lts as lts
-use Rattle.blocks.proofs.reading.next.Reads as next-reads
-use Rattle.words.proofs.get.Reads as get-reads
 
 add-if1 : tie.Need-add-if1
 add-if1 c = search needs
@@ -55,10 +51,31 @@ returns-6 : tie.Need-returns-6
 returns-6 c = unfair _ _ _ _ (λ f. omega (arith, f .from))
 
 returns-7 : tie.Need-returns-7
-returns-7 c = fair-bare _ _ _ _ _ _ _ _ (c .before .before .before .before .before .before .before .before .before .get .ensures) (c .before .before .before .before .before .before .next .ensures .0) (c .before .before .before .before .get2 .ensures) (c .before .before .get3 .ensures) (c .before .before .before .before .before .before .before .before .before .before .if1 .left) (c .before .before .before .before .before .before .before .before .if2 .left) (c .before .before .before .before .before .before .before .if3 .left) (c .before .before .before .before .before .if4 .left) (c .before .before .before .if5 .left) (c .before .if6 .left) (c .if7 .taken)
+returns-7 c =
+    let here : tie.After-get2 = search in let get2 = here .get2 in
+    let here : tie.Else4 = search in let if4 = here .if4 in
+    let here : tie.After-next = search in let next′ = here .next in
+    let here : tie.Else3 = search in let if3 = here .if3 in
+    let here : tie.Else2 = search in let if2 = here .if2 in
+    let here : tie.After-get = search in let get = here .get in
+    let here : tie.Else1 = search in let if1 = here .if1 in
+    fair-bare _ _ _ _ _ _ _ _ (get .ensures) (next′ .ensures .0) (get2 .ensures)
+    (c .before .before .get3 .ensures) (if1 .left) (if2 .left) (if3 .left) (if4 .left)
+    (c .before .before .before .if5 .left) (c .before .if6 .left) (c .if7 .taken)
 
 returns-8 : tie.Need-returns-8
-returns-8 c = fair-even _ _ _ _ _ _ _ _ (c .before .before .before .before .before .before .before .before .before .before .get .ensures) (c .before .before .before .before .before .before .before .next .ensures .0) (c .before .before .before .before .before .get2 .ensures) (c .before .before .before .get3 .ensures) (c .before .before .before .before .before .before .before .before .before .before .before .if1 .left) (c .before .before .before .before .before .before .before .before .before .if2 .left) (c .before .before .before .before .before .before .before .before .if3 .left) (c .before .before .before .before .before .before .if4 .left) (c .before .before .before .before .if5 .left) (c .before .before .if6 .left) (c .before .if7 .left) (c .if8 .taken)
+returns-8 c =
+    let here : tie.Else5 = search in let if5 = here .if5 in
+    let here : tie.After-get2 = search in let get2 = here .get2 in
+    let here : tie.Else4 = search in let if4 = here .if4 in
+    let here : tie.After-next = search in let next′ = here .next in
+    let here : tie.Else3 = search in let if3 = here .if3 in
+    let here : tie.Else2 = search in let if2 = here .if2 in
+    let here : tie.After-get = search in let get = here .get in
+    let here : tie.Else1 = search in let if1 = here .if1 in
+    fair-even _ _ _ _ _ _ _ _ (get .ensures) (next′ .ensures .0) (get2 .ensures)
+    (c .before .before .before .get3 .ensures) (if1 .left) (if2 .left) (if3 .left) (if4 .left) (if5 .left)
+    (c .before .before .if6 .left) (c .before .if7 .left) (c .if8 .taken)
 
 add-result : tie.Need-add-result
 add-result c = search needs
@@ -71,10 +88,24 @@ add-result-2 c = search needs
 
 shared-slice-read-result : tie.Need-shared-slice-read-result
 unfolding next
-shared-slice-read-result c = omega (arith, c .before .before .before .before .before .before .before .before .next .ensures .0)
+shared-slice-read-result c =
+    let here : tie.After-next = search in let next′ = here .next in
+    omega (arith, next′ .ensures .0)
 
 returns-9 : tie.Need-returns-9
-returns-9 c = fair-odd _ _ _ _ _ _ _ _ (c .before .before .before .before .before .before .before .before .before .before .before .get .ensures) (c .before .before .before .before .before .before .before .before .next .ensures .0) (c .before .before .before .before .before .before .get2 .ensures) (c .before .before .before .before .get3 .ensures) (c .before .before .before .before .before .before .before .before .before .before .before .before .if1 .left) (c .before .before .before .before .before .before .before .before .before .before .if2 .left) (c .before .before .before .before .before .before .before .before .before .if3 .left) (c .before .before .before .before .before .before .before .if4 .left) (c .before .before .before .before .before .if5 .left) (c .before .before .before .if6 .left) (c .before .before .if7 .left) (c .before .if8 .left)
+returns-9 c =
+    let here : tie.After-get3 = search in let get3 = here .get3 in
+    let here : tie.Else5 = search in let if5 = here .if5 in
+    let here : tie.After-get2 = search in let get2 = here .get2 in
+    let here : tie.Else4 = search in let if4 = here .if4 in
+    let here : tie.After-next = search in let next′ = here .next in
+    let here : tie.Else3 = search in let if3 = here .if3 in
+    let here : tie.Else2 = search in let if2 = here .if2 in
+    let here : tie.After-get = search in let get = here .get in
+    let here : tie.Else1 = search in let if1 = here .if1 in
+    fair-odd _ _ _ _ _ _ _ _ (get .ensures) (next′ .ensures .0) (get2 .ensures) (get3 .ensures) (if1 .left)
+    (if2 .left) (if3 .left) (if4 .left) (if5 .left) (c .before .before .before .if6 .left)
+    (c .before .before .if7 .left) (c .before .if8 .left)
 
 pub fair-spec : {M : Type 1} → statement M
 fair-spec =

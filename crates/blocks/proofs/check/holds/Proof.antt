@@ -2,10 +2,6 @@ use Rattle.blocks.proofs.check.Laws.{holds-off, holds-on}
 use borrow.Author.Needs.{needs}
 use Rattle.blocks.proofs.check.holds.Statement.{statement}
 use Rattle.blocks.proofs.check.holds.Tie as tie
-use Rattle.blocks.proofs.check.holds.Reads as reads
-use Rattle.blocks.proofs.check.holds.Lts as lts
-use Rattle.blocks.proofs.check.walk.Reads as walk-reads
-use Rattle.words.proofs.get.Reads as get-reads
 
 get-requires : tie.Need-get-requires
 get-requires c κs = search needs
@@ -38,7 +34,10 @@ walk-requires : tie.Need-walk-requires
 walk-requires c κs = search needs
 
 returns-2 : tie.Need-returns-2
-returns-2 c = holds-on _ _ _ _ _ (c .before .before .before .before .get .ensures) _ _ (c .before .before .before .if1 .left) (c .before .before .get2 .ensures) (c .walk .ensures)
+returns-2 c =
+    let here : tie.After-get = search in let get = here .get in
+    holds-on _ _ _ _ _ (get .ensures) _ _ (c .before .before .before .if1 .left)
+    (c .before .before .get2 .ensures) (c .walk .ensures)
 
 pub holds-spec : {M : Type 1} → statement M
 holds-spec =

@@ -3,21 +3,19 @@ use mathlib.Core.Path.{_≡_, refl, sym, _∙_}
 use native.Mathlib.Omega.{arith}
 use borrow.Author.Tests.{not-true, not-false}
 use Rattle.shares.specs.Sound.{sweep}
-use Rattle.blocks.specs.Ring.{geo}
-use Rattle.blocks.proofs.ring.Laws.{wrapped-less}
+use Rattle.ring.specs.Ring.{geo}
+use Rattle.ring.proofs.Laws.{wrapped-less}
 use Rattle.blocks.proofs.check.Laws.{sweep-done, sweep-end, sweep-bad, sweep-step}
 use borrow.Author.Needs.{needs}
 use Rattle.blocks.proofs.check.sweep.Statement.{statement}
 use Rattle.blocks.proofs.check.sweep.Tie as tie
-use Rattle.blocks.proofs.check.sweep.Reads as reads
-use Rattle.blocks.proofs.check.sweep.Lts as lts
-use Rattle.blocks.proofs.check.holds.Reads as holds-reads
-use Rattle.blocks.proofs.check.least.Reads as least-reads
-use Rattle.blocks.proofs.layout.block_span.Reads as block-span-reads
-use Rattle.blocks.proofs.ring.wrapped.Reads as wrapped-reads
 
 abbrev Inv-loop : tie.InvT-loop
-Inv-loop share ring words block₀ n₀ left₀ block n left = (sweep (geo words ring) share (ring .block) (ring .blocks) (ring .spent + ring .held) ≡ sweep (geo words ring) share block n left) × (block < ring .blocks) × (left ≤ ring .spent + ring .held)
+Inv-loop share ring words block₀ n₀ left₀ block n left =
+    (sweep (geo words ring) share (ring .block) (ring .blocks) (ring .spent + ring .held) ≡ sweep
+    (geo words ring) share block n left)
+    × (block < ring .blocks)
+    × (left ≤ ring .spent + ring .held)
 
 abbrev μ-loop : tie.MeasureT-loop
 μ-loop share ring words block₀ n₀ left₀ block n left = n
@@ -47,7 +45,15 @@ holds-requires : tie.Need-holds-requires Inv-loop μ-loop
 holds-requires c κs = search needs
 
 returns-2 : tie.Need-returns-2 Inv-loop μ-loop
-returns-2 c = sym (c .before .before .before .before .before .before .loop .inv .0 ∙ sweep-bad _ _ _ _ _ _ _ (c .before .before .before .before .before .loop-test .taken) (c .before .before .before .before .if1 .left) (c .before .before .before .before .before .before .loop .inv .1) (c .before .before .block-span .ensures .0) (c .before .before .before .least .ensures) (sym (c .before .holds .ensures) ∙ not-true _ (c .if2 .taken)))
+returns-2 c =
+    let here : tie.Else1 Inv-loop μ-loop = search in let if1 = here .if1 in
+    let here : tie.In-loop Inv-loop μ-loop = search in let loop-test = here .loop-test in
+    let here : tie.At-loop Inv-loop μ-loop = search in let loop = here .loop in
+    sym
+    (loop .inv .0
+    ∙ sweep-bad _ _ _ _ _ _ _ (loop-test .taken) (if1 .left) (loop .inv .1)
+    (c .before .before .block-span .ensures .0) (c .before .before .before .least .ensures)
+    (sym (c .before .holds .ensures) ∙ not-true _ (c .if2 .taken)))
 
 add-wrapped : tie.Need-add-wrapped Inv-loop μ-loop
 add-wrapped c = search needs
@@ -68,11 +74,18 @@ loop-less : tie.Need-loop-less Inv-loop μ-loop
 loop-less c = search needs
 
 loop-again : tie.Need-loop-again Inv-loop μ-loop
-loop-again c = (
-  c .before .before .before .before .before .before .before .loop .inv .0 ∙ sweep-step _ _ _ _ _ _ _ (c .before .before .before .before .before .before .loop-test .taken) (c .before .before .before .before .before .if1 .left) (c .before .before .before .before .before .before .before .loop .inv .1) (c .before .before .before .block-span .ensures .0) (c .before .before .before .before .least .ensures) _ (c .wrapped .ensures) (sym (c .before .before .holds .ensures) ∙ not-false _ (c .before .if2 .left)),
-  rw (c .wrapped .ensures) (wrapped-less _ _ (omega arith)),
-  omega arith,
-)
+loop-again c =
+    let here : tie.After-least Inv-loop μ-loop = search in let least = here .least in
+    let here : tie.Else1 Inv-loop μ-loop = search in let if1 = here .if1 in
+    let here : tie.In-loop Inv-loop μ-loop = search in let loop-test = here .loop-test in
+    let here : tie.At-loop Inv-loop μ-loop = search in let loop = here .loop in (
+      loop .inv .0
+          ∙ sweep-step _ _ _ _ _ _ _ (loop-test .taken) (if1 .left) (loop .inv .1)
+          (c .before .before .before .block-span .ensures .0) (least .ensures) _ (c .wrapped .ensures)
+          (sym (c .before .before .holds .ensures) ∙ not-false _ (c .before .if2 .left)),
+      rw (c .wrapped .ensures) (wrapped-less _ _ (omega arith)),
+      omega arith,
+    )
 
 returns-3 : tie.Need-returns-3 Inv-loop μ-loop
 returns-3 c = sym (c .before .loop .inv .0 ∙ sweep-end _ _ _ _ _ (c .loop-test .left))

@@ -1,3 +1,4 @@
+-- `check::walk` meets its contract: an answer to each need, in the order of the code.
 use Prim.Native.Nat.{_≤_}
 use mathlib.Core.Path.{_≡_, refl, sym, _∙_}
 use borrow.Author.Tests.{not-true, not-false}
@@ -7,12 +8,6 @@ use Rattle.blocks.proofs.check.Laws.{walk-step, walk-bad, walk-off, wal
 use borrow.Author.Needs.{needs}
 use Rattle.blocks.proofs.check.walk.Statement.{statement}
 use Rattle.blocks.proofs.check.walk.Tie as tie
-use Rattle.blocks.proofs.check.walk.Reads as reads
-use Rattle.blocks.proofs.check.walk.Lts as lts
-use Rattle.blocks.proofs.check.fair.Reads as fair-reads
-use Rattle.blocks.proofs.quick.whole.Reads as whole-reads
-use Rattle.blocks.proofs.reading.next.Reads as next-reads
-use Rattle.words.proofs.quiet.Reads as quiet-reads
 
 abbrev Inv-loop : tie.InvT-loop
 Inv-loop share words e end at n p₀ left₀ p left = (walk words share e end at n ≡ walk words share e end p left) × (p ≤ e)
@@ -20,79 +15,79 @@ Inv-loop share words e end at n p₀ left₀ p left = (walk words share e end at
 abbrev μ-loop : tie.MeasureT-loop
 μ-loop share words e end at n p₀ left₀ p left = left
 
--- src/check.rt:86:5
 loop-holds : tie.Need-loop-holds Inv-loop μ-loop
 loop-holds c = (refl, search needs)
 
--- src/check.rt:87:12
 whole-requires : tie.Need-whole-requires Inv-loop μ-loop
 whole-requires c κs = search needs
 
--- src/check.rt:88:32
 mul-p : tie.Need-mul-p Inv-loop μ-loop
 mul-p c = search needs
 
--- src/check.rt:88:18
 add-p : tie.Need-add-p Inv-loop μ-loop
 add-p c = search needs
 
--- src/check.rt:88:13
 add-p-2 : tie.Need-add-p-2 Inv-loop μ-loop
 add-p-2 c = search needs
 
--- src/check.rt:89:13
 sub-left : tie.Need-sub-left Inv-loop μ-loop
 sub-left c = search needs
 
--- src/check.rt:86:5
 loop-less : tie.Need-loop-less Inv-loop μ-loop
 loop-less c = search needs
 
--- src/check.rt:86:5
 loop-again : tie.Need-loop-again Inv-loop μ-loop
-loop-again c = let w = c .before .whole .ensures (c .if1 .taken) in (c .before .before .before .loop .inv .0 ∙ walk-step _ _ _ _ _ _ _ (c .before .before .loop-test .taken) (w .0) (sym (w .1)), w .2)
+loop-again c =
+    let w = c .before .whole .ensures (c .if1 .taken) in (
+      c .before .before .before .loop .inv .0
+          ∙ walk-step _ _ _ _ _ _ _ (c .before .before .loop-test .taken) (w .0) (sym (w .1)),
+      w .2,
+    )
 
--- src/check.rt:92:13
 fair-requires : tie.Need-fair-requires Inv-loop μ-loop
 fair-requires c κs = search needs
 
--- src/check.rt:93:13
 returns : tie.Need-returns Inv-loop μ-loop
-returns c = sym (c .before .before .before .before .before .loop .inv .0 ∙ walk-bad _ _ _ _ _ _ (c .before .before .before .before .loop-test .taken) (sym (c .before .fair .ensures) ∙ not-true _ (c .if2 .taken)))
+returns c =
+    let here : tie.In-loop Inv-loop μ-loop = search in let loop-test = here .loop-test in
+    let here : tie.At-loop Inv-loop μ-loop = search in let loop = here .loop in
+    sym
+    (loop .inv .0
+    ∙ walk-bad _ _ _ _ _ _ (loop-test .taken) (sym (c .before .fair .ensures) ∙ not-true _ (c .if2 .taken)))
 
--- src/check.rt:95:9
 next-requires : tie.Need-next-requires Inv-loop μ-loop
 next-requires c κs = let f = fair-says _ _ _ _ (sym (c .before .fair .ensures) ∙ not-false _ (c .if2 .left)) in search needs
 
--- src/check.rt:96:9
 sub-left-2 : tie.Need-sub-left-2 Inv-loop μ-loop
 sub-left-2 c = search needs
 
--- src/check.rt:86:5
 loop-less-2 : tie.Need-loop-less-2 Inv-loop μ-loop
 loop-less-2 c = search needs
 
--- src/check.rt:86:5
 loop-again-2 : tie.Need-loop-again-2 Inv-loop μ-loop
 loop-again-2 c =
-    let t = sym (c .before .before .fair .ensures) ∙ not-false _ (c .before .if2 .left) in
-    (c .before .before .before .before .before .before .loop .inv .0 ∙ walk-step _ _ _ _ _ _ _ (c .before .before .before .before .before .loop-test .taken) t (c .next .ensures .0), rw (c .next .ensures .0) (fair-says _ _ _ _ t .inside))
+    let here : tie.In-loop Inv-loop μ-loop = search in let loop-test = here .loop-test in
+    let here : tie.At-loop Inv-loop μ-loop = search in let loop = here .loop in
+    let t = sym (c .before .before .fair .ensures) ∙ not-false _ (c .before .if2 .left) in (
+      loop .inv .0 ∙ walk-step _ _ _ _ _ _ _ (loop-test .taken) t (c .next .ensures .0),
+      rw (c .next .ensures .0) (fair-says _ _ _ _ t .inside),
+    )
 
--- src/check.rt:99:9
 returns-2 : tie.Need-returns-2 Inv-loop μ-loop
 returns-2 c = sym (c .before .before .loop .inv .0 ∙ walk-off _ _ _ _ _ _ (c .before .loop-test .left) (c .if3 .taken))
 
--- src/check.rt:101:28
 sub-quiet : tie.Need-sub-quiet Inv-loop μ-loop
 sub-quiet c = search needs
 
--- src/check.rt:101:5
 quiet-requires : tie.Need-quiet-requires Inv-loop μ-loop
 quiet-requires c κs = search needs
 
--- src/check.rt:80:1
 returns-3 : tie.Need-returns-3 Inv-loop μ-loop
-returns-3 c = c .quiet .ensures ∙ sym (c .before .before .before .loop .inv .0 ∙ walk-end _ _ _ _ _ _ (c .before .before .loop-test .left) (c .before .if3 .left))
+returns-3 c =
+    c .quiet .ensures
+    ∙ sym
+    (c .before .before .before .loop .inv .0
+    ∙ walk-end _ _ _ _ _ _ (c .before .before .loop-test .left) (c .before .if3 .left))
 
 pub walk-spec : {M : Type 1} → statement M
 walk-spec =

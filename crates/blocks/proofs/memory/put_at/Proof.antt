@@ -4,9 +4,6 @@ use Rattle.blocks.proofs.memory.Laws.{length-inscribed}
 use borrow.Author.Needs.{needs}
 use Rattle.blocks.proofs.memory.put_at.Statement.{statement}
 use Rattle.blocks.proofs.memory.put_at.Tie as tie
-use Rattle.blocks.proofs.memory.put_at.Reads as reads
-use Rattle.blocks.proofs.memory.put_at.Lts as lts
-use Rattle.blocks.proofs.writing.put.Reads as put-reads
 
 mul-a : tie.Need-mul-a
 mul-a c = search needs
@@ -30,10 +27,14 @@ same-length : tie.Need-same-length
 same-length c = search needs
 
 returns : tie.Need-returns
-returns c = (
-  c .before .before .put .ensures .0,
-  rw span (part-lent _ _ _ _ 8 _ (c .before .before .before .before .before .before .pre .0 .0) (c .before .before .before .before .before .before .pre .0 .1) (length-inscribed _ _ _ _ ∙ length-part _ _ 8 _ (c .before .before .before .before .before .before .pre .0 .0) (c .before .before .before .before .before .before .pre .0 .1)) (rw span at (c .before .before .put .ensures .1))),
-)
+returns c =
+    let start : tie.Start = search in (
+      c .before .before .put .ensures .0,
+      rw span
+          (part-lent _ _ _ _ 8 _ (start .pre .0 .0) (start .pre .0 .1)
+          (length-inscribed _ _ _ _ ∙ length-part _ _ 8 _ (start .pre .0 .0) (start .pre .0 .1))
+          (rw span at (c .before .before .put .ensures .1))),
+    )
 
 pub put-at-spec : {M : Type 1} → statement M
 put-at-spec =

@@ -2,8 +2,6 @@ use Rattle.words.proofs.Parts.{span}
 use borrow.Author.Needs.{needs}
 use Rattle.blocks.proofs.memory.share.Statement.{statement}
 use Rattle.blocks.proofs.memory.share.Tie as tie
-use Rattle.blocks.proofs.memory.share.Reads as reads
-use Rattle.blocks.proofs.memory.share.Lts as lts
 
 mul-a : tie.Need-mul-a
 mul-a c = search needs

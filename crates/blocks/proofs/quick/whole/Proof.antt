@@ -6,9 +6,6 @@ use borrow.Author.Needs.{needs}
 use Rattle.blocks.proofs.quick.Laws.{two-words, whole-fair}
 use Rattle.blocks.proofs.quick.whole.Statement.{statement}
 use Rattle.blocks.proofs.quick.whole.Tie as tie
-use Rattle.blocks.proofs.quick.whole.Reads as reads
-use Rattle.blocks.proofs.quick.whole.Lts as lts
-use Rattle.words.proofs.get.Reads as get-reads
 
 mul-if1 : tie.Need-mul-if1
 mul-if1 c = search needs
@@ -71,11 +68,14 @@ get-requires-3 : tie.Need-get-requires-3
 get-requires-3 c κs = search needs
 
 returns-3 : tie.Need-returns-3
-returns-3 c = λ h.
+returns-3 c =
+    let here : tie.Else1 = search in let if1 = here .if1 in
+    λ h.
     let w = c .before .before .before .get in
     let t = c .before .before .get2 in
     let v = two-words (w .result) (t .result) _ (omega arith) (c .before .if2 .left) in
-    whole-fair _ _ _ _ (c .before .before .before .before .if1 .left) (sym (w .ensures) ∙ v .0) (sym (t .ensures) ∙ v .1) (omega (arith, leb-true 1 (c .get3 .result) h, c .get3 .ensures))
+    whole-fair _ _ _ _ (if1 .left) (sym (w .ensures) ∙ v .0) (sym (t .ensures) ∙ v .1)
+    (omega (arith, leb-true 1 (c .get3 .result) h, c .get3 .ensures))
 
 pub whole-spec : {M : Type 1} → statement M
 whole-spec =

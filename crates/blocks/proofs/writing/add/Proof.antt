@@ -2,11 +2,6 @@ use Rattle.blocks.proofs.writing.Laws.{rest-back, added-written}
 use borrow.Author.Needs.{needs}
 use Rattle.blocks.proofs.writing.add.Statement.{statement}
 use Rattle.blocks.proofs.writing.add.Tie as tie
-use Rattle.blocks.proofs.writing.add.Reads as reads
-use Rattle.blocks.proofs.writing.add.Lts as lts
-use Rattle.blocks.proofs.writing.write_record.Reads as write-record-reads
-use Rattle.words.proofs.get.Reads as get-reads
-use Rattle.words.proofs.put.Reads as put-reads
 
 get-requires : tie.Need-get-requires
 get-requires c κs = search needs
@@ -69,7 +64,14 @@ same-length : tie.Need-same-length
 same-length c = search needs
 
 returns : tie.Need-returns
-returns c = added-written _ _ _ _ _ _ _ _ (c .before .before .before .before .before .before .before .before .before .before .before .before .before .before .get .ensures) (c .before .before .before .before .before .before .before .before .before .before .before .before .get2 .ensures) (rest-back _ _ _ _ _ (search needs) (search needs) (c .before .before .before .before .before .before .before .before .before .before .write-record .ensures)) (c .before .before .before .before .before .before .put .ensures) (c .before .before .put2 .ensures)
+returns c =
+    let here : tie.After-put = search in let put = here .put in
+    let here : tie.After-write-record = search in let write-record = here .write-record in
+    let here : tie.After-get2 = search in let get2 = here .get2 in
+    let here : tie.After-get = search in let get = here .get in
+    added-written _ _ _ _ _ _ _ _ (get .ensures) (get2 .ensures)
+    (rest-back _ _ _ _ _ (search needs) (search needs) (write-record .ensures)) (put .ensures)
+    (c .before .before .put2 .ensures)
 
 pub add-spec : {M : Type 1} → statement M
 add-spec =

@@ -3,8 +3,6 @@ use Rattle.rules.specs.Store.{pad}
 use borrow.Author.Needs.{needs}
 use Rattle.blocks.proofs.writing.pad_record.Statement.{statement}
 use Rattle.blocks.proofs.writing.pad_record.Tie as tie
-use Rattle.blocks.proofs.writing.pad_record.Reads as reads
-use Rattle.blocks.proofs.writing.pad_record.Lts as lts
 
 returns : tie.Need-returns
 unfolding pad

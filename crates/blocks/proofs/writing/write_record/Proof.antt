@@ -2,11 +2,6 @@ use Rattle.blocks.proofs.writing.Laws.{record-written}
 use borrow.Author.Needs.{needs}
 use Rattle.blocks.proofs.writing.write_record.Statement.{statement}
 use Rattle.blocks.proofs.writing.write_record.Tie as tie
-use Rattle.blocks.proofs.writing.write_record.Reads as reads
-use Rattle.blocks.proofs.writing.write_record.Lts as lts
-use Rattle.blocks.proofs.writing.pad_record.Reads as pad-record-reads
-use Rattle.words.proofs.copy.Reads as copy-reads
-use Rattle.words.proofs.put.Reads as put-reads
 
 add-put : tie.Need-add-put
 add-put c = search needs
@@ -36,7 +31,13 @@ same-length : tie.Need-same-length
 same-length c = search needs
 
 returns : tie.Need-returns
-returns c = record-written _ _ _ _ _ _ _ _ _ (c .before .before .before .before .before .before .before .before .before .before .before .before .before .before .before .before .before .before .put .ensures) (c .before .before .before .before .before .before .before .before .before .before .before .before .before .before .put2 .ensures) (c .before .before .before .before .before .before .before .before .before .before .put3 .ensures) (c .before .before .before .before .before .before .copy .ensures) (c .before .before .pad-record .ensures)
+returns c =
+    let here : tie.After-copy = search in let copy = here .copy in
+    let here : tie.After-put3 = search in let put3 = here .put3 in
+    let here : tie.After-put2 = search in let put2 = here .put2 in
+    let here : tie.After-put = search in let put = here .put in
+    record-written _ _ _ _ _ _ _ _ _ (put .ensures) (put2 .ensures) (put3 .ensures) (copy .ensures)
+    (c .before .before .pad-record .ensures)
 
 pub write-record-spec : {M : Type 1} → statement M
 write-record-spec =

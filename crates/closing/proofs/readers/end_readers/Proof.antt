@@ -1,3 +1,4 @@
+-- `readers::end_readers` meets its contract: an answer to each need, in the order of the code.
 use lib.ListN.{length}
 use mathlib.Core.Path.{_≡_, refl, _∙_}
 use native.Mathlib.Omega.{arith}
@@ -14,47 +15,54 @@ Inv-loop segment₀ f slot₀ left₀ segment slot left = Walked f segment₀ se
 abbrev μ-loop : tie.MeasureT-loop
 μ-loop segment₀ f slot₀ left₀ segment slot left = left
 
--- src/readers.rt:60:20
 add-slot : tie.Need-add-slot Inv-loop μ-loop
 add-slot c = record { fits = omega (arith, gone-size _ _ (c .before .pre) .1) }
 
--- src/readers.rt:62:5
 loop-holds : tie.Need-loop-holds Inv-loop μ-loop
 loop-holds c = (λ n blocks buffers x o b M. walk-begin M, refl)
 
--- src/readers.rt:63:13
 get-requires : tie.Need-get-requires Inv-loop μ-loop
-get-requires c κs = walked-size _ _ _ _ _ (c .before .before .loop .inv .0) (c .before .before .before .before .pre)
+get-requires c κs =
+    let start : tie.Start Inv-loop μ-loop = search in
+    walked-size _ _ _ _ _ (c .before .before .loop .inv .0) (start .pre)
 
--- src/readers.rt:65:13
 same-length : tie.Need-same-length Inv-loop μ-loop
-same-length c = c .before .before .before .before .loop .inv .1
+same-length c =
+    let here : tie.At-loop Inv-loop μ-loop = search in let loop = here .loop in
+    loop .inv .1
 
--- src/readers.rt:65:13
 returns : tie.Need-returns Inv-loop μ-loop
-returns c = λ n blocks buffers x o b M. walk-stop (c .before .before .before .before .loop .inv .0 n blocks buffers x o b M) _ (c .before .get .ensures) (c .if1 .taken)
+returns c =
+    let here : tie.At-loop Inv-loop μ-loop = search in let loop = here .loop in
+    λ n blocks buffers x o b M.
+    walk-stop (loop .inv .0 n blocks buffers x o b M) _ (c .before .get .ensures) (c .if1 .taken)
 
--- src/readers.rt:67:9
 pass-requires : tie.Need-pass-requires Inv-loop μ-loop
-pass-requires c κs = walked-stops _ _ _ _ _ (c .before .before .before .before .before .loop .inv .0) (c .before .before .before .before .before .before .before .pre) _ (c .before .before .get .ensures) (omega (arith, c .before .if1 .left))
+pass-requires c κs =
+    let here : tie.At-loop Inv-loop μ-loop = search in let loop = here .loop in
+    let start : tie.Start Inv-loop μ-loop = search in
+    walked-stops _ _ _ _ _ (loop .inv .0) (start .pre) _ (c .before .before .get .ensures)
+    (omega (arith, c .before .if1 .left))
 
--- src/readers.rt:68:9
 sub-left : tie.Need-sub-left Inv-loop μ-loop
 sub-left c = search needs
 
--- src/readers.rt:62:5
 loop-less : tie.Need-loop-less Inv-loop μ-loop
-loop-less c = omega (arith, c .before .before .before .before .before .before .before .loop-test .taken)
+loop-less c =
+    let here : tie.In-loop Inv-loop μ-loop = search in let loop-test = here .loop-test in
+    omega (arith, loop-test .taken)
 
--- src/readers.rt:62:5
 loop-again : tie.Need-loop-again Inv-loop μ-loop
-loop-again c = (λ n blocks buffers x o b M. c .before .before .pass .ensures n blocks buffers x o b _ (c .before .before .before .before .before .before .before .before .loop .inv .0 n blocks buffers x o b M), c .before .before .pass .kept .0 ∙ c .before .before .before .before .before .before .before .before .loop .inv .1)
+loop-again c =
+    let here : tie.At-loop Inv-loop μ-loop = search in let loop = here .loop in (
+      λ n blocks buffers x o b M.
+          c .before .before .pass .ensures n _ blocks buffers x o b _ (loop .inv .0 n blocks buffers x o b M),
+      c .before .before .pass .kept .0 ∙ loop .inv .1,
+    )
 
--- src/readers.rt:56:1
 same-length-2 : tie.Need-same-length-2 Inv-loop μ-loop
 same-length-2 c = c .before .loop .inv .1
 
--- src/readers.rt:56:1
 returns-2 : tie.Need-returns-2 Inv-loop μ-loop
 returns-2 c = λ n blocks buffers x o b M. walk-done (c .before .loop .inv .0 n blocks buffers x o b M) (omega (arith, c .loop-test .left))
 

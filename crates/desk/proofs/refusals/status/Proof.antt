@@ -1,20 +1,15 @@
+-- `refusals::status` meets its contract: an answer to each need, in the order of the code.
 use Rattle.rules.specs.Answers.{answerBytes}
 use borrow.Author.Needs.{needs}
 use Rattle.desk.proofs.refusals.status.Statement.{statement}
 use Rattle.desk.proofs.refusals.status.Tie as tie
-use Rattle.desk.proofs.refusals.status.Reads as reads
-use Rattle.desk.proofs.refusals.status.Lts as lts
-use Rattle.frames.proofs.encode.Reads as encode-reads
 
--- src/refusals.rt:68:5
 encode-requires : tie.Need-encode-requires
 encode-requires c κs = search needs
 
--- src/refusals.rt:60:1
 same-length : tie.Need-same-length
 same-length c = search needs
 
--- src/refusals.rt:60:1
 returns : tie.Need-returns
 unfolding answerBytes
 returns c = record { bytes = c .before .before .encode .ensures .1 .0; size = c .before .before .encode .ensures .0 }

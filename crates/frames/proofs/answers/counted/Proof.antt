@@ -22,7 +22,12 @@ same-length : tie.Need-same-length
 same-length c = search needs
 
 returns : tie.Need-returns
-returns c = (refl, rw (c .before .before .put4 .ensures, c .before .before .before .before .before .before .put3 .ensures, c .before .before .before .before .before .before .before .before .before .before .put2 .ensures, c .before .before .before .before .before .before .before .before .before .before .before .before .before .before .put .ensures, c .before .before .before .before .before .before .before .before .before .before .before .before .before .before .before .before .before .before .status .ensures .1))
+returns c =
+    let here : tie.After-put3 = search in let put3 = here .put3 in
+    let here : tie.After-put2 = search in let put2 = here .put2 in
+    let here : tie.After-put = search in let put = here .put in
+    let here : tie.After-status = search in let status = here .status in
+    (refl, rw (c .before .before .put4 .ensures, put3 .ensures, put2 .ensures, put .ensures, status .ensures .1))
 
 pub counted-spec : {M : Type 1} → statement M
 counted-spec =

@@ -13,7 +13,9 @@ same-length : tie.Need-same-length
 same-length c = search needs
 
 returns : tie.Need-returns
-returns c = (refl, rw (c .before .before .put .ensures, c .before .before .before .before .before .before .status .ensures .1))
+returns c =
+    let here : tie.After-status = search in let status = here .status in
+    (refl, rw (c .before .before .put .ensures, status .ensures .1))
 
 pub done-word-spec : {M : Type 1} → statement M
 done-word-spec = tie.close (tie.spec status-requires put-requires same-length returns)

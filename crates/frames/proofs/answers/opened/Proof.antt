@@ -21,7 +21,13 @@ slice-write-out c = search needs
 put-requires : tie.Need-put-requires
 put-requires c κs = simp length-set (omega arith)
 
-stored : (c : lts.After-slice-known3 (status-reads.Asked, status-reads.Learnt, put-reads.Asked, put-reads.Learnt) reads.Pre reads.Post) → c .before .before .put .last .0 ≡ sets (c .before .before .before .before .before .before .before .before .before .args .out .now) 0 (2 ∷ 0 ∷ c .before .before .before .before .before .before .before .before .before .args .acc ∷ word (c .before .before .before .before .before .before .before .before .before .args .id))
+stored :
+    (c : lts.After-slice-known3 (status-reads.Asked, status-reads.Learnt, put-reads.Asked, put-reads.Learnt)
+    reads.Pre reads.Post)
+    → c .before .before .put .last .0 ≡ sets
+    (c .before .before .before .before .before .before .before .before .before .args .out .now) 0
+    (2 ∷ 0 ∷ c .before .before .before .before .before .before .before .before .before .args .acc ∷ word
+    (c .before .before .before .before .before .before .before .before .before .args .id))
 stored c = rw (c .before .before .put .ensures, c .before .before .before .before .before .before .status .ensures .1)
 
 same-length : tie.Need-same-length

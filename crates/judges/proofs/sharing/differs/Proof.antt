@@ -1,19 +1,17 @@
+-- `sharing::differs` meets its contract: an answer to each need, in the order of the code.
 use borrow.Author.Tests.{eq-eqb, ne-eqb}
-use Rattle.judges.specs.Sides.{differs}
+use Rattle.judges.specs.Sharing.{differs}
 use borrow.Author.Needs.{needs}
 use Rattle.judges.proofs.sharing.differs.Statement.{statement}
 use Rattle.judges.proofs.sharing.differs.Tie as tie
 
--- src/sharing.rt:53:9
 read-place-requires : tie.Need-read-place-requires
 read-place-requires c κs = search needs
 
--- src/sharing.rt:55:9
 returns : tie.Need-returns
 unfolding differs
 returns c = rw (← c .before .before .read-place .ensures, eq-eqb _ _ (c .if1 .taken))
 
--- src/sharing.rt:48:1
 returns-2 : tie.Need-returns-2
 unfolding differs
 returns-2 c = rw (← c .before .before .before .read-place .ensures, ne-eqb _ _ (c .before .if1 .left))

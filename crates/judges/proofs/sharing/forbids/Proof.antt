@@ -1,31 +1,33 @@
+-- `sharing::forbids` meets its contract: an answer to each need, in the order of the code.
 use Rattle.judges.proofs.Together as together
 use borrow.Author.Needs.{needs}
 use Rattle.judges.proofs.sharing.forbids.Statement.{statement}
 use Rattle.judges.proofs.sharing.forbids.Tie as tie
 
--- src/sharing.rt:119:9
 returns : tie.Need-returns
 returns c = λ b S. together.forbids-multi _ _ b S _ _ _ (c .if1 .taken)
 
--- src/sharing.rt:121:9
 share-of-requires : tie.Need-share-of-requires
 share-of-requires c κs = search needs
 
--- src/sharing.rt:122:8
 others-requires : tie.Need-others-requires
 others-requires c κs = search needs
 
--- src/sharing.rt:123:9
 returns-2 : tie.Need-returns-2
-returns-2 c = λ b S. together.forbids-other _ _ b S _ _ _ _ (c .before .before .before .if1 .left) (c .before .before .share-of .ensures) _ (c .before .others .ensures) (c .if2 .taken)
+returns-2 c =
+    λ b S.
+    together.forbids-other _ _ b S _ _ _ _ (c .before .before .before .if1 .left)
+    (c .before .before .share-of .ensures) _ (c .before .others .ensures) (c .if2 .taken)
 
--- src/sharing.rt:125:5
 crowds-requires : tie.Need-crowds-requires
 crowds-requires c κs = search needs
 
--- src/sharing.rt:113:1
 returns-3 : tie.Need-returns-3
-returns-3 c = λ b S. together.forbids-crowd _ _ b S _ _ _ _ (c .before .before .before .before .if1 .left) (c .before .before .before .share-of .ensures) _ (c .before .before .others .ensures) _ (c .before .if2 .left) (c .crowds .ensures b S)
+returns-3 c =
+    let here : tie.Else1 = search in let if1 = here .if1 in
+    λ b S.
+    together.forbids-crowd _ _ b S _ _ _ _ (if1 .left) (c .before .before .before .share-of .ensures) _
+    (c .before .before .others .ensures) _ (c .before .if2 .left) (c .crowds .ensures b S)
 
 pub forbids-spec : {M : Type 1} → statement M
 forbids-spec =

@@ -1,3 +1,4 @@
+-- `sharing::has_room` meets its contract: an answer to each need, in the order of the code.
 use lib.Dec.{leb}
 use Prim.Native.Nat.{_+_, _*_}
 use mathlib.Core.Path.{ap, _∙_}
@@ -8,45 +9,46 @@ use borrow.Author.Needs.{needs}
 use Rattle.judges.proofs.sharing.has_room.Statement.{statement}
 use Rattle.judges.proofs.sharing.has_room.Tie as tie
 
--- src/sharing.rt:160:9
 used-after-requires : tie.Need-used-after-requires
 used-after-requires c κs = search needs
 
--- src/sharing.rt:161:19
 count-side-requires : tie.Need-count-side-requires
 count-side-requires c κs = search needs
 
--- src/sharing.rt:161:19
 cast-writers : tie.Need-cast-writers
 cast-writers c = search needs
 
--- src/sharing.rt:162:9
 read-file-requires : tie.Need-read-file-requires
 read-file-requires c κs = search needs
 
--- src/sharing.rt:163:5
 add-result : tie.Need-add-result
 add-result c = search needs
 
--- src/sharing.rt:163:5
 add-result-2 : tie.Need-add-result-2
 add-result-2 c = search needs
 
--- src/sharing.rt:163:41
 cast-result : tie.Need-cast-result
 cast-result c = search needs
 
--- src/sharing.rt:163:61
 cast-result-2 : tie.Need-cast-result-2
 cast-result-2 c = search needs
 
--- src/sharing.rt:163:41
 mul-result : tie.Need-mul-result
-mul-result c = let k = product-most (c .before .before .read-file .result .factor) (c .before .before .read-file .result .blocks) 65535 65535 (omega (arith, c .before .struct-known .given)) (omega (arith, c .struct-known2 .given)) in record { fits = omega (arith, k) }
+mul-result c =
+    let k = product-most (c .before .before .read-file .result .factor)
+    (c .before .before .read-file .result .blocks) 65535 65535
+    (omega (arith, c .before .struct-known .given)) (omega (arith, c .struct-known2 .given)) in
+    record { fits = omega (arith, k) }
 
--- src/sharing.rt:155:1
 returns : tie.Need-returns
-returns c = λ b S. ap (λ r. leb (c .before .before .before .before .used-after .result + c .before .before .before .count-side .result + 2) (r .factor * r .blocks)) (c .before .before .read-file .ensures) ∙ together.has-room _ _ b S _ _ _ (c .before .before .before .before .used-after .ensures .0 b S) (c .before .before .before .count-side .ensures .0)
+returns c =
+    let here : tie.After-used-after = search in let used-after = here .used-after in
+    λ b S.
+    ap
+    (λ r. leb (used-after .result + c .before .before .before .count-side .result + 2) (r .factor * r .blocks))
+    (c .before .before .read-file .ensures)
+    ∙ together.has-room _ _ b S _ _ _ (used-after .ensures .0 b S)
+    (c .before .before .before .count-side .ensures .0)
 
 pub has-room-spec : {M : Type 1} → statement M
 has-room-spec =

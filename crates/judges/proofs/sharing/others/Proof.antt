@@ -1,5 +1,6 @@
+-- `sharing::others` meets its contract: an answer to each need, in the order of the code.
 use Rattle.judges.proofs.Turns.{others-here, others-step, others-end}
-use Rattle.judges.specs.Sides.{othersFrom}
+use Rattle.judges.specs.Sharing.{othersFrom}
 use Rattle.rules.specs.Limits.{places}
 use native.Mathlib.Omega.{arith}
 use mathlib.Core.Path.{_≡_, refl, sym, _∙_}
@@ -9,44 +10,46 @@ use Rattle.judges.proofs.sharing.others.Statement.{statement}
 use Rattle.judges.proofs.sharing.others.Tie as tie
 
 abbrev Inv-loop : tie.InvT-loop
-Inv-loop segment f share i₀ left₀ i left = (othersFrom segment share (places * f) places ≡ othersFrom segment share i left) × (i + left ≡ places * f + places)
+Inv-loop segment f share i₀ left₀ i left =
+    (othersFrom segment share (places * f) places ≡ othersFrom segment share i left)
+    × (i + left ≡ places * f + places)
 
 abbrev μ-loop : tie.MeasureT-loop
 μ-loop segment f share i₀ left₀ i left = left
 
--- src/sharing.rt:66:17
 mul-i : tie.Need-mul-i Inv-loop μ-loop
 mul-i c = search needs
 
--- src/sharing.rt:68:5
 loop-holds : tie.Need-loop-holds Inv-loop μ-loop
 loop-holds c = (refl, refl)
 
--- src/sharing.rt:69:12
 differs-requires : tie.Need-differs-requires Inv-loop μ-loop
 differs-requires c κs = search needs
 
--- src/sharing.rt:70:13
 returns : tie.Need-returns Inv-loop μ-loop
-returns c = sym (c .before .before .before .loop .inv .0 ∙ others-here _ _ _ _ (c .before .before .loop-test .taken) (sym (c .before .differs .ensures) ∙ c .if1 .taken))
+returns c =
+    sym
+    (c .before .before .before .loop .inv .0
+    ∙ others-here _ _ _ _ (c .before .before .loop-test .taken)
+    (sym (c .before .differs .ensures) ∙ c .if1 .taken))
 
--- src/sharing.rt:72:9
 add-i : tie.Need-add-i Inv-loop μ-loop
 add-i c = search needs
 
--- src/sharing.rt:73:9
 sub-left : tie.Need-sub-left Inv-loop μ-loop
 sub-left c = search needs
 
--- src/sharing.rt:68:5
 loop-less : tie.Need-loop-less Inv-loop μ-loop
 loop-less c = search needs
 
--- src/sharing.rt:68:5
 loop-again : tie.Need-loop-again Inv-loop μ-loop
-loop-again c = (c .before .before .before .loop .inv .0 ∙ others-step _ _ _ _ (c .before .before .loop-test .taken) (sym (c .before .differs .ensures) ∙ c .if1 .left), omega arith)
+loop-again c = (
+  c .before .before .before .loop .inv .0
+      ∙ others-step _ _ _ _ (c .before .before .loop-test .taken)
+      (sym (c .before .differs .ensures) ∙ c .if1 .left),
+  omega arith,
+)
 
--- src/sharing.rt:61:1
 returns-2 : tie.Need-returns-2 Inv-loop μ-loop
 returns-2 c = sym (c .before .loop .inv .0 ∙ others-end _ _ _ _ (c .loop-test .left))
 

@@ -1,51 +1,50 @@
+-- `finding::of_accessor` meets its contract: an answer to each need, in the order of the code.
 use mathlib.Core.Bool.{false≢true}
 use mathlib.Core.Path.{sym, _∙_}
 use Rattle.looking.proofs.Readers.{writer-finds, reader-file, waiting-finds}
 use borrow.Author.Needs.{needs}
 use Rattle.looking.proofs.finding.of_accessor.Statement.{statement}
 use Rattle.looking.proofs.finding.of_accessor.Tie as tie
-use Rattle.looking.proofs.finding.of_accessor.Reads as reads
-use Rattle.looking.proofs.finding.of_accessor.Lts as lts
-use Rattle.looking.proofs.finding.of_completed.Reads as of-completed-reads
-use Rattle.looking.proofs.finding.of_file.Reads as of-file-reads
 
--- src/finding.rt:96:9
 returns : tie.Need-returns
 returns c = writer-finds (c .before .before .before .pre) (c .if1 .taken)
 
--- src/finding.rt:99:33
 enum-told : tie.Need-enum-told
 enum-told c = search needs
 
--- src/finding.rt:99:33
 of-file-requires : tie.Need-of-file-requires
-of-file-requires c κs = reader-file (c .before .before .before .before .before .pre) (c .before .before .if1 .left)
+of-file-requires c κs =
+    let start : tie.Start = search in
+    reader-file (start .pre) (c .before .before .if1 .left)
 
--- src/finding.rt:100:33
 enum-told-2 : tie.Need-enum-told-2
 enum-told-2 c = search needs
 
--- src/finding.rt:100:33
 of-file-requires-2 : tie.Need-of-file-requires-2
-of-file-requires-2 c κs = reader-file (c .before .before .before .before .before .pre) (c .before .before .if1 .left)
+of-file-requires-2 c κs =
+    let start : tie.Start = search in
+    reader-file (start .pre) (c .before .before .if1 .left)
 
--- src/finding.rt:101:35
 enum-told-3 : tie.Need-enum-told-3
 enum-told-3 c = search needs
 
--- src/finding.rt:101:35
 of-completed-requires : tie.Need-of-completed-requires
-of-completed-requires c κs = (_, rw (c .enum-told3 .given .1) at (c .before .before .before .before .before .pre), c .before .before .if1 .left)
+of-completed-requires c κs =
+    let start : tie.Start = search in
+    (_, rw (c .enum-told3 .given .1) at (start .pre), c .before .before .if1 .left)
 
--- src/finding.rt:84:1
 returns-2 : tie.Need-returns-2
-returns-2 c = waiting-finds (c .before .before .before .before .before .before .pre) (c .before .before .before .if1 .left) (λ e. let k = sym (c .before .enum-told .given .1) ∙ e in absurd (false≢true cc)) _ (c .of-file .ensures)
+returns-2 c =
+    let start : tie.Start = search in
+    waiting-finds (start .pre) (c .before .before .before .if1 .left)
+    (λ e. let k = sym (c .before .enum-told .given .1) ∙ e in absurd (false≢true cc)) _ (c .of-file .ensures)
 
--- src/finding.rt:84:1
 returns-3 : tie.Need-returns-3
-returns-3 c = waiting-finds (c .before .before .before .before .before .before .pre) (c .before .before .before .if1 .left) (λ e. let k = sym (c .before .enum-told2 .given .1) ∙ e in absurd (false≢true cc)) _ (c .of-file2 .ensures)
+returns-3 c =
+    let start : tie.Start = search in
+    waiting-finds (start .pre) (c .before .before .before .if1 .left)
+    (λ e. let k = sym (c .before .enum-told2 .given .1) ∙ e in absurd (false≢true cc)) _ (c .of-file2 .ensures)
 
--- src/finding.rt:84:1
 returns-4 : tie.Need-returns-4
 returns-4 c = c .of-completed .ensures
 

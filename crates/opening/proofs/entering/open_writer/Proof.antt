@@ -1,51 +1,84 @@
+-- `entering::open_writer` meets its contract: an answer to each need, in the order of the code.
 use Rattle.opening.proofs.Enters.{each-at, each-file, each-sizes, place-low, hand-ranged, writer-ready, writer-in, writer-done}
 use borrow.Author.Needs.{needs}
 use Rattle.opening.proofs.entering.open_writer.Statement.{statement}
 use Rattle.opening.proofs.entering.open_writer.Tie as tie
 
--- src/entering.rt:108:9
 free-place-requires : tie.Need-free-place-requires
-free-place-requires c κs = (each-sizes (c .before .before .before .before .pre) .0, each-file (c .before .before .before .before .pre))
+free-place-requires c κs =
+    let start : tie.Start = search in
+    (each-sizes (start .pre) .0, each-file (start .pre))
 
--- src/entering.rt:109:9
 free-id-requires : tie.Need-free-id-requires
-free-id-requires c κs = (each-sizes (c .before .before .before .before .before .before .pre) .0, each-file (c .before .before .before .before .before .before .pre))
+free-id-requires c κs =
+    let start : tie.Start = search in
+    (each-sizes (start .pre) .0, each-file (start .pre))
 
--- src/entering.rt:110:9
 take-requires : tie.Need-take-requires
-take-requires c κs = let (d, s, S) = c .before .before .before .before .before .before .before .before .pre .0 in let (hf, b, e, k) = c .before .before .before .before .before .before .before .before .pre .1 d s S in (each-sizes (c .before .before .before .before .before .before .before .before .pre) .0, hf, hand-ranged S _ hf b e)
+take-requires c κs =
+    let start : tie.Start = search in
+    let (d, s, S) = start .pre .0 in
+    let (hf, b, e, k) = start .pre .1 d s S in
+    (each-sizes (start .pre) .0, hf, hand-ranged S _ hf b e)
 
--- src/entering.rt:112:67
 slice-aggregate-put-at : tie.Need-slice-aggregate-put-at
 slice-aggregate-put-at c = search needs
 
--- src/entering.rt:112:9
 put-at-requires : tie.Need-put-at-requires
-put-at-requires c κs = let (d, s, S) = c .before .before .before .before .before .before .before .before .before .before .before .pre .0 in let (hf, b, e, k) = c .before .before .before .before .before .before .before .before .before .before .before .pre .1 d s S in ((each-sizes (c .before .before .before .before .before .before .before .before .before .before .before .pre) .1, hf), writer-ready S _ hf b e _ _ (c .before .before .take .ensures))
+put-at-requires c κs =
+    let start : tie.Start = search in
+    let (d, s, S) = start .pre .0 in
+    let (hf, b, e, k) = start .pre .1 d s S in
+    ((each-sizes (start .pre) .1, hf), writer-ready S _ hf b e _ _ (c .before .before .take .ensures))
 
--- src/entering.rt:113:5
 enter-requires : tie.Need-enter-requires
-enter-requires c κs = let (d, s, S) = c .before .before .before .before .before .before .before .before .before .before .before .before .before .before .before .pre .0 in let (hf, b, e, k) = c .before .before .before .before .before .before .before .before .before .before .before .before .before .before .before .pre .1 d s S in (each-sizes (c .before .before .before .before .before .before .before .before .before .before .before .before .before .before .before .pre) .0, hf, place-low S _ hf b e _ (c .before .before .before .before .before .before .before .before .before .before .free-place .ensures .0) (k .0))
+enter-requires c κs =
+    let here : tie.After-free-place = search in let free-place = here .free-place in
+    let start : tie.Start = search in
+    let (d, s, S) = start .pre .0 in
+    let (hf, b, e, k) = start .pre .1 d s S in
+    (each-sizes (start .pre) .0, hf, place-low S _ hf b e _ (free-place .ensures .0) (k .0))
 
--- src/entering.rt:118:5
 rest-requires : tie.Need-rest-requires
-rest-requires c κs = let (d, s, S) = c .before .before .before .before .before .before .before .before .before .before .before .before .before .before .before .before .before .before .before .before .before .pre .0 in let (hf, b, e, k) = c .before .before .before .before .before .before .before .before .before .before .before .before .before .before .before .before .before .before .before .before .before .pre .1 d s S in (_, _, writer-in S _ hf b e _ _ (c .before .before .before .before .before .before .before .before .before .before .before .before .take .ensures) _ _ _ _ _ _ k (c .before .before .before .before .before .before .before .before .before .before .before .before .before .before .before .before .free-place .ensures .0) (c .before .before .before .before .before .before .before .before .before .before .before .before .before .before .free-id .ensures) (c .before .before .before .before .before .before .before .before .before .put-at .ensures .0) (c .before .before .before .before .before .before .before .before .before .put-at .ensures .1) (c .before .before .before .before .before .enter .ensures))
+rest-requires c κs =
+    let here : tie.After-enter = search in let enter = here .enter in
+    let here : tie.After-put-at = search in let put-at = here .put-at in
+    let here : tie.After-take = search in let take = here .take in
+    let here : tie.After-free-id = search in let free-id = here .free-id in
+    let here : tie.After-free-place = search in let free-place = here .free-place in
+    let start : tie.Start = search in
+    let (d, s, S) = start .pre .0 in
+    let (hf, b, e, k) = start .pre .1 d s S in (
+      _,
+      _,
+      writer-in S _ hf b e _ _ (take .ensures) _ _ _ _ _ _ k (free-place .ensures .0) (free-id .ensures)
+          (put-at .ensures .0) (put-at .ensures .1) (enter .ensures),
+    )
 
--- src/entering.rt:97:1
 same-length : tie.Need-same-length
 same-length c = search needs
 
--- src/entering.rt:97:1
 same-length-2 : tie.Need-same-length-2
 same-length-2 c = search needs
 
--- src/entering.rt:97:1
 same-length-3 : tie.Need-same-length-3
 same-length-3 c = search needs
 
--- src/entering.rt:97:1
 returns : tie.Need-returns
-returns c = λ d s b S e. let (hf, k) = each-at (c .before .before .before .before .before .before .before .before .before .before .before .before .before .before .before .before .before .before .before .before .before .before .before .before .before .before .before .before .pre .1) d s b S e in writer-done S _ hf b e _ _ (c .before .before .before .before .before .before .before .before .before .before .before .before .before .before .before .before .before .before .before .take .ensures) _ _ _ _ _ _ (c .before .before .before .before .before .before .before .before .before .before .before .before .before .before .before .before .before .before .before .before .before .before .before .free-place .ensures .0) (c .before .before .before .before .before .before .before .before .before .before .before .before .before .before .before .before .before .before .before .before .before .free-id .ensures) (c .before .before .before .before .before .before .rest .ensures _ _ (writer-in S _ hf b e _ _ (c .before .before .before .before .before .before .before .before .before .before .before .before .before .before .before .before .before .before .before .take .ensures) _ _ _ _ _ _ k (c .before .before .before .before .before .before .before .before .before .before .before .before .before .before .before .before .before .before .before .before .before .before .before .free-place .ensures .0) (c .before .before .before .before .before .before .before .before .before .before .before .before .before .before .before .before .before .before .before .before .before .free-id .ensures) (c .before .before .before .before .before .before .before .before .before .before .before .before .before .before .before .before .put-at .ensures .0) (c .before .before .before .before .before .before .before .before .before .before .before .before .before .before .before .before .put-at .ensures .1) (c .before .before .before .before .before .before .before .before .before .before .before .before .enter .ensures)) (S .stands .bodies))
+returns c =
+    let here : tie.After-rest = search in let rest = here .rest in
+    let here : tie.After-enter = search in let enter = here .enter in
+    let here : tie.After-put-at = search in let put-at = here .put-at in
+    let here : tie.After-take = search in let take = here .take in
+    let here : tie.After-free-id = search in let free-id = here .free-id in
+    let here : tie.After-free-place = search in let free-place = here .free-place in
+    let start : tie.Start = search in
+    λ d s b S e.
+    let (hf, k) = each-at (start .pre .1) d s b S e in
+    writer-done S _ hf b e _ _ (take .ensures) _ _ _ _ _ _ (free-place .ensures .0) (free-id .ensures)
+    (rest .ensures _ _
+    (writer-in S _ hf b e _ _ (take .ensures) _ _ _ _ _ _ k (free-place .ensures .0) (free-id .ensures)
+    (put-at .ensures .0) (put-at .ensures .1) (enter .ensures)) (S .stands .bodies))
 
 pub open-writer-spec : {M : Type 1} → statement M
 open-writer-spec =

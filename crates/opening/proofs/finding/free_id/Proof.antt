@@ -1,3 +1,4 @@
+-- `finding::free_id` meets its contract: an answer to each need, in the order of the code.
 use Prim.Native.Nat.{_+_}
 use mathlib.Core.Path.{_≡_, refl, sym, _∙_}
 use native.Mathlib.Omega.{arith}
@@ -15,35 +16,36 @@ Inv-loop segment f id₀ left₀ id left = (nextId segment f ≡ idFrom segment 
 abbrev μ-loop : tie.MeasureT-loop
 μ-loop segment f id₀ left₀ id left = left
 
--- src/finding.rt:66:5
 loop-holds : tie.Need-loop-holds Inv-loop μ-loop
 loop-holds c = (refl, omega arith)
 
--- src/finding.rt:67:13
 id-held-requires : tie.Need-id-held-requires Inv-loop μ-loop
 id-held-requires c κs = search needs
 
--- src/finding.rt:68:13
 returns : tie.Need-returns Inv-loop μ-loop
-returns c = sym (c .before .before .before .loop .inv .0 ∙ id-here _ _ _ _ (c .before .id-held .ensures) _ (c .before .before .loop-test .taken) (not-true _ (c .if1 .taken)))
+returns c =
+    sym
+    (c .before .before .before .loop .inv .0
+    ∙ id-here _ _ _ _ (c .before .id-held .ensures) _ (c .before .before .loop-test .taken)
+    (not-true _ (c .if1 .taken)))
 
--- src/finding.rt:70:9
 add-id : tie.Need-add-id Inv-loop μ-loop
 add-id c = search needs
 
--- src/finding.rt:71:9
 sub-left : tie.Need-sub-left Inv-loop μ-loop
 sub-left c = search needs
 
--- src/finding.rt:66:5
 loop-less : tie.Need-loop-less Inv-loop μ-loop
 loop-less c = search needs
 
--- src/finding.rt:66:5
 loop-again : tie.Need-loop-again Inv-loop μ-loop
-loop-again c = (c .before .before .before .loop .inv .0 ∙ id-on _ _ _ _ (c .before .id-held .ensures) _ (c .before .before .loop-test .taken) (not-false _ (c .if1 .left)), omega arith)
+loop-again c = (
+  c .before .before .before .loop .inv .0
+      ∙ id-on _ _ _ _ (c .before .id-held .ensures) _ (c .before .before .loop-test .taken)
+      (not-false _ (c .if1 .left)),
+  omega arith,
+)
 
--- src/finding.rt:59:1
 returns-2 : tie.Need-returns-2 Inv-loop μ-loop
 returns-2 c = sym (c .before .loop .inv .0 ∙ id-end _ _ _ _ (c .loop-test .left))
 

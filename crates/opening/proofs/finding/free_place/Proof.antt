@@ -1,3 +1,4 @@
+-- `finding::free_place` meets its contract: an answer to each need, in the order of the code.
 use Prim.Native.Nat.{_+_, _≤_, _*_}
 use mathlib.Core.Path.{_≡_, sym, _∙_}
 use native.Mathlib.Omega.{arith}
@@ -9,48 +10,52 @@ use Rattle.opening.proofs.finding.free_place.Statement.{statement}
 use Rattle.opening.proofs.finding.free_place.Tie as tie
 
 abbrev Inv-loop : tie.InvT-loop
-Inv-loop segment f place₀ i₀ left₀ place i left = (freePlace segment f ≡ place + freeFrom segment i left) × (i + left ≡ places * f + places) × (place + left ≤ places)
+Inv-loop segment f place₀ i₀ left₀ place i left =
+    (freePlace segment f ≡ place + freeFrom segment i left)
+    × (i + left ≡ places * f + places)
+    × (place + left ≤ places)
 
 abbrev μ-loop : tie.MeasureT-loop
 μ-loop segment f place₀ i₀ left₀ place i left = left
 
--- src/finding.rt:19:17
 mul-i : tie.Need-mul-i Inv-loop μ-loop
 mul-i c = search needs
 
--- src/finding.rt:21:5
 loop-holds : tie.Need-loop-holds Inv-loop μ-loop
 loop-holds c = (omega arith, omega arith, omega arith)
 
--- src/finding.rt:22:12
 place-side-requires : tie.Need-place-side-requires Inv-loop μ-loop
 place-side-requires c κs = search needs
 
--- src/finding.rt:23:13
 returns : tie.Need-returns Inv-loop μ-loop
-returns c = (sym (c .before .before .before .loop .inv .0 ∙ free-here _ _ _ (c .before .place-side .ensures) _ _ (c .before .before .loop-test .taken) (c .if1 .taken)), omega arith)
+returns c = (
+  sym
+      (c .before .before .before .loop .inv .0
+      ∙ free-here _ _ _ (c .before .place-side .ensures) _ _ (c .before .before .loop-test .taken)
+      (c .if1 .taken)),
+  omega arith,
+)
 
--- src/finding.rt:25:9
 add-place : tie.Need-add-place Inv-loop μ-loop
 add-place c = search needs
 
--- src/finding.rt:26:9
 add-i : tie.Need-add-i Inv-loop μ-loop
 add-i c = search needs
 
--- src/finding.rt:27:9
 sub-left : tie.Need-sub-left Inv-loop μ-loop
 sub-left c = search needs
 
--- src/finding.rt:21:5
 loop-less : tie.Need-loop-less Inv-loop μ-loop
 loop-less c = search needs
 
--- src/finding.rt:21:5
 loop-again : tie.Need-loop-again Inv-loop μ-loop
-loop-again c = (c .before .before .before .loop .inv .0 ∙ free-on _ _ _ (c .before .place-side .ensures) _ _ (c .before .before .loop-test .taken) (c .if1 .left), omega arith, omega arith)
+loop-again c = (
+  c .before .before .before .loop .inv .0
+      ∙ free-on _ _ _ (c .before .place-side .ensures) _ _ (c .before .before .loop-test .taken) (c .if1 .left),
+  omega arith,
+  omega arith,
+)
 
--- src/finding.rt:13:1
 returns-2 : tie.Need-returns-2 Inv-loop μ-loop
 returns-2 c = (sym (c .before .loop .inv .0 ∙ free-end _ _ _ _ (c .loop-test .left)), omega arith)
 

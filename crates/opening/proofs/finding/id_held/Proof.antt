@@ -1,3 +1,4 @@
+-- `finding::id_held` meets its contract: an answer to each need, in the order of the code.
 use Prim.Native.Nat.{_+_, _*_}
 use mathlib.Core.Path.{_≡_, refl, sym, _∙_}
 use native.Mathlib.Omega.{arith}
@@ -14,43 +15,44 @@ Inv-loop segment f id i₀ left₀ i left = (idHeld segment f id ≡ heldFrom se
 abbrev μ-loop : tie.MeasureT-loop
 μ-loop segment f id i₀ left₀ i left = left
 
--- src/finding.rt:46:17
 mul-i : tie.Need-mul-i Inv-loop μ-loop
 mul-i c = search needs
 
--- src/finding.rt:48:5
 loop-holds : tie.Need-loop-holds Inv-loop μ-loop
 loop-holds c = (refl, omega arith)
 
--- src/finding.rt:49:22
 read-place-requires : tie.Need-read-place-requires Inv-loop μ-loop
 read-place-requires c κs = search needs
 
--- src/finding.rt:49:12
 row-holds-requires : tie.Need-row-holds-requires Inv-loop μ-loop
 row-holds-requires c κs = search needs
 
--- src/finding.rt:50:13
 returns : tie.Need-returns Inv-loop μ-loop
-returns c = sym (c .before .before .before .before .loop .inv .0 ∙ held-here _ _ _ _ _ (c .before .before .read-place .ensures) (c .before .row-holds .ensures) _ (c .before .before .before .loop-test .taken) (c .if1 .taken))
+returns c =
+    let here : tie.At-loop Inv-loop μ-loop = search in let loop = here .loop in
+    sym
+    (loop .inv .0
+    ∙ held-here _ _ _ _ _ (c .before .before .read-place .ensures) (c .before .row-holds .ensures) _
+    (c .before .before .before .loop-test .taken) (c .if1 .taken))
 
--- src/finding.rt:52:9
 add-i : tie.Need-add-i Inv-loop μ-loop
 add-i c = search needs
 
--- src/finding.rt:53:9
 sub-left : tie.Need-sub-left Inv-loop μ-loop
 sub-left c = search needs
 
--- src/finding.rt:48:5
 loop-less : tie.Need-loop-less Inv-loop μ-loop
 loop-less c = search needs
 
--- src/finding.rt:48:5
 loop-again : tie.Need-loop-again Inv-loop μ-loop
-loop-again c = (c .before .before .before .before .loop .inv .0 ∙ held-on _ _ _ _ _ (c .before .before .read-place .ensures) (c .before .row-holds .ensures) _ (c .before .before .before .loop-test .taken) (c .if1 .left), omega arith)
+loop-again c =
+    let here : tie.At-loop Inv-loop μ-loop = search in let loop = here .loop in (
+      loop .inv .0
+          ∙ held-on _ _ _ _ _ (c .before .before .read-place .ensures) (c .before .row-holds .ensures) _
+          (c .before .before .before .loop-test .taken) (c .if1 .left),
+      omega arith,
+    )
 
--- src/finding.rt:41:1
 returns-2 : tie.Need-returns-2 Inv-loop μ-loop
 returns-2 c = sym (c .before .loop .inv .0 ∙ held-end _ _ _ _ (c .loop-test .left))
 

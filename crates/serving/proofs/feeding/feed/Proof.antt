@@ -3,7 +3,7 @@ use borrow.Author.Needs.{needs}
 use Rattle.serving.proofs.Keeps.{kept-on}
 use Rattle.serving.specs.Served.{Kept}
 use mathlib.Core.Path.{_≡_}
-use Prim.Native.Nat.{_≤_, _<_, _-_}
+use Prim.Native.Nat.{_≤_, _-_}
 use native.Mathlib.Omega.{arith}
 use lib.ListN.{length, take}
 use Rattle.serving.specs.Going.{mostHeld, outBytes, Going, goes, At}
@@ -21,7 +21,9 @@ Inv-loop segment₀ blocks₀ buffers₀ line₀ out₀ chunk held at₀ i₀ se
     × (at .held ≤ mostHeld)
     × (at .used ≤ outBytes)
     × (i ≡ 0 → at .used ≡ 0)
-    × ((g : Going) → At g segment₀ blocks₀ buffers₀ line₀ out₀ held 0 → At (goes g (take i chunk)) segment blocks buffers line out (at .held) (at .used))
+    × ((g : Going)
+    → At g segment₀ blocks₀ buffers₀ line₀ out₀ held 0
+    → At (goes g (take i chunk)) segment blocks buffers line out (at .held) (at .used))
     × Kept segment₀ blocks₀ buffers₀ segment blocks buffers
 
 abbrev μ-loop : tie.MeasureT-loop
@@ -50,7 +52,11 @@ same-length-5 : tie.Need-same-length-5 Inv-loop μ-loop
 same-length-5 c = search needs
 
 returns : tie.Need-returns Inv-loop μ-loop
-returns c = ((omega arith, c .before .before .before .loop .inv .6, c .before .before .before .loop .inv .7), ((λ h. some-taken _ _ (c .before .before .before .loop .inv .8) (omega arith)), (c .before .before .before .loop .inv .9, c .before .before .before .loop .inv .10)))
+returns c =
+    let here : tie.At-loop Inv-loop μ-loop = search in let loop = here .loop in (
+      (omega arith, loop .inv .6, loop .inv .7),
+      ((λ h. some-taken _ _ (loop .inv .8) (omega arith)), (loop .inv .9, loop .inv .10)),
+    )
 
 shared-slice-read-feed-byte : tie.Need-shared-slice-read-feed-byte Inv-loop μ-loop
 shared-slice-read-feed-byte c = search needs
@@ -65,7 +71,22 @@ loop-less : tie.Need-loop-less Inv-loop μ-loop
 loop-less c = search needs
 
 loop-again : tie.Need-loop-again Inv-loop μ-loop
-loop-again c = (search needs, search needs, search needs, search needs, search needs, search needs, c .before .before .before .before .before .before .before .before .before .before .feed-byte .ensures .0 .0, c .before .before .before .before .before .before .before .before .before .before .feed-byte .ensures .0 .1, (λ e. absurd (omega (arith, e))), (λ g a. goes-at g _ _ _ _ _ _ _ _ _ (c .before .before .before .before .before .before .before .before .before .before .before .before .before .before .before .before .before .before .before .loop-test .taken) (c .before .before .before .before .before .before .before .before .before .before .feed-byte .ensures .1 .0 _ (c .before .before .before .before .before .before .before .before .before .before .before .before .before .before .before .before .before .before .before .before .loop .inv .9 g a))), kept-on _ _ _ _ _ _ _ _ _ (c .before .before .before .before .before .before .before .before .before .before .before .before .before .before .before .before .before .before .before .before .loop .inv .10) (c .before .before .before .before .before .before .before .before .before .before .feed-byte .ensures .1 .1))
+loop-again c =
+    let here : tie.After-feed-byte Inv-loop μ-loop = search in let feed-byte = here .feed-byte in
+    let here : tie.In-loop Inv-loop μ-loop = search in let loop-test = here .loop-test in
+    let here : tie.At-loop Inv-loop μ-loop = search in let loop = here .loop in (
+      search needs,
+      search needs,
+      search needs,
+      search needs,
+      search needs,
+      search needs,
+      feed-byte .ensures .0 .0,
+      feed-byte .ensures .0 .1,
+      (λ e. absurd (omega (arith, e))),
+      (λ g a. goes-at g _ _ _ _ _ _ _ _ _ (loop-test .taken) (feed-byte .ensures .1 .0 _ (loop .inv .9 g a))),
+      kept-on _ _ _ _ _ _ _ _ _ (loop .inv .10) (feed-byte .ensures .1 .1),
+    )
 
 same-length-6 : tie.Need-same-length-6 Inv-loop μ-loop
 same-length-6 c = search needs
@@ -83,7 +104,10 @@ same-length-10 : tie.Need-same-length-10 Inv-loop μ-loop
 same-length-10 c = search needs
 
 returns-2 : tie.Need-returns-2 Inv-loop μ-loop
-returns-2 c = ((omega arith, c .before .loop .inv .6, c .before .loop .inv .7), ((λ h. omega (arith, h)), (c .before .loop .inv .9, c .before .loop .inv .10)))
+returns-2 c = (
+  (omega arith, c .before .loop .inv .6, c .before .loop .inv .7),
+  ((λ h. omega (arith, h)), (c .before .loop .inv .9, c .before .loop .inv .10)),
+)
 
 pub feed-spec : {M : Type 1} → statement M
 feed-spec =

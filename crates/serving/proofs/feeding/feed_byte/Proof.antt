@@ -34,7 +34,20 @@ same-length-5 : tie.Need-same-length-5
 same-length-5 c = search needs
 
 returns : tie.Need-returns
-returns c = ((omega arith, omega (arith, c .before .before .before .before .before .before .before .before .answer-line .ensures .0 .1)), ((λ g a. line-at g _ _ _ _ _ _ _ (c .before .before .before .before .before .before .before .before .before .before .before .before .before .before .before .if1 .taken) (line-answered g _ _ _ _ _ _ _ _ _ _ _ (c .before .before .before .before .before .before .before .before .answer-line .ensures .1) (omega (arith, c .before .before .before .before .before .before .before .before .before .before .before .before .before .before .before .before .before .before .before .before .before .pre .1, c .before .before .before .before .before .before .before .before .before .before .before .before .before .before .before .before .before .before .before .before .before .pre .3)) (c .before .before .before .before .before .before .before .before .answer-line .ensures .0 .1) (frame-held g _ _ _ _ _ _ _ a) (a .printed))), line-kept _ _ _ _ _ _ _ _ _ _ _ (c .before .before .before .before .before .before .before .before .answer-line .ensures .1)))
+returns c =
+    let here : tie.After-answer-line = search in let answer-line = here .answer-line in
+    let here : tie.Then1 = search in let if1 = here .if1 in
+    let start : tie.Start = search in (
+      (omega arith, omega (arith, answer-line .ensures .0 .1)),
+      (
+        (λ g a.
+            line-at g _ _ _ _ _ _ _ (if1 .taken)
+            (line-answered g _ _ _ _ _ _ _ _ _ _ _ (answer-line .ensures .1)
+            (omega (arith, start .pre .1, start .pre .3)) (answer-line .ensures .0 .1)
+            (frame-held g _ _ _ _ _ _ _ a) (a .printed))),
+        line-kept _ _ _ _ _ _ _ _ _ _ _ (answer-line .ensures .1),
+      ),
+    )
 
 keep-requires : tie.Need-keep-requires
 keep-requires c κs = search needs
@@ -43,7 +56,15 @@ same-length-6 : tie.Need-same-length-6
 same-length-6 c = search needs
 
 returns-2 : tie.Need-returns-2
-returns-2 c = ((c .before .before .keep .ensures .1, omega (arith, c .before .before .before .before .before .before .before .before .before .before .pre .3)), ((λ g a. byte-at g _ _ _ _ _ _ _ _ _ _ (c .before .before .before .before .if1 .left) (c .before .before .keep .ensures .0) a), λ _. (refl, refl, refl)))
+returns-2 c =
+    let here : tie.Else1 = search in let if1 = here .if1 in
+    let start : tie.Start = search in (
+      (c .before .before .keep .ensures .1, omega (arith, start .pre .3)),
+      (
+        (λ g a. byte-at g _ _ _ _ _ _ _ _ _ _ (if1 .left) (c .before .before .keep .ensures .0) a),
+        λ _. (refl, refl, refl),
+      ),
+    )
 
 pub feed-byte-spec : {M : Type 1} → statement M
 feed-byte-spec =

@@ -7,7 +7,14 @@ use Rattle.serving.proofs.feeding.finish.Statement.{statement}
 use Rattle.serving.proofs.feeding.finish.Tie as tie
 
 returns : tie.Need-returns
-returns c = (omega arith, ((λ g a. ends-none g _ _ _ _ _ _ _ (c .before .before .before .before .before .before .pre .0) (c .before .before .before .before .before .before .pre .2) (c .if1 .taken) a), λ _. (refl, refl, refl)))
+returns c =
+    let start : tie.Start = search in (
+      omega arith,
+      (
+        (λ g a. ends-none g _ _ _ _ _ _ _ (start .pre .0) (start .pre .2) (c .if1 .taken) a),
+        λ _. (refl, refl, refl),
+      ),
+    )
 
 sub-answer-line : tie.Need-sub-answer-line
 sub-answer-line c = search needs
@@ -34,7 +41,19 @@ same-length-4 : tie.Need-same-length-4
 same-length-4 c = search needs
 
 returns-2 : tie.Need-returns-2
-returns-2 c = (omega (arith, c .before .before .before .before .before .before .before .before .answer-line .ensures .0 .1), ((λ g a. ends-line g _ _ _ _ _ _ _ _ _ _ _ _ (c .before .before .before .before .before .before .before .before .before .before .before .before .before .before .before .before .before .before .before .before .pre .0) (c .before .before .before .before .before .before .before .before .before .before .before .before .before .before .before .before .before .before .before .before .pre .2) (c .before .before .before .before .before .before .before .before .before .before .before .before .before .before .if1 .left) a (line-answered g _ _ _ _ _ _ _ _ _ _ _ (c .before .before .before .before .before .before .before .before .answer-line .ensures .1) (omega (arith, c .before .before .before .before .before .before .before .before .before .before .before .before .before .before .before .before .before .before .before .before .pre .1)) (c .before .before .before .before .before .before .before .before .answer-line .ensures .0 .1) (frame-held g _ _ _ _ _ _ _ a) (a .printed))), line-kept _ _ _ _ _ _ _ _ _ _ _ (c .before .before .before .before .before .before .before .before .answer-line .ensures .1)))
+returns-2 c =
+    let here : tie.After-answer-line = search in let answer-line = here .answer-line in
+    let here : tie.Else1 = search in let if1 = here .if1 in
+    let start : tie.Start = search in (
+      omega (arith, answer-line .ensures .0 .1),
+      (
+        (λ g a.
+            ends-line g _ _ _ _ _ _ _ _ _ _ _ _ (start .pre .0) (start .pre .2) (if1 .left) a
+            (line-answered g _ _ _ _ _ _ _ _ _ _ _ (answer-line .ensures .1) (omega (arith, start .pre .1))
+            (answer-line .ensures .0 .1) (frame-held g _ _ _ _ _ _ _ a) (a .printed))),
+        line-kept _ _ _ _ _ _ _ _ _ _ _ (answer-line .ensures .1),
+      ),
+    )
 
 pub finish-spec : {M : Type 1} → statement M
 finish-spec =

@@ -1,11 +1,10 @@
+-- `calls::split_words` meets its contract: an answer to each need, in the order of the code.
 use borrow.Author.Needs.{needs}
 use mathlib.Core.Path.{_≡_}
 use Prim.Native.Nat.{_≤_, _-_}
 use lib.ListN.{length}
 use Rattle.sessions.proofs.calls.split_words.Statement.{statement}
 use Rattle.sessions.proofs.calls.split_words.Tie as tie
-use Rattle.sessions.proofs.calls.split_words.Reads as reads
-use Rattle.sessions.proofs.calls.split_words.Lts as lts
 
 abbrev Inv-loop : tie.InvT-loop
 Inv-loop words text₀ i₀ text i = (i ≤ length words) × (length text ≡ length text₀)
@@ -13,43 +12,33 @@ Inv-loop words text₀ i₀ text i = (i ≤ length words) × (length text ≡ le
 abbrev μ-loop : tie.MeasureT-loop
 μ-loop words text₀ i₀ text i = length words - i
 
--- src/calls.rt:54:5
 loop-holds : tie.Need-loop-holds Inv-loop μ-loop
 loop-holds c = search needs
 
--- src/calls.rt:55:17
 shared-slice-read-b : tie.Need-shared-slice-read-b Inv-loop μ-loop
 shared-slice-read-b c = search needs
 
--- src/calls.rt:56:9
 slice-write-text : tie.Need-slice-write-text Inv-loop μ-loop
 slice-write-text c = search needs
 
--- src/calls.rt:57:9
 add-i : tie.Need-add-i Inv-loop μ-loop
 add-i c = search needs
 
--- src/calls.rt:54:5
 loop-less : tie.Need-loop-less Inv-loop μ-loop
 loop-less c = search needs
 
--- src/calls.rt:54:5
 loop-again : tie.Need-loop-again Inv-loop μ-loop
 loop-again c = search needs
 
--- src/calls.rt:59:5
 slice-write-text-2 : tie.Need-slice-write-text-2 Inv-loop μ-loop
 slice-write-text-2 c = search needs
 
--- src/calls.rt:60:5
 add-result : tie.Need-add-result Inv-loop μ-loop
 add-result c = search needs
 
--- src/calls.rt:49:1
 same-length : tie.Need-same-length Inv-loop μ-loop
 same-length c = search needs
 
--- src/calls.rt:49:1
 returns : tie.Need-returns Inv-loop μ-loop
 returns c = search needs
 

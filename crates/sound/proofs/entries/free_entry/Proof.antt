@@ -2,9 +2,6 @@ use Rattle.sound.specs.Walks.{freeEntry}
 use borrow.Author.Needs.{needs}
 use Rattle.sound.proofs.entries.free_entry.Statement.{statement}
 use Rattle.sound.proofs.entries.free_entry.Tie as tie
-use Rattle.sound.proofs.entries.free_entry.Reads as reads
-use Rattle.sound.proofs.entries.free_entry.Lts as lts
-use Rattle.sound.proofs.quick.bytes.bare.Reads as bare-reads
 
 mul-bare : tie.Need-mul-bare
 mul-bare c = search needs

@@ -1,31 +1,22 @@
+-- `files::file_ok` meets its contract: an answer to each need, in the order of the code.
 use mathlib.Core.Path.{sym, _∙_}
 use Rattle.sound.proofs.Geometries.{built-file, unbuilt-file}
 use borrow.Author.Needs.{needs}
 use Rattle.sound.proofs.files.file_ok.Statement.{statement}
 use Rattle.sound.proofs.files.file_ok.Tie as tie
-use Rattle.sound.proofs.files.file_ok.Reads as reads
-use Rattle.sound.proofs.files.file_ok.Lts as lts
-use Rattle.sound.proofs.files.built_ok.Reads as built-ok-reads
-use Rattle.sound.proofs.rows.file_word.Reads as file-word-reads
-use Rattle.sound.proofs.rows.unbuilt_ok.Reads as unbuilt-ok-reads
 
--- src/files.rt:100:13
 file-word-requires : tie.Need-file-word-requires
 file-word-requires c κs = search needs
 
--- src/files.rt:101:9
 built-ok-requires : tie.Need-built-ok-requires
 built-ok-requires c κs = search needs
 
--- src/files.rt:101:9
 returns : tie.Need-returns
 returns c = c .built-ok .ensures ∙ sym (built-file _ _ _ _ (c .before .before .file-word .ensures) (c .before .if1 .taken))
 
--- src/files.rt:103:5
 unbuilt-ok-requires : tie.Need-unbuilt-ok-requires
 unbuilt-ok-requires c κs = search needs
 
--- src/files.rt:96:1
 returns-2 : tie.Need-returns-2
 returns-2 c = c .unbuilt-ok .ensures ∙ sym (unbuilt-file _ _ _ _ (c .before .before .file-word .ensures) (c .before .if1 .left))
 

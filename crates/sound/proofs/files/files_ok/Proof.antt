@@ -1,3 +1,4 @@
+-- `files::files_ok` meets its contract: an answer to each need, in the order of the code.
 use Prim.Native.Nat.{_+_}
 use mathlib.Core.Path.{_≡_, refl, sym, _∙_}
 use native.Mathlib.Omega.{arith}
@@ -8,9 +9,6 @@ use Rattle.sound.proofs.Steps.{held, failed}
 use Rattle.sound.proofs.Geometries.{files-bad, files-step}
 use Rattle.sound.proofs.files.files_ok.Statement.{statement}
 use Rattle.sound.proofs.files.files_ok.Tie as tie
-use Rattle.sound.proofs.files.files_ok.Reads as reads
-use Rattle.sound.proofs.files.files_ok.Lts as lts
-use Rattle.sound.proofs.files.file_ok.Reads as file-ok-reads
 
 abbrev Inv-loop : tie.InvT-loop
 Inv-loop s blocks f₀ left₀ f left = (filesOk s blocks 0 files ≡ filesOk s blocks f left) × (f + left ≡ files)
@@ -18,35 +16,36 @@ Inv-loop s blocks f₀ left₀ f left = (filesOk s blocks 0 files ≡ filesOk s 
 abbrev μ-loop : tie.MeasureT-loop
 μ-loop s blocks f₀ left₀ f left = left
 
--- src/files.rt:112:5
 loop-holds : tie.Need-loop-holds Inv-loop μ-loop
 loop-holds c = (refl, refl)
 
--- src/files.rt:113:13
 file-ok-requires : tie.Need-file-ok-requires Inv-loop μ-loop
 file-ok-requires c κs = search needs
 
--- src/files.rt:114:13
 returns : tie.Need-returns Inv-loop μ-loop
-returns c = sym (c .before .before .before .loop .inv .0 ∙ files-bad _ _ _ _ (c .before .before .loop-test .taken) (failed (c .before .file-ok .ensures) (c .if1 .taken)))
+returns c =
+    sym
+    (c .before .before .before .loop .inv .0
+    ∙ files-bad _ _ _ _ (c .before .before .loop-test .taken)
+    (failed (c .before .file-ok .ensures) (c .if1 .taken)))
 
--- src/files.rt:116:9
 add-f : tie.Need-add-f Inv-loop μ-loop
 add-f c = search needs
 
--- src/files.rt:117:9
 sub-left : tie.Need-sub-left Inv-loop μ-loop
 sub-left c = search needs
 
--- src/files.rt:112:5
 loop-less : tie.Need-loop-less Inv-loop μ-loop
 loop-less c = search needs
 
--- src/files.rt:112:5
 loop-again : tie.Need-loop-again Inv-loop μ-loop
-loop-again c = (c .before .before .before .loop .inv .0 ∙ files-step _ _ _ _ (c .before .before .loop-test .taken) (held (c .before .file-ok .ensures) (c .if1 .left)), omega arith)
+loop-again c = (
+  c .before .before .before .loop .inv .0
+      ∙ files-step _ _ _ _ (c .before .before .loop-test .taken)
+      (held (c .before .file-ok .ensures) (c .if1 .left)),
+  omega arith,
+)
 
--- src/files.rt:106:1
 returns-2 : tie.Need-returns-2 Inv-loop μ-loop
 unfolding filesOk
 returns-2 c = let z : c .before .loop .left ≡ 0 = omega arith in sym (c .before .loop .inv .0 ∙ rw z)

@@ -1,3 +1,4 @@
+-- `files::held_ok` meets its contract: an answer to each need, in the order of the code.
 use mathlib.Core.Path.{ap, _∙_}
 use lib.ListN.{length}
 use Rattle.words.proofs.Parts.{length-part}
@@ -7,49 +8,55 @@ use Rattle.sound.proofs.Geometries.{fitted}
 use borrow.Author.Needs.{needs}
 use Rattle.sound.proofs.files.held_ok.Statement.{statement}
 use Rattle.sound.proofs.files.held_ok.Tie as tie
-use Rattle.sound.proofs.files.held_ok.Reads as reads
-use Rattle.sound.proofs.files.held_ok.Lts as lts
-use Rattle.blocks.proofs.check.sound.Reads as sound-reads
-use Rattle.blocks.proofs.memory.share.Reads as share-reads
-use Rattle.sound.proofs.rows.file_word.Reads as file-word-reads
 
--- src/files.rt:71:9
 file-word-requires : tie.Need-file-word-requires
 file-word-requires c κs = search needs
 
--- src/files.rt:73:17
 file-word-requires-2 : tie.Need-file-word-requires-2
 file-word-requires-2 c κs = search needs
 
--- src/files.rt:74:17
 file-word-requires-3 : tie.Need-file-word-requires-3
 file-word-requires-3 c κs = search needs
 
--- src/files.rt:75:16
 file-word-requires-4 : tie.Need-file-word-requires-4
 file-word-requires-4 c κs = search needs
 
--- src/files.rt:76:16
 file-word-requires-5 : tie.Need-file-word-requires-5
 file-word-requires-5 c κs = search needs
 
--- src/files.rt:77:15
 file-word-requires-6 : tie.Need-file-word-requires-6
 file-word-requires-6 c κs = search needs
 
--- src/files.rt:79:18
 share-requires : tie.Need-share-requires
 share-requires c κs = search needs
 
--- src/files.rt:79:5
 sound-requires : tie.Need-sound-requires
 unfolding geoAt
-sound-requires c κs = (ap length (c .share .ensures) ∙ length-part _ _ _ _ (c .before .before .before .before .before .before .before .before .before .pre .1) (c .before .before .before .before .before .before .before .before .before .pre .2), fitted _ _ (rw (c .before .before .before .before .before .before .file-word .ensures, c .before .before .before .before .before .file-word2 .ensures, c .before .before .before .before .file-word3 .ensures) (c .before .before .before .before .before .before .before .before .before .pre .3)))
+sound-requires c κs =
+    let here : tie.After-file-word3 = search in let file-word3 = here .file-word3 in
+    let here : tie.After-file-word2 = search in let file-word2 = here .file-word2 in
+    let here : tie.After-file-word = search in let file-word = here .file-word in
+    let start : tie.Start = search in (
+      ap length (c .share .ensures) ∙ length-part _ _ _ _ (start .pre .1) (start .pre .2),
+      fitted _ _ (rw (file-word .ensures, file-word2 .ensures, file-word3 .ensures) (start .pre .3)),
+    )
 
--- src/files.rt:67:1
 returns : tie.Need-returns
 unfolding geoAt shareAt
-returns c = rw (← c .before .before .before .before .before .before .before .file-word .ensures, ← c .before .before .before .before .before .before .file-word2 .ensures, ← c .before .before .before .before .before .file-word3 .ensures, ← c .before .before .before .before .file-word4 .ensures, ← c .before .before .before .file-word5 .ensures, ← c .before .before .file-word6 .ensures, ← c .before .share .ensures) (c .sound .ensures)
+returns c =
+    let here : tie.After-file-word4 = search in let file-word4 = here .file-word4 in
+    let here : tie.After-file-word3 = search in let file-word3 = here .file-word3 in
+    let here : tie.After-file-word2 = search in let file-word2 = here .file-word2 in
+    let here : tie.After-file-word = search in let file-word = here .file-word in
+    rw (
+      ← file-word .ensures,
+      ← file-word2 .ensures,
+      ← file-word3 .ensures,
+      ← file-word4 .ensures,
+      ← c .before .before .before .file-word5 .ensures,
+      ← c .before .before .file-word6 .ensures,
+      ← c .before .share .ensures,
+    ) (c .sound .ensures)
 
 pub held-ok-spec : {M : Type 1} → statement M
 held-ok-spec =

@@ -6,11 +6,6 @@ use Rattle.sound.proofs.Geometries.{few-places}
 use borrow.Author.Needs.{needs}
 use Rattle.sound.proofs.files.room_ok.Statement.{statement}
 use Rattle.sound.proofs.files.room_ok.Tie as tie
-use Rattle.sound.proofs.files.room_ok.Reads as reads
-use Rattle.sound.proofs.files.room_ok.Lts as lts
-use Rattle.sound.proofs.rows.file_word.Reads as file-word-reads
-use Rattle.sound.proofs.rows.writers_at.Reads as writers-at-reads
-use Rattle.sound.proofs.quick.room.ample.Reads as ample-reads
 
 file-word-requires : tie.Need-file-word-requires
 file-word-requires c κs = search needs
@@ -25,7 +20,12 @@ cast-blocks : tie.Need-cast-blocks
 cast-blocks c = search needs
 
 mul-most : tie.Need-mul-most
-mul-most c = omega (arith, few-places _ _ _ _ (c .before .file-word .ensures) (c .file-word2 .ensures) (c .before .before .before .pre .2) (omega arith))
+mul-most c =
+    omega (
+      arith,
+      few-places _ _ _ _ (c .before .file-word .ensures) (c .file-word2 .ensures)
+          (c .before .before .before .pre .2) (omega arith),
+    )
 
 file-word-requires-3 : tie.Need-file-word-requires-3
 file-word-requires-3 c κs = search needs
@@ -47,13 +47,18 @@ ample-requires c κs = search needs
 
 returns : tie.Need-returns
 unfolding capacity
-returns c = rw (← c .before .before .before .before .before .file-word .ensures, ← c .before .before .before .before .file-word2 .ensures, ← c .before .before .before .file-word3 .ensures, ← c .before .before .file-word4 .ensures) (sym (c .before .ample .ensures (c .if1 .taken) _ _))
+returns c =
+    let here : tie.After-file-word2 = search in let file-word2 = here .file-word2 in
+    let here : tie.After-file-word = search in let file-word = here .file-word in
+    rw (
+      ← file-word .ensures,
+      ← file-word2 .ensures,
+      ← c .before .before .before .file-word3 .ensures,
+      ← c .before .before .file-word4 .ensures,
+    ) (sym (c .before .ample .ensures (c .if1 .taken) _ _))
 
-mul-writers-at : tie.Need-mul-writers-at
-mul-writers-at c = search needs
-
-writers-at-requires : tie.Need-writers-at-requires
-writers-at-requires c κs = search needs
+count-side-requires : tie.Need-count-side-requires
+count-side-requires c κs = search needs
 
 cast-writers : tie.Need-cast-writers
 cast-writers c = search needs
@@ -66,14 +71,42 @@ add-if2-2 c = search needs
 
 returns-2 : tie.Need-returns-2
 unfolding capacity
-returns-2 c = rw (← c .before .before .before .before .before .before .before .file-word .ensures, ← c .before .before .before .before .before .before .file-word2 .ensures, ← c .before .writers-at .ensures .0, ← c .before .before .before .before .before .file-word3 .ensures, ← c .before .before .before .before .file-word4 .ensures, lt-leb _ _ (c .if2 .taken))
+returns-2 c =
+    let here : tie.After-file-word4 = search in let file-word4 = here .file-word4 in
+    let here : tie.After-file-word3 = search in let file-word3 = here .file-word3 in
+    let here : tie.After-file-word2 = search in let file-word2 = here .file-word2 in
+    let here : tie.After-file-word = search in let file-word = here .file-word in
+    rw (
+      ← file-word .ensures,
+      ← file-word2 .ensures,
+      ← c .before .count-side .ensures .0,
+      ← file-word3 .ensures,
+      ← file-word4 .ensures,
+      lt-leb _ _ (c .if2 .taken),
+    )
 
 add-result : tie.Need-add-result
 add-result c = search needs
 
 returns-3 : tie.Need-returns-3
 unfolding capacity
-returns-3 c = rw (← c .before .before .before .before .before .before .before .file-word .ensures, ← c .before .before .before .before .before .before .file-word2 .ensures, ← c .before .writers-at .ensures .0, ← c .before .before .before .before .before .file-word3 .ensures, ← c .before .before .before .before .file-word4 .ensures, le-leb _ _ (c .if2 .left))
+returns-3 c =
+    let here : tie.After-file-word4 = search in let file-word4 = here .file-word4 in
+    let here : tie.After-file-word3 = search in let file-word3 = here .file-word3 in
+    let here : tie.After-file-word2 = search in let file-word2 = here .file-word2 in
+    let here : tie.After-file-word = search in let file-word = here .file-word in
+    rw (
+      ← file-word .ensures,
+      ← file-word2 .ensures,
+      ← c .before .count-side .ensures .0,
+      ← file-word3 .ensures,
+      ← file-word4 .ensures,
+      le-leb _ _ (c .if2 .left),
+    )
 
 pub room-ok-spec : {M : Type 1} → statement M
-room-ok-spec = tie.close (tie.spec file-word-requires cast-factor file-word-requires-2 cast-blocks mul-most file-word-requires-3 cast-spent file-word-requires-4 cast-held add-ample ample-requires returns mul-writers-at writers-at-requires cast-writers add-if2 add-if2-2 returns-2 add-result returns-3)
+room-ok-spec =
+    tie.close
+    (tie.spec file-word-requires cast-factor file-word-requires-2 cast-blocks mul-most file-word-requires-3
+    cast-spent file-word-requires-4 cast-held add-ample ample-requires returns count-side-requires cast-writers
+    add-if2 add-if2-2 returns-2 add-result returns-3)

@@ -1,31 +1,23 @@
+-- `idle::file_idle` meets its contract: an answer to each need, in the order of the code.
 use borrow.Author.Tests.{le-leb, lt-leb}
 use Rattle.sound.specs.Rows.{builtAt}
 use borrow.Author.Needs.{needs}
 use Rattle.sound.proofs.idle.file_idle.Statement.{statement}
 use Rattle.sound.proofs.idle.file_idle.Tie as tie
-use Rattle.sound.proofs.idle.file_idle.Reads as reads
-use Rattle.sound.proofs.idle.file_idle.Lts as lts
-use Rattle.sound.proofs.quick.idle.places_idle.Reads as places-idle-reads
-use Rattle.sound.proofs.rows.file_word.Reads as file-word-reads
 
--- src/idle.rt:50:8
 file-word-requires : tie.Need-file-word-requires
 file-word-requires c κs = search needs
 
--- src/idle.rt:51:9
 returns : tie.Need-returns
 unfolding builtAt
 returns c = rw (← c .before .file-word .ensures, lt-leb _ _ (c .if1 .taken))
 
--- src/idle.rt:53:32
 mul-places-idle : tie.Need-mul-places-idle
 mul-places-idle c = search needs
 
--- src/idle.rt:53:5
 places-idle-requires : tie.Need-places-idle-requires
 places-idle-requires c κs = search needs
 
--- src/idle.rt:46:1
 returns-2 : tie.Need-returns-2
 unfolding builtAt
 returns-2 c = rw (← c .before .before .file-word .ensures, le-leb _ _ (c .before .if1 .left)) (c .places-idle .ensures)

@@ -1,3 +1,4 @@
+-- `idle::files_idle` meets its contract: an answer to each need, in the order of the code.
 use Prim.Native.Nat.{_+_}
 use mathlib.Core.Path.{_≡_, refl, sym, _∙_}
 use native.Mathlib.Omega.{arith}
@@ -8,9 +9,6 @@ use Rattle.sound.proofs.Steps.{held, failed}
 use Rattle.sound.proofs.Unused.{file-bad, file-step}
 use Rattle.sound.proofs.idle.files_idle.Statement.{statement}
 use Rattle.sound.proofs.idle.files_idle.Tie as tie
-use Rattle.sound.proofs.idle.files_idle.Reads as reads
-use Rattle.sound.proofs.idle.files_idle.Lts as lts
-use Rattle.sound.proofs.idle.file_idle.Reads as file-idle-reads
 
 abbrev Inv-loop : tie.InvT-loop
 Inv-loop s buffers busy f₀ left₀ f left = (idlesZero s buffers busy 0 files ≡ idlesZero s buffers busy f left) × (f + left ≡ files)
@@ -18,35 +16,36 @@ Inv-loop s buffers busy f₀ left₀ f left = (idlesZero s buffers busy 0 files 
 abbrev μ-loop : tie.MeasureT-loop
 μ-loop s buffers busy f₀ left₀ f left = left
 
--- src/idle.rt:62:5
 loop-holds : tie.Need-loop-holds Inv-loop μ-loop
 loop-holds c = (refl, refl)
 
--- src/idle.rt:63:13
 file-idle-requires : tie.Need-file-idle-requires Inv-loop μ-loop
 file-idle-requires c κs = search needs
 
--- src/idle.rt:64:13
 returns : tie.Need-returns Inv-loop μ-loop
-returns c = sym (c .before .before .before .loop .inv .0 ∙ file-bad _ _ _ _ _ (c .before .before .loop-test .taken) (failed (c .before .file-idle .ensures) (c .if1 .taken)))
+returns c =
+    sym
+    (c .before .before .before .loop .inv .0
+    ∙ file-bad _ _ _ _ _ (c .before .before .loop-test .taken)
+    (failed (c .before .file-idle .ensures) (c .if1 .taken)))
 
--- src/idle.rt:66:9
 add-f : tie.Need-add-f Inv-loop μ-loop
 add-f c = search needs
 
--- src/idle.rt:67:9
 sub-left : tie.Need-sub-left Inv-loop μ-loop
 sub-left c = search needs
 
--- src/idle.rt:62:5
 loop-less : tie.Need-loop-less Inv-loop μ-loop
 loop-less c = search needs
 
--- src/idle.rt:62:5
 loop-again : tie.Need-loop-again Inv-loop μ-loop
-loop-again c = (c .before .before .before .loop .inv .0 ∙ file-step _ _ _ _ _ (c .before .before .loop-test .taken) (held (c .before .file-idle .ensures) (c .if1 .left)), omega arith)
+loop-again c = (
+  c .before .before .before .loop .inv .0
+      ∙ file-step _ _ _ _ _ (c .before .before .loop-test .taken)
+      (held (c .before .file-idle .ensures) (c .if1 .left)),
+  omega arith,
+)
 
--- src/idle.rt:56:1
 returns-2 : tie.Need-returns-2 Inv-loop μ-loop
 unfolding idlesZero
 returns-2 c = let z : c .before .loop .left ≡ 0 = omega arith in sym (c .before .loop .inv .0 ∙ rw z)

@@ -1,16 +1,13 @@
+-- `idle::places_idle` meets its contract: an answer to each need, in the order of the code.
 use Prim.Native.Nat.{_+_}
 use mathlib.Core.Path.{_≡_, refl, sym, _∙_}
 use native.Mathlib.Omega.{arith}
 use borrow.Author.Needs.{needs}
-use Rattle.rules.specs.Limits.{files}
 use Rattle.sound.specs.Sound.{idleZero}
 use Rattle.sound.proofs.Steps.{held, failed}
 use Rattle.sound.proofs.Unused.{place-bad, place-step}
 use Rattle.sound.proofs.idle.places_idle.Statement.{statement}
 use Rattle.sound.proofs.idle.places_idle.Tie as tie
-use Rattle.sound.proofs.idle.places_idle.Reads as reads
-use Rattle.sound.proofs.idle.places_idle.Lts as lts
-use Rattle.sound.proofs.idle.place_idle.Reads as place-idle-reads
 
 abbrev Inv-loop : tie.InvT-loop
 Inv-loop buffers busy i n p₀ left₀ p left = (idleZero buffers busy i n ≡ idleZero buffers busy p left) × (p + left ≡ i + n)
@@ -18,35 +15,36 @@ Inv-loop buffers busy i n p₀ left₀ p left = (idleZero buffers busy i n ≡ i
 abbrev μ-loop : tie.MeasureT-loop
 μ-loop buffers busy i n p₀ left₀ p left = left
 
--- src/idle.rt:36:5
 loop-holds : tie.Need-loop-holds Inv-loop μ-loop
 loop-holds c = (refl, refl)
 
--- src/idle.rt:37:13
 place-idle-requires : tie.Need-place-idle-requires Inv-loop μ-loop
 place-idle-requires c κs = search needs
 
--- src/idle.rt:38:13
 returns : tie.Need-returns Inv-loop μ-loop
-returns c = sym (c .before .before .before .loop .inv .0 ∙ place-bad _ _ _ _ (c .before .before .loop-test .taken) (failed (c .before .place-idle .ensures) (c .if1 .taken)))
+returns c =
+    sym
+    (c .before .before .before .loop .inv .0
+    ∙ place-bad _ _ _ _ (c .before .before .loop-test .taken)
+    (failed (c .before .place-idle .ensures) (c .if1 .taken)))
 
--- src/idle.rt:40:9
 add-p : tie.Need-add-p Inv-loop μ-loop
 add-p c = search needs
 
--- src/idle.rt:41:9
 sub-left : tie.Need-sub-left Inv-loop μ-loop
 sub-left c = search needs
 
--- src/idle.rt:36:5
 loop-less : tie.Need-loop-less Inv-loop μ-loop
 loop-less c = search needs
 
--- src/idle.rt:36:5
 loop-again : tie.Need-loop-again Inv-loop μ-loop
-loop-again c = (c .before .before .before .loop .inv .0 ∙ place-step _ _ _ _ (c .before .before .loop-test .taken) (held (c .before .place-idle .ensures) (c .if1 .left)), omega arith)
+loop-again c = (
+  c .before .before .before .loop .inv .0
+      ∙ place-step _ _ _ _ (c .before .before .loop-test .taken)
+      (held (c .before .place-idle .ensures) (c .if1 .left)),
+  omega arith,
+)
 
--- src/idle.rt:30:1
 returns-2 : tie.Need-returns-2 Inv-loop μ-loop
 unfolding idleZero
 returns-2 c = let z : c .before .loop .left ≡ 0 = omega arith in sym (c .before .loop .inv .0 ∙ rw z)

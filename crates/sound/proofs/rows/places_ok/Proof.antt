@@ -1,3 +1,4 @@
+-- `rows::places_ok` meets its contract: an answer to each need, in the order of the code.
 use Prim.Native.Nat.{_+_}
 use mathlib.Core.Path.{_≡_, refl, sym, _∙_}
 use native.Mathlib.Omega.{arith}
@@ -6,9 +7,6 @@ use Rattle.sound.specs.Rows.{placesOk}
 use Rattle.sound.proofs.Steps.{held, failed, places-bad, places-step}
 use Rattle.sound.proofs.rows.places_ok.Statement.{statement}
 use Rattle.sound.proofs.rows.places_ok.Tie as tie
-use Rattle.sound.proofs.rows.places_ok.Reads as reads
-use Rattle.sound.proofs.rows.places_ok.Lts as lts
-use Rattle.sound.proofs.quick.rows.place_ok.Reads as place-ok-reads
 
 abbrev Inv-loop : tie.InvT-loop
 Inv-loop s i n p₀ left₀ p left = (placesOk s i n ≡ placesOk s p left) × (p + left ≡ i + n)
@@ -16,35 +14,36 @@ Inv-loop s i n p₀ left₀ p left = (placesOk s i n ≡ placesOk s p left) × (
 abbrev μ-loop : tie.MeasureT-loop
 μ-loop s i n p₀ left₀ p left = left
 
--- src/rows.rt:128:5
 loop-holds : tie.Need-loop-holds Inv-loop μ-loop
 loop-holds c = (refl, refl)
 
--- src/rows.rt:129:13
 place-ok-requires : tie.Need-place-ok-requires Inv-loop μ-loop
 place-ok-requires c κs = search needs
 
--- src/rows.rt:130:13
 returns : tie.Need-returns Inv-loop μ-loop
-returns c = sym (c .before .before .before .loop .inv .0 ∙ places-bad _ _ _ (c .before .before .loop-test .taken) (failed (c .before .place-ok .ensures) (c .if1 .taken)))
+returns c =
+    sym
+    (c .before .before .before .loop .inv .0
+    ∙ places-bad _ _ _ (c .before .before .loop-test .taken)
+    (failed (c .before .place-ok .ensures) (c .if1 .taken)))
 
--- src/rows.rt:132:9
 add-p : tie.Need-add-p Inv-loop μ-loop
 add-p c = search needs
 
--- src/rows.rt:133:9
 sub-left : tie.Need-sub-left Inv-loop μ-loop
 sub-left c = search needs
 
--- src/rows.rt:128:5
 loop-less : tie.Need-loop-less Inv-loop μ-loop
 loop-less c = search needs
 
--- src/rows.rt:128:5
 loop-again : tie.Need-loop-again Inv-loop μ-loop
-loop-again c = (c .before .before .before .loop .inv .0 ∙ places-step _ _ _ (c .before .before .loop-test .taken) (held (c .before .place-ok .ensures) (c .if1 .left)), omega arith)
+loop-again c = (
+  c .before .before .before .loop .inv .0
+      ∙ places-step _ _ _ (c .before .before .loop-test .taken)
+      (held (c .before .place-ok .ensures) (c .if1 .left)),
+  omega arith,
+)
 
--- src/rows.rt:122:1
 returns-2 : tie.Need-returns-2 Inv-loop μ-loop
 unfolding placesOk
 returns-2 c = let z : c .before .loop .left ≡ 0 = omega arith in sym (c .before .loop .inv .0 ∙ rw z)

@@ -3,9 +3,6 @@ use Rattle.sound.proofs.Bytes.{zero-bytes}
 use borrow.Author.Needs.{needs}
 use Rattle.sound.proofs.rows.zero_words.Statement.{statement}
 use Rattle.sound.proofs.rows.zero_words.Tie as tie
-use Rattle.sound.proofs.rows.zero_words.Reads as reads
-use Rattle.sound.proofs.rows.zero_words.Lts as lts
-use Rattle.words.proofs.quiet.Reads as quiet-reads
 
 mul-quiet : tie.Need-mul-quiet
 mul-quiet c = search needs

@@ -8,8 +8,6 @@ use Rattle.sound.proofs.Steps.{met-bad, met-step}
 use Rattle.words.proofs.Ors.{Sofar, sofar-start, sofar-on, sofar-end, xor-same}
 use Rattle.sound.proofs.walks.all_met.Statement.{statement}
 use Rattle.sound.proofs.walks.all_met.Tie as tie
-use Rattle.sound.proofs.walks.all_met.Reads as reads
-use Rattle.sound.proofs.walks.all_met.Lts as lts
 
 abbrev Inv-loop : tie.InvT-loop
 Inv-loop seen n₀ all₀ n all = (n ≤ entries) × Sofar all (allMet seen entries) (allMet seen n)
@@ -31,8 +29,11 @@ loop-less c = search needs
 
 loop-again : tie.Need-loop-again Inv-loop μ-loop
 loop-again c =
-    let o = c .before .loop-test .taken in
-    (omega arith, sofar-on _ _ _ _ _ (c .before .before .loop .inv .1) (λ h. met-step _ _ o (xor-same _ 1 h)) (λ d. met-bad _ _ o (λ h. d (rw h))))
+    let o = c .before .loop-test .taken in (
+      omega arith,
+      sofar-on _ _ _ _ _ (c .before .before .loop .inv .1) (λ h. met-step _ _ o (xor-same _ 1 h))
+          (λ d. met-bad _ _ o (λ h. d (rw h))),
+    )
 
 returns : tie.Need-returns Inv-loop μ-loop
 unfolding allMet

@@ -1,117 +1,202 @@
-use Rattle.transfers.proofs.Handing.{read-fit, read-held, read-fitted, read-ranged, read-readable, read-short, read-gives, read-free, read-waits, read-ends}
+use Rattle.transfers.proofs.Fits.{Fit}
+use Rattle.transfers.proofs.Handing.{Seen, read-fit, read-held, read-short, read-gives, read-free, read-waits, read-ends}
 use Rattle.rules.specs.Allocation.{placeOf}
-use mathlib.Core.Path.{sym, _∙_}
+use Rattle.records.proofs.cursor.Laws.{stands-ranged, stands-readable}
+use mathlib.Core.Path.{refl, sym, _∙_}
 use native.Mathlib.Omega.{arith}
 use borrow.Author.Needs.{needs}
 use Rattle.transfers.proofs.reading.act.Statement.{statement}
 use Rattle.transfers.proofs.reading.act.Tie as tie
-use Rattle.transfers.proofs.reading.act.Reads as reads
-use Rattle.transfers.proofs.reading.act.Lts as lts
-use Rattle.counts.proofs.count_bytes.Reads as count-bytes-reads
-use Rattle.counts.proofs.in_words.Reads as in-words-reads
-use Rattle.counts.proofs.log_of.Reads as log-of-reads
-use Rattle.midst.proofs.take_file.Reads as take-file-reads
-use Rattle.segment.proofs.read_place.Reads as read-place-reads
-use Rattle.settling.proofs.taken.Reads as taken-reads
-use Rattle.transfers.proofs.reading.found_in.Reads as found-in-reads
-use Rattle.transfers.proofs.reading.give.Reads as give-reads
-use Rattle.transfers.proofs.waiting.begin.Reads as begin-reads
-use Rattle.transfers.proofs.waiting.may_wait.Reads as may-wait-reads
-use Rattle.transfers.proofs.waiting.wait_read.Reads as wait-read-reads
 
--- src/reading.rt:90:17
+-- back from a place to a call before it, and to the start
+abbrev start : tie.After-slice-known2 → tie.Start
+start c = c .before .before .before
+
+abbrev row-start : tie.After-read-place → tie.Start
+row-start c = start (c .before .before)
+
+abbrev file-row : tie.After-take-file → tie.After-read-place
+file-row c = c .before .before
+
+abbrev file-start : tie.After-take-file → tie.Start
+file-start c = row-start (file-row c)
+
+abbrev began-found : tie.After-begin → tie.After-found
+began-found c = c .before .before .before
+
+abbrev found-file : tie.After-found → tie.After-take-file
+found-file c = c .before .before .before
+
+abbrev found-start : tie.After-found → tie.Start
+found-start c = file-start (found-file c)
+
+abbrev bytes-began : tie.After-count-bytes → tie.After-begin
+bytes-began c = c .before .before .before
+
+abbrev then-bytes : tie.Then1 → tie.After-count-bytes
+then-bytes c = c .before .before
+
+abbrev else-bytes : tie.Else1 → tie.After-count-bytes
+else-bytes c = c .before .before
+
+abbrev gave-then : tie.After-give → tie.Then1
+gave-then c = c .before .before
+
+abbrev log-gave : tie.After-log-of → tie.After-give
+log-gave c = c .before .before .before .before
+
+abbrev may-else : tie.After-may-wait → tie.Else1
+may-else c = c .before .before
+
+abbrev words-may : tie.After-in-words2 → tie.After-may-wait
+words-may c = c .before .before .before
+
+-- what is asked of numbers and lengths
+fit : (c : tie.Start) → Fit (c .args .segment .now) (c .args .blocks .now) (c .pre .0 .0) (c .args .f) (c .args .acc)
+fit c = let S = c .pre .0 .1 .2 in read-fit S _ _ _ (c .pre .0 .2 _ _ S)
+
+-- what the code has seen before it begins
+seen : (c : tie.After-found)
+    → Seen (found-start c .args .f) (found-start c .args .acc) (found-start c .args .segment .now) (found-start c .args .blocks .now) (found-file c .take-file .result) (file-row (found-file c) .read-place .result)
+    (c .before .share .result .now) (c .found .result)
+unfolding placeOf
+seen c = record {
+  file = found-file c .take-file .ensures;
+  place = file-row (found-file c) .read-place .ensures;
+  share = c .before .share .ensures;
+  ring = c .found .ensures .0;
+  stands = c .found .ensures .1;
+}
+
 mul-place : tie.Need-mul-place
-mul-place c = record { fits = omega (arith, read-fit (c .before .before .before .pre .0 .1 .2) _ _ _ (c .before .before .before .pre .0 .2 _ _ (c .before .before .before .pre .0 .1 .2)) .file) }
+mul-place c = record { fits = omega (arith, fit (start c) .file) }
 
--- src/reading.rt:90:17
 add-place : tie.Need-add-place
-add-place c = record { fits = omega (arith, read-fit (c .before .before .before .pre .0 .1 .2) _ _ _ (c .before .before .before .pre .0 .2 _ _ (c .before .before .before .pre .0 .1 .2)) .file, read-fit (c .before .before .before .pre .0 .1 .2) _ _ _ (c .before .before .before .pre .0 .2 _ _ (c .before .before .before .pre .0 .1 .2)) .place) }
+add-place c = record { fits = omega (arith, fit (start c) .file, fit (start c) .place) }
 
--- src/reading.rt:91:9
 read-place-requires : tie.Need-read-place-requires
-read-place-requires c κs = (read-fit (c .before .before .before .before .pre .0 .1 .2) _ _ _ (c .before .before .before .before .pre .0 .2 _ _ (c .before .before .before .before .pre .0 .1 .2)) .segment, omega (arith, read-fit (c .before .before .before .before .pre .0 .1 .2) _ _ _ (c .before .before .before .before .pre .0 .2 _ _ (c .before .before .before .before .pre .0 .1 .2)) .file, read-fit (c .before .before .before .before .pre .0 .1 .2) _ _ _ (c .before .before .before .before .pre .0 .2 _ _ (c .before .before .before .before .pre .0 .1 .2)) .place))
+read-place-requires c κs = let F = fit (start (c .before)) in (F .segment, omega (arith, F .file, F .place))
 
--- src/reading.rt:92:9
 take-file-requires : tie.Need-take-file-requires
-take-file-requires c κs = (read-fit (c .before .before .before .before .before .before .pre .0 .1 .2) _ _ _ (c .before .before .before .before .before .before .pre .0 .2 _ _ (c .before .before .before .before .before .before .pre .0 .1 .2)) .segment, read-fit (c .before .before .before .before .before .before .pre .0 .1 .2) _ _ _ (c .before .before .before .before .before .before .pre .0 .2 _ _ (c .before .before .before .before .before .before .pre .0 .1 .2)) .file)
+take-file-requires c κs = let F = fit (row-start (c .before)) in (F .segment, F .file)
 
--- src/reading.rt:93:9
-may-wait-requires : tie.Need-may-wait-requires
-may-wait-requires c κs = (read-fit (c .before .before .before .before .before .before .before .before .pre .0 .1 .2) _ _ _ (c .before .before .before .before .before .before .before .before .pre .0 .2 _ _ (c .before .before .before .before .before .before .before .before .pre .0 .1 .2)) .segment, read-fit (c .before .before .before .before .before .before .before .before .pre .0 .1 .2) _ _ _ (c .before .before .before .before .before .before .before .before .pre .0 .2 _ _ (c .before .before .before .before .before .before .before .before .pre .0 .1 .2)) .file)
+share-requires : tie.Need-share-requires
+share-requires c κs = let F = fit (file-start (c .before)) in (F .blocks-size, F .file)
 
--- src/reading.rt:95:9
-found-in-requires : tie.Need-found-in-requires
-found-in-requires c κs = (read-fit (c .before .before .before .before .before .before .before .before .before .before .pre .0 .1 .2) _ _ _ (c .before .before .before .before .before .before .before .before .before .before .pre .0 .2 _ _ (c .before .before .before .before .before .before .before .before .before .before .pre .0 .1 .2)) .blocks-size, read-fit (c .before .before .before .before .before .before .before .before .before .before .pre .0 .1 .2) _ _ _ (c .before .before .before .before .before .before .before .before .before .before .pre .0 .2 _ _ (c .before .before .before .before .before .before .before .before .before .before .pre .0 .1 .2)) .file, read-held (c .before .before .before .before .before .before .before .before .before .before .pre .0 .1 .2) _ _ _ (c .before .before .before .before .before .before .before .before .before .before .pre .0 .2 _ _ (c .before .before .before .before .before .before .before .before .before .before .pre .0 .1 .2)) _ (c .before .before .before .take-file .ensures))
+found-requires : tie.Need-found-requires
+found-requires c κs =
+    let k = c .before .before in
+    let s = file-start k in
+    let S = s .pre .0 .1 .2 in
+    rw (c .share .ensures) (read-held S _ _ _ (s .pre .0 .2 _ _ S) _ (k .take-file .ensures))
 
--- src/reading.rt:96:5
 begin-requires : tie.Need-begin-requires
-begin-requires c κs = (read-fit (c .before .before .before .before .before .before .before .before .before .before .before .before .pre .0 .1 .2) _ _ _ (c .before .before .before .before .before .before .before .before .before .before .before .before .pre .0 .2 _ _ (c .before .before .before .before .before .before .before .before .before .before .before .before .pre .0 .1 .2)) .segment, omega (arith, read-fit (c .before .before .before .before .before .before .before .before .before .before .before .before .pre .0 .1 .2) _ _ _ (c .before .before .before .before .before .before .before .before .before .before .before .before .pre .0 .2 _ _ (c .before .before .before .before .before .before .before .before .before .before .before .before .pre .0 .1 .2)) .file, read-fit (c .before .before .before .before .before .before .before .before .before .before .before .before .pre .0 .1 .2) _ _ _ (c .before .before .before .before .before .before .before .before .before .before .before .before .pre .0 .2 _ _ (c .before .before .before .before .before .before .before .before .before .before .before .before .pre .0 .1 .2)) .place))
+begin-requires c κs =
+    let k = found-file (c .before .before) in
+    let F = fit (file-start k) in
+    (F .segment, omega (arith, F .file, F .place), file-row k .read-place .ensures)
 
--- src/reading.rt:97:17
 count-bytes-requires : tie.Need-count-bytes-requires
 count-bytes-requires c κs = search needs
 
--- src/reading.rt:97:17
 cast-limit : tie.Need-cast-limit
 cast-limit c = search needs
 
--- src/reading.rt:103:13
 give-requires : tie.Need-give-requires
 unfolding placeOf
-give-requires c κs = ((read-fit (c .before .before .before .before .before .before .before .before .before .before .before .before .before .before .before .before .before .before .before .pre .0 .1 .2) _ _ _ (c .before .before .before .before .before .before .before .before .before .before .before .before .before .before .before .before .before .before .before .pre .0 .2 _ _ (c .before .before .before .before .before .before .before .before .before .before .before .before .before .before .before .before .before .before .before .pre .0 .1 .2)) .blocks-size, read-fit (c .before .before .before .before .before .before .before .before .before .before .before .before .before .before .before .before .before .before .before .pre .0 .1 .2) _ _ _ (c .before .before .before .before .before .before .before .before .before .before .before .before .before .before .before .before .before .before .before .pre .0 .2 _ _ (c .before .before .before .before .before .before .before .before .before .before .before .before .before .before .before .before .before .before .before .pre .0 .1 .2)) .file, c .before .before .before .before .before .before .before .before .before .before .before .before .before .before .before .before .before .before .before .pre .1), ((read-fitted (c .before .before .before .before .before .before .before .before .before .before .before .before .before .before .before .before .before .before .before .pre .0 .1 .2) _ _ _ (c .before .before .before .before .before .before .before .before .before .before .before .before .before .before .before .before .before .before .before .pre .0 .2 _ _ (c .before .before .before .before .before .before .before .before .before .before .before .before .before .before .before .before .before .before .before .pre .0 .1 .2)) _ (c .before .before .before .before .before .before .before .before .before .before .before .before .take-file .ensures) _ (c .before .before .before .before .before .before .before .before .before .before .before .before .before .before .read-place .ensures) _ (c .before .before .before .before .before .before .begin .ensures) _ (c .before .before .before .before .before .before .before .before .found-in .ensures), read-ranged (c .before .before .before .before .before .before .before .before .before .before .before .before .before .before .before .before .before .before .before .pre .0 .1 .2) _ _ _ (c .before .before .before .before .before .before .before .before .before .before .before .before .before .before .before .before .before .before .before .pre .0 .2 _ _ (c .before .before .before .before .before .before .before .before .before .before .before .before .before .before .before .before .before .before .before .pre .0 .1 .2)) _ (c .before .before .before .before .before .before .before .before .before .before .before .before .take-file .ensures) _ (c .before .before .before .before .before .before .before .before .before .before .before .before .before .before .read-place .ensures) _ (c .before .before .before .before .before .before .begin .ensures) _ (c .before .before .before .before .before .before .before .before .found-in .ensures) .block, read-readable (c .before .before .before .before .before .before .before .before .before .before .before .before .before .before .before .before .before .before .before .pre .0 .1 .2) _ _ _ (c .before .before .before .before .before .before .before .before .before .before .before .before .before .before .before .before .before .before .before .pre .0 .2 _ _ (c .before .before .before .before .before .before .before .before .before .before .before .before .before .before .before .before .before .before .before .pre .0 .1 .2)) _ (c .before .before .before .before .before .before .before .before .before .before .before .before .take-file .ensures) _ (c .before .before .before .before .before .before .before .before .before .before .before .before .before .before .read-place .ensures) _ (c .before .before .before .before .before .before .begin .ensures) _ (c .before .before .before .before .before .before .before .before .found-in .ensures) (c .before .if1 .taken)), read-short (c .before .before .before .before .before .before .before .before .before .before .before .before .before .before .before .before .before .before .before .pre .0 .1 .2) _ _ _ (c .before .before .before .before .before .before .before .before .before .before .before .before .before .before .before .before .before .before .before .pre .0 .2 _ _ (c .before .before .before .before .before .before .before .before .before .before .before .before .before .before .before .before .before .before .before .pre .0 .1 .2)) _ (c .before .before .before .before .before .before .before .before .before .before .before .before .take-file .ensures) _ (c .before .before .before .before .before .before .before .before .before .before .before .before .before .before .read-place .ensures) _ (c .before .before .before .before .before .before .begin .ensures) _ (c .before .before .before .before .before .before .before .before .found-in .ensures) (c .before .if1 .taken) _ (c .before .before .before .count-bytes .ensures .0)))
+give-requires c κs =
+    let n = then-bytes (c .before) in
+    let b = bytes-began n in
+    let s = found-start (began-found b) in
+    let S = s .pre .0 .1 .2 in (
+      (stands-readable _ _ _ (seen (began-found b) .stands) (c .before .if1 .taken), s .pre .1),
+      read-short S _ _ _ (s .pre .0 .2 _ _ S) (seen (began-found b)) _ (b .begin .ensures) (c .before .if1 .taken) _ (n .count-bytes .ensures .0),
+    )
 
--- src/reading.rt:104:26
 in-words-requires : tie.Need-in-words-requires
 in-words-requires c κs = search needs
 
--- src/reading.rt:104:13
 log-of-requires : tie.Need-log-of-requires
 log-of-requires c κs = search needs
 
--- src/reading.rt:110:23
 taken-requires : tie.Need-taken-requires
-unfolding placeOf
-taken-requires c κs = read-ranged (c .before .before .before .before .before .before .before .before .before .before .before .before .before .before .before .before .before .before .before .before .before .before .before .before .before .pre .0 .1 .2) _ _ _ (c .before .before .before .before .before .before .before .before .before .before .before .before .before .before .before .before .before .before .before .before .before .before .before .before .before .pre .0 .2 _ _ (c .before .before .before .before .before .before .before .before .before .before .before .before .before .before .before .before .before .before .before .before .before .before .before .before .before .pre .0 .1 .2)) _ (c .before .before .before .before .before .before .before .before .before .before .before .before .before .before .before .before .before .before .take-file .ensures) _ (c .before .before .before .before .before .before .before .before .before .before .before .before .before .before .before .before .before .before .before .before .read-place .ensures) _ (c .before .before .before .before .before .before .before .before .before .before .before .before .begin .ensures) _ (c .before .before .before .before .before .before .before .before .before .before .before .before .before .before .found-in .ensures)
+taken-requires c κs =
+    let b = bytes-began (then-bytes (gave-then (log-gave (c .before)))) in
+    stands-ranged _ _ _ (seen (began-found b) .stands)
 
--- src/reading.rt:105:9
 same-length : tie.Need-same-length
 same-length c = search needs
 
--- src/reading.rt:105:9
 same-length-2 : tie.Need-same-length-2
 same-length-2 c = search needs
 
--- src/reading.rt:105:9
 returns : tie.Need-returns
 unfolding placeOf
-returns c = λ buffers d s S A. read-gives S _ _ _ A _ (c .before .before .before .before .before .before .before .before .before .before .before .before .before .before .before .before .before .before .before .take-file .ensures) _ (c .before .before .before .before .before .before .before .before .before .before .before .before .before .before .before .before .before .before .before .before .before .read-place .ensures) _ (c .before .before .before .before .before .before .before .before .before .before .before .before .before .begin .ensures) _ (c .before .before .before .before .before .before .before .before .before .before .before .before .before .before .before .found-in .ensures) (c .before .before .before .before .before .before .before .before .if1 .taken) _ (c .before .before .before .before .before .before .before .before .before .before .count-bytes .ensures .0) _ _ _ _ _ _ (c .before .before .before .before .before .before .give .ensures .0) (c .before .before .before .before .before .before .give .ensures .1) (c .before .before .log-of .ensures) (c .before .before .before .in-words .ensures) (c .taken .ensures)
+returns c =
+    λ buffers d s S A.
+    let l = c .before .before in
+    let g = log-gave l in
+    let then = gave-then g in
+    let n = then-bytes then in
+    let b = bytes-began n in
+    read-gives S _ _ _ A (seen (began-found b)) _ (b .begin .ensures) (then .if1 .taken) _ (n .count-bytes .ensures .0) _ _ _ _ _ _
+    (g .give .ensures .0) (g .give .ensures .1) (l .log-of .ensures) (l .before .in-words .ensures)
+    (c .taken .ensures)
 
--- src/reading.rt:120:13
+may-wait-requires : tie.Need-may-wait-requires
+unfolding placeOf
+may-wait-requires c κs =
+    let n = else-bytes (c .before) in
+    let b = bytes-began n in
+    let s = found-start (began-found b) in
+    let S = s .pre .0 .1 .2 in (
+      read-free S _ _ _ (s .pre .0 .2 _ _ S) (seen (began-found b)) _ (b .begin .ensures) (c .before .if1 .left) _ _ refl
+          (n .count-bytes .ensures .0) .0,
+      fit s .file,
+    )
+
 in-words-requires-2 : tie.Need-in-words-requires-2
 in-words-requires-2 c κs = search needs
 
--- src/reading.rt:115:9
 wait-read-requires : tie.Need-wait-read-requires
 unfolding placeOf
-wait-read-requires c κs = ((read-free (c .before .before .before .before .before .before .before .before .before .before .before .before .before .before .before .before .before .before .before .before .before .pre .0 .1 .2) _ _ _ (c .before .before .before .before .before .before .before .before .before .before .before .before .before .before .before .before .before .before .before .before .before .pre .0 .2 _ _ (c .before .before .before .before .before .before .before .before .before .before .before .before .before .before .before .before .before .before .before .before .before .pre .0 .1 .2)) _ (c .before .before .before .before .before .before .before .before .before .before .before .before .before .before .take-file .ensures) _ (c .before .before .before .before .before .before .before .before .before .before .before .before .before .before .before .before .read-place .ensures) _ (c .before .before .before .before .before .before .before .before .begin .ensures) _ (c .before .before .before .before .before .before .before .before .before .before .found-in .ensures) (c .before .before .before .if1 .left) _ _ (c .in-words2 .ensures) (c .before .before .before .before .before .count-bytes .ensures .0) .0, read-fit (c .before .before .before .before .before .before .before .before .before .before .before .before .before .before .before .before .before .before .before .before .before .pre .0 .1 .2) _ _ _ (c .before .before .before .before .before .before .before .before .before .before .before .before .before .before .before .before .before .before .before .before .before .pre .0 .2 _ _ (c .before .before .before .before .before .before .before .before .before .before .before .before .before .before .before .before .before .before .before .before .before .pre .0 .1 .2)) .file, omega (arith, read-fit (c .before .before .before .before .before .before .before .before .before .before .before .before .before .before .before .before .before .before .before .before .before .pre .0 .1 .2) _ _ _ (c .before .before .before .before .before .before .before .before .before .before .before .before .before .before .before .before .before .before .before .before .before .pre .0 .2 _ _ (c .before .before .before .before .before .before .before .before .before .before .before .before .before .before .before .before .before .before .before .before .before .pre .0 .1 .2)) .file, read-fit (c .before .before .before .before .before .before .before .before .before .before .before .before .before .before .before .before .before .before .before .before .before .pre .0 .1 .2) _ _ _ (c .before .before .before .before .before .before .before .before .before .before .before .before .before .before .before .before .before .before .before .before .before .pre .0 .2 _ _ (c .before .before .before .before .before .before .before .before .before .before .before .before .before .before .before .before .before .before .before .before .before .pre .0 .1 .2)) .place), read-free (c .before .before .before .before .before .before .before .before .before .before .before .before .before .before .before .before .before .before .before .before .before .pre .0 .1 .2) _ _ _ (c .before .before .before .before .before .before .before .before .before .before .before .before .before .before .before .before .before .before .before .before .before .pre .0 .2 _ _ (c .before .before .before .before .before .before .before .before .before .before .before .before .before .before .before .before .before .before .before .before .before .pre .0 .1 .2)) _ (c .before .before .before .before .before .before .before .before .before .before .before .before .before .before .take-file .ensures) _ (c .before .before .before .before .before .before .before .before .before .before .before .before .before .before .before .before .read-place .ensures) _ (c .before .before .before .before .before .before .before .before .begin .ensures) _ (c .before .before .before .before .before .before .before .before .before .before .found-in .ensures) (c .before .before .before .if1 .left) _ _ (c .in-words2 .ensures) (c .before .before .before .before .before .count-bytes .ensures .0) .1), read-free (c .before .before .before .before .before .before .before .before .before .before .before .before .before .before .before .before .before .before .before .before .before .pre .0 .1 .2) _ _ _ (c .before .before .before .before .before .before .before .before .before .before .before .before .before .before .before .before .before .before .before .before .before .pre .0 .2 _ _ (c .before .before .before .before .before .before .before .before .before .before .before .before .before .before .before .before .before .before .before .before .before .pre .0 .1 .2)) _ (c .before .before .before .before .before .before .before .before .before .before .before .before .before .before .take-file .ensures) _ (c .before .before .before .before .before .before .before .before .before .before .before .before .before .before .before .before .read-place .ensures) _ (c .before .before .before .before .before .before .before .before .begin .ensures) _ (c .before .before .before .before .before .before .before .before .before .before .found-in .ensures) (c .before .before .before .if1 .left) _ _ (c .in-words2 .ensures) (c .before .before .before .before .before .count-bytes .ensures .0) .2)
+wait-read-requires c κs =
+    let e = may-else (words-may c) in
+    let n = else-bytes e in
+    let b = bytes-began n in
+    let s = found-start (began-found b) in
+    let S = s .pre .0 .1 .2 in
+    let F = fit s in
+    let free = read-free S _ _ _ (s .pre .0 .2 _ _ S) (seen (began-found b)) _ (b .begin .ensures)
+    (e .if1 .left) _ _ (c .in-words2 .ensures) (n .count-bytes .ensures .0) in
+    ((free .0, F .file, omega (arith, F .file, F .place), free .1), free .2)
 
--- src/reading.rt:124:9
 same-length-3 : tie.Need-same-length-3
 same-length-3 c = search needs
 
--- src/reading.rt:124:9
 returns-2 : tie.Need-returns-2
 unfolding placeOf
-returns-2 c = λ buffers d s S A. read-waits S _ _ _ A _ (c .before .before .before .before .before .before .before .before .before .before .before .before .before .before .before .before .before .take-file .ensures) _ (c .before .before .before .before .before .before .before .before .before .before .before .before .before .before .before .before .before .before .before .read-place .ensures) _ (c .before .before .before .before .before .before .before .before .before .before .before .begin .ensures) _ (c .before .before .before .before .before .before .before .before .before .before .before .before .before .found-in .ensures) (c .before .before .before .before .before .before .if1 .left) _ _ (c .before .before .before .in-words2 .ensures) (c .before .before .before .before .before .before .before .before .count-bytes .ensures .0) (sym (c .before .before .before .before .before .if2 .taken) ∙ c .before .before .before .before .before .before .before .before .before .before .before .before .before .before .before .may-wait .ensures) _ _ (c .before .before .wait-read .ensures)
+returns-2 c =
+    λ buffers d s S A.
+    let w = c .before .before in
+    let m = words-may (w .before) in
+    let e = may-else m in
+    let n = else-bytes e in
+    let b = bytes-began n in
+    read-waits S _ _ _ A (seen (began-found b)) _ (b .begin .ensures) (e .if1 .left) _ _ (w .before .in-words2 .ensures)
+    (n .count-bytes .ensures .0) (sym (w .before .before .before .if2 .taken) ∙ m .may-wait .ensures) _ _
+    (w .wait-read .ensures)
 
--- src/reading.rt:78:1
 same-length-4 : tie.Need-same-length-4
 same-length-4 c = search needs
 
--- src/reading.rt:78:1
 returns-3 : tie.Need-returns-3
 unfolding placeOf
-returns-3 c = λ buffers d s S A. read-ends S _ _ _ A _ (c .before .before .before .before .before .before .before .before .before .before .before .before .take-file .ensures) _ (c .before .before .before .before .before .before .before .before .before .before .before .before .before .before .read-place .ensures) _ (c .before .before .before .before .before .before .begin .ensures) _ (c .before .before .before .before .before .before .before .before .found-in .ensures) (c .before .if1 .left) (sym (c .if2 .left) ∙ c .before .before .before .before .before .before .before .before .before .before .may-wait .ensures) _
+returns-3 c =
+    λ buffers d s S A.
+    let e = may-else (c .before) in
+    let b = bytes-began (else-bytes e) in
+    read-ends S _ _ _ A (seen (began-found b)) _ (b .begin .ensures) (e .if1 .left) (sym (c .if2 .left) ∙ c .before .may-wait .ensures) _
 
 pub act-spec : {M : Type 1} → statement M
 act-spec =
@@ -121,8 +206,8 @@ act-spec =
     add-place
     read-place-requires
     take-file-requires
-    may-wait-requires
-    found-in-requires
+    share-requires
+    found-requires
     begin-requires
     count-bytes-requires
     cast-limit
@@ -133,6 +218,7 @@ act-spec =
     same-length
     same-length-2
     returns
+    may-wait-requires
     in-words-requires-2
     wait-read-requires
     same-length-3

@@ -1,24 +1,45 @@
-use Rattle.transfers.specs.Rows.{begunRow}
-use Rattle.segment.specs.Fields.{placeWords}
+use Rattle.words.specs.Word.{Bytes}
+use Rattle.transfers.proofs.Spent.{begun-puts}
+use native.Mathlib.Omega.{arith}
 use borrow.Author.Needs.{needs}
 use Rattle.transfers.proofs.waiting.begin.Statement.{statement}
 use Rattle.transfers.proofs.waiting.begin.Tie as tie
-use Rattle.transfers.proofs.waiting.begin.Reads as reads
-use Rattle.transfers.proofs.waiting.begin.Lts as lts
-use Rattle.segment.proofs.write_place.Reads as write-place-reads
 
--- src/waiting.rt:35:5
-write-place-requires : tie.Need-write-place-requires
-write-place-requires c κs = search needs
+mul-at : tie.Need-mul-at
+mul-at c = search needs
 
--- src/waiting.rt:21:1
+add-at : tie.Need-add-at
+add-at c = search needs
+
+add-put : tie.Need-add-put
+add-put c = search needs
+
+kept-requires : tie.Need-kept-requires
+kept-requires c κs = search needs
+
+put-requires : tie.Need-put-requires
+put-requires c κs = search needs
+
+add-put-2 : tie.Need-add-put-2
+add-put-2 c = search needs
+
+put-requires-2 : tie.Need-put-requires-2
+put-requires-2 c κs = search needs
+
 same-length : tie.Need-same-length
 same-length c = search needs
 
--- src/waiting.rt:21:1
 returns : tie.Need-returns
-unfolding begunRow placeWords
-returns c = c .before .before .write-place .ensures
+returns c =
+    let start : tie.Start = search in
+    let known : tie.After-slice-known = search in
+    let kept : tie.After-kept = search in
+    let first : tie.After-put = search in
+    let second : tie.After-put2 = search in
+    let bytes : Bytes (start .args .segment .now) = unfold Bytes in λ i. known .slice-known .given i .fits in
+    begun-puts _ bytes _ _ _ _ _ (omega arith) (start .pre .2) (kept .kept .ensures) (first .put .ensures)
+    (second .put2 .ensures)
 
 pub begin-spec : {M : Type 1} → statement M
-begin-spec = tie.close (tie.spec write-place-requires same-length returns)
+begin-spec =
+    tie.close (tie.spec mul-at add-at add-put kept-requires put-requires add-put-2 put-requires-2 same-length returns)

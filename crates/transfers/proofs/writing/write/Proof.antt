@@ -1,35 +1,33 @@
+-- `writing::write` meets its contract: an answer to each need, in the order of the code.
 use Rattle.transfers.proofs.Rests.{done-of}
 use borrow.Author.Needs.{needs}
 use Rattle.transfers.proofs.writing.write.Statement.{statement}
 use Rattle.transfers.proofs.writing.write.Tie as tie
-use Rattle.transfers.proofs.writing.write.Reads as reads
-use Rattle.transfers.proofs.writing.write.Lts as lts
-use Rattle.settling.proofs.rest.Reads as rest-reads
-use Rattle.transfers.proofs.writing.act.Reads as act-reads
 
--- src/writing.rt:128:9
 act-requires : tie.Need-act-requires
-act-requires c κs = c .before .before .before .before .before .before .before .pre
+act-requires c κs = let start : tie.Start = search in start .pre
 
--- src/writing.rt:129:5
 rest-requires : tie.Need-rest-requires
-rest-requires c κs = (_, _, c .before .before .before .before .before .before .before .before .before .act .ensures _ _ (c .before .before .before .before .before .before .before .before .before .before .before .before .before .before .before .before .before .pre .0 .0 .2) .mid)
+rest-requires c κs =
+    let here : tie.After-act = search in let act = here .act in
+    let start : tie.Start = search in
+    (_, _, act .ensures _ _ (start .pre .0 .0 .2) .mid)
 
--- src/writing.rt:115:1
 same-length : tie.Need-same-length
 same-length c = search needs
 
--- src/writing.rt:115:1
 same-length-2 : tie.Need-same-length-2
 same-length-2 c = search needs
 
--- src/writing.rt:115:1
 same-length-3 : tie.Need-same-length-3
 same-length-3 c = search needs
 
--- src/writing.rt:115:1
 returns : tie.Need-returns
-returns c = λ d s S. done-of (c .before .before .before .before .before .before .rest .ensures) (S .stands .bodies) (c .before .before .before .before .before .before .before .before .before .before .before .before .before .before .before .before .act .ensures d s S)
+returns c =
+    let here : tie.After-rest = search in let rest = here .rest in
+    let here : tie.After-act = search in let act = here .act in
+    λ d s S.
+    done-of (rest .ensures) (S .stands .bodies) (act .ensures d s S)
 
 pub write-spec : {M : Type 1} → statement M
 write-spec =

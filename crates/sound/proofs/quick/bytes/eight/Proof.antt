@@ -3,9 +3,6 @@ use Rattle.sound.proofs.quick.Onward.{led-eight}
 use borrow.Author.Needs.{needs}
 use Rattle.sound.proofs.quick.bytes.eight.Statement.{statement}
 use Rattle.sound.proofs.quick.bytes.eight.Tie as tie
-use Rattle.sound.proofs.quick.bytes.eight.Reads as reads
-use Rattle.sound.proofs.quick.bytes.eight.Lts as lts
-use Rattle.sound.proofs.quick.bytes.four.Reads as four-reads
 
 four-requires : tie.Need-four-requires
 four-requires c κs = search needs
@@ -25,8 +22,10 @@ add-result c = search needs
 returns : tie.Need-returns
 returns c =
     let a = c .before .four .ensures in
-    let b = c .four2 .ensures in
-    (join-eight _ _ (c .before .four .result) (c .four2 .result) (a .0) (b .0), λ n k h. led-eight _ _ (c .before .four .result) (c .four2 .result) n (a .2) (b .0) (a .1) k h)
+    let b = c .four2 .ensures in (
+      join-eight _ _ (c .before .four .result) (c .four2 .result) (a .0) (b .0),
+      λ n k h. led-eight _ _ (c .before .four .result) (c .four2 .result) n (a .2) (b .0) (a .1) k h,
+    )
 
 pub eight-spec : {M : Type 1} → statement M
 eight-spec =

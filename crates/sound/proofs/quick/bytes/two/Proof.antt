@@ -4,9 +4,6 @@ use Rattle.sound.proofs.quick.Joined.{one-byte, join-two}
 use borrow.Author.Needs.{needs}
 use Rattle.sound.proofs.quick.bytes.two.Statement.{statement}
 use Rattle.sound.proofs.quick.bytes.two.Tie as tie
-use Rattle.sound.proofs.quick.bytes.two.Reads as reads
-use Rattle.sound.proofs.quick.bytes.two.Lts as lts
-use Rattle.sound.proofs.quick.bytes.broad.Reads as broad-reads
 
 shared-slice-read-broad : tie.Need-shared-slice-read-broad
 shared-slice-read-broad c = search needs
@@ -32,8 +29,11 @@ add-result c = search needs
 returns : tie.Need-returns
 returns c =
     let a = c .before .before .broad in
-    let b = c .broad2 in
-    (join-two _ _ (a .result) (b .result) (one-byte _ _ _ (a .ensures .0)) (one-byte _ _ _ (b .ensures .0)), omega (arith, a .ensures .1, b .ensures .1), λ n h. led-two _ _ (a .result) (b .result) n (a .ensures .0) (b .ensures .0) (a .ensures .1) h)
+    let b = c .broad2 in (
+      join-two _ _ (a .result) (b .result) (one-byte _ _ _ (a .ensures .0)) (one-byte _ _ _ (b .ensures .0)),
+      omega (arith, a .ensures .1, b .ensures .1),
+      λ n h. led-two _ _ (a .result) (b .result) n (a .ensures .0) (b .ensures .0) (a .ensures .1) h,
+    )
 
 pub two-spec : {M : Type 1} → statement M
 two-spec =

@@ -1,12 +1,11 @@
 use mathlib.Core.Path.{sym, _∙_}
 use borrow.Author.Tests.{eq-eqb, ne-eqb}
+use Rattle.rules.specs.Limits.{files}
+use Rattle.segment.specs.Layout.{readQueues, writeQueues}
 use Rattle.sound.proofs.quick.Nils.{queues-none}
 use borrow.Author.Needs.{needs}
 use Rattle.sound.proofs.quick.heads.no_queues.Statement.{statement}
 use Rattle.sound.proofs.quick.heads.no_queues.Tie as tie
-use Rattle.sound.proofs.quick.heads.no_queues.Reads as reads
-use Rattle.sound.proofs.quick.heads.no_queues.Lts as lts
-use Rattle.sound.proofs.quick.heads.ones.Reads as ones-reads
 
 mul-ones : tie.Need-mul-ones
 mul-ones c = search needs
@@ -18,7 +17,11 @@ ones-requires : tie.Need-ones-requires
 ones-requires c κs = search needs
 
 returns : tie.Need-returns
-returns c = λ h bufs seen busy. queues-none _ bufs seen busy (c .before .before .before .args .side) 8 0 1 (λ g. rw (eq-eqb (c .before .before .before .args .side) 1 (c .before .if1 .taken))) (sym (c .ones .ensures) ∙ h)
+returns c =
+    λ h bufs seen busy.
+    queues-none _ bufs seen busy (c .before .before .before .args .side) files 0 writeQueues
+    (λ g. rw (eq-eqb (c .before .before .before .args .side) 2 (c .before .if1 .taken)))
+    (sym (c .ones .ensures) ∙ h)
 
 mul-ones-3 : tie.Need-mul-ones-3
 mul-ones-3 c = search needs
@@ -30,7 +33,11 @@ ones-requires-2 : tie.Need-ones-requires-2
 ones-requires-2 c κs = search needs
 
 returns-2 : tie.Need-returns-2
-returns-2 c = λ h bufs seen busy. queues-none _ bufs seen busy (c .before .before .before .args .side) 8 0 9 (λ g. rw (ne-eqb (c .before .before .before .args .side) 1 (c .before .if1 .left))) (sym (c .ones2 .ensures) ∙ h)
+returns-2 c =
+    λ h bufs seen busy.
+    queues-none _ bufs seen busy (c .before .before .before .args .side) files 0 readQueues
+    (λ g. rw (ne-eqb (c .before .before .before .args .side) 2 (c .before .if1 .left)))
+    (sym (c .ones2 .ensures) ∙ h)
 
 pub no-queues-spec : {M : Type 1} → statement M
 no-queues-spec =

@@ -7,8 +7,6 @@ use Rattle.words.proofs.Ors.{Sofar, sofar-start, sofar-on, sofar-end, xor-same}
 use Rattle.sound.proofs.quick.Nils.{ones-step, ones-bad, ones-end}
 use Rattle.sound.proofs.quick.heads.ones.Statement.{statement}
 use Rattle.sound.proofs.quick.heads.ones.Tie as tie
-use Rattle.sound.proofs.quick.heads.ones.Reads as reads
-use Rattle.sound.proofs.quick.heads.ones.Lts as lts
 
 abbrev Inv-loop : tie.InvT-loop
 Inv-loop s at n p₀ left₀ all₀ p left all = Sofar all (ones s at n) (ones s p left) × (p + left ≡ at + n)
@@ -33,8 +31,11 @@ loop-less c = search needs
 
 loop-again : tie.Need-loop-again Inv-loop μ-loop
 loop-again c =
-    let o = c .before .loop-test .taken in
-    (sofar-on _ _ _ _ _ (c .before .before .loop .inv .0) (λ h. ones-step _ _ _ o (xor-same _ 255 h)) (λ d. ones-bad _ _ _ o (λ h. d (rw h))), omega arith)
+    let o = c .before .loop-test .taken in (
+      sofar-on _ _ _ _ _ (c .before .before .loop .inv .0) (λ h. ones-step _ _ _ o (xor-same _ 255 h))
+          (λ d. ones-bad _ _ _ o (λ h. d (rw h))),
+      omega arith,
+    )
 
 returns : tie.Need-returns Inv-loop μ-loop
 returns c = sofar-end _ _ _ (c .before .loop .inv .0) (ones-end _ _ _ (c .loop-test .left))

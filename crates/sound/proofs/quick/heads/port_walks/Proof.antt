@@ -2,10 +2,6 @@ use mathlib.Core.Path.{sym}
 use borrow.Author.Needs.{needs}
 use Rattle.sound.proofs.quick.heads.port_walks.Statement.{statement}
 use Rattle.sound.proofs.quick.heads.port_walks.Tie as tie
-use Rattle.sound.proofs.quick.heads.port_walks.Reads as reads
-use Rattle.sound.proofs.quick.heads.port_walks.Lts as lts
-use Rattle.sound.proofs.walks.port_walks.Reads as plain-reads
-use Rattle.sound.proofs.quick.heads.no_replies.Reads as no-replies-reads
 
 no-replies-requires : tie.Need-no-replies-requires
 no-replies-requires c κs = search needs

@@ -2,10 +2,6 @@ use mathlib.Core.Path.{sym}
 use borrow.Author.Needs.{needs}
 use Rattle.sound.proofs.quick.heads.queue_walks.Statement.{statement}
 use Rattle.sound.proofs.quick.heads.queue_walks.Tie as tie
-use Rattle.sound.proofs.quick.heads.queue_walks.Reads as reads
-use Rattle.sound.proofs.quick.heads.queue_walks.Lts as lts
-use Rattle.sound.proofs.walks.queue_walks.Reads as plain-reads
-use Rattle.sound.proofs.quick.heads.no_queues.Reads as no-queues-reads
 
 no-queues-requires : tie.Need-no-queues-requires
 no-queues-requires c κs = search needs

@@ -3,10 +3,6 @@ use Rattle.sound.proofs.quick.Resting.{idle-run, fifths}
 use borrow.Author.Needs.{needs}
 use Rattle.sound.proofs.quick.idle.places_idle.Statement.{statement}
 use Rattle.sound.proofs.quick.idle.places_idle.Tie as tie
-use Rattle.sound.proofs.quick.idle.places_idle.Reads as reads
-use Rattle.sound.proofs.quick.idle.places_idle.Lts as lts
-use Rattle.sound.proofs.idle.places_idle.Reads as plain-reads
-use Rattle.sound.proofs.quick.idle.quiet_runs.Reads as quiet-runs-reads
 
 mul-quiet-runs : tie.Need-mul-quiet-runs
 mul-quiet-runs c = search needs

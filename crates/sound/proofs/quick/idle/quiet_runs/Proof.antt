@@ -6,8 +6,6 @@ use borrow.Author.Tests.{eqb-true}
 use Rattle.sound.proofs.quick.Resting.{Five, five-end, five-step, five-all}
 use Rattle.sound.proofs.quick.idle.quiet_runs.Statement.{statement}
 use Rattle.sound.proofs.quick.idle.quiet_runs.Tie as tie
-use Rattle.sound.proofs.quick.idle.quiet_runs.Reads as reads
-use Rattle.sound.proofs.quick.idle.quiet_runs.Lts as lts
 
 abbrev Inv-loop : tie.InvT-loop
 Inv-loop s at n p₀ left₀ all₀ p left all = (p + left ≡ at + n) × (all ≡ 0 → Five s n p left → Five s n at n)
@@ -65,8 +63,9 @@ loop-less c = search needs
 
 loop-again : tie.Need-loop-again Inv-loop μ-loop
 loop-again c =
-    let l = c .before .before .before .before .before .before .loop in
-    let o = c .before .before .before .before .before .loop-test .taken in
+    let here : tie.In-loop Inv-loop μ-loop = search in let loop-test = here .loop-test in
+    let here : tie.At-loop Inv-loop μ-loop = search in let l = here .loop in
+    let o = loop-test .taken in
     (omega arith, λ h f. five-step _ _ (l .p) (l .left) (l .all) o (l .inv .1) h f)
 
 returns : tie.Need-returns Inv-loop μ-loop

@@ -8,14 +8,13 @@ use Rattle.sound.specs.quick.Onward.{freeFrom}
 use Rattle.sound.proofs.quick.Onward.{stays, onto-four, fewer}
 use Rattle.sound.proofs.quick.order.by_fours.Statement.{statement}
 use Rattle.sound.proofs.quick.order.by_fours.Tie as tie
-use Rattle.sound.proofs.quick.order.by_fours.Reads as reads
-use Rattle.sound.proofs.quick.order.by_fours.Lts as lts
-use Rattle.sound.proofs.quick.order.farthest.Reads as farthest-reads
-use Rattle.sound.proofs.quick.order.four_marks.Reads as four-marks-reads
-use Rattle.sound.proofs.quick.order.four_linked.Reads as four-linked-reads
 
 abbrev Inv-loop : tie.InvT-loop
-Inv-loop s e most seen₀ end last₀ at₀ seen last at = (e ≤ last) × (last ≤ end) × (at ≡ 2 * linkAt last) × ((busy : List ℕ) → freeFrom s e seen₀ busy most ≡ freeFrom s last seen busy (most - (last - e)))
+Inv-loop s e most seen₀ end last₀ at₀ seen last at =
+    (e ≤ last)
+    × (last ≤ end)
+    × (at ≡ 2 * linkAt last)
+    × ((busy : List ℕ) → freeFrom s e seen₀ busy most ≡ freeFrom s last seen busy (most - (last - e)))
 
 abbrev μ-loop : tie.MeasureT-loop
 μ-loop s e most seen₀ end last₀ at₀ seen last at = end - last
@@ -42,13 +41,19 @@ four-marks-requires : tie.Need-four-marks-requires Inv-loop μ-loop
 four-marks-requires c κs = search needs
 
 returns : tie.Need-returns Inv-loop μ-loop
-returns c = let l = c .before .before .before .before .loop in let u = c .before .before .before .before .before .farthest in (l .inv .0, omega arith, omega arith, l .inv .3)
+returns c =
+    let here : tie.At-loop Inv-loop μ-loop = search in let l = here .loop in
+    let here : tie.After-farthest Inv-loop μ-loop = search in let u = here .farthest in
+    (l .inv .0, omega arith, omega arith, l .inv .3)
 
 four-linked-requires : tie.Need-four-linked-requires Inv-loop μ-loop
 four-linked-requires c κs = search needs
 
 returns-2 : tie.Need-returns-2 Inv-loop μ-loop
-returns-2 c = let l = c .before .before .before .before .before .before .loop in let u = c .before .before .before .before .before .before .before .farthest in (l .inv .0, omega arith, omega arith, l .inv .3)
+returns-2 c =
+    let here : tie.At-loop Inv-loop μ-loop = search in let l = here .loop in
+    let here : tie.After-farthest Inv-loop μ-loop = search in let u = here .farthest in
+    (l .inv .0, omega arith, omega arith, l .inv .3)
 
 element-write-seen : tie.Need-element-write-seen Inv-loop μ-loop
 element-write-seen c = search needs
@@ -85,12 +90,21 @@ loop-less c = search needs
 
 loop-again : tie.Need-loop-again Inv-loop μ-loop
 loop-again c =
-    let l = c .before .before .before .before .before .before .loop in
-    let u = c .before .before .before .before .before .before .before .farthest in
-    let t = c .before .before .before .before .before .loop-test .taken in
+    let here : tie.In-loop Inv-loop μ-loop = search in let loop-test = here .loop-test in
+    let here : tie.At-loop Inv-loop μ-loop = search in let l = here .loop in
+    let here : tie.After-farthest Inv-loop μ-loop = search in let u = here .farthest in
+    let t = loop-test .taken in
     let k = c .before .four-linked .ensures (c .if2 .left) in
-    let m = c .before .before .before .four-marks .ensures (c .before .before .if1 .left) in
-    (omega arith, omega arith, omega arith, λ b. l .inv .3 b ∙ onto-four _ _ b _ _ _ (l .inv .2) (k .0) (k .1) (k .2) (k .3) (m .0) (m .1) (m .2) (m .3) (omega arith) (omega arith) ∙ fewer _ _ b _ _ _ (omega arith))
+    let m = c .before .before .before .four-marks .ensures (c .before .before .if1 .left) in (
+      omega arith,
+      omega arith,
+      omega arith,
+      λ b.
+          l .inv .3 b
+          ∙ onto-four _ _ b _ _ _ (l .inv .2) (k .0) (k .1) (k .2) (k .3) (m .0) (m .1) (m .2) (m .3) (omega arith)
+          (omega arith)
+          ∙ fewer _ _ b _ _ _ (omega arith),
+    )
 
 returns-3 : tie.Need-returns-3 Inv-loop μ-loop
 returns-3 c = let l = c .before .loop in let u = c .before .before .farthest in (l .inv .0, omega arith, omega arith, l .inv .3)

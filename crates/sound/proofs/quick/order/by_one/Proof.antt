@@ -4,9 +4,6 @@ use Rattle.sound.proofs.quick.Onward.{stays, onto, fewer}
 use borrow.Author.Needs.{needs}
 use Rattle.sound.proofs.quick.order.by_one.Statement.{statement}
 use Rattle.sound.proofs.quick.order.by_one.Tie as tie
-use Rattle.sound.proofs.quick.order.by_one.Reads as reads
-use Rattle.sound.proofs.quick.order.by_one.Lts as lts
-use Rattle.sound.proofs.quick.order.linked.Reads as linked-reads
 
 returns : tie.Need-returns
 returns c = (omega arith, omega arith, omega arith, λ b. stays _ _ b _ _)
@@ -45,7 +42,15 @@ add-result : tie.Need-add-result
 add-result c = search needs
 
 returns-5 : tie.Need-returns-5
-returns-5 c = (omega arith, omega arith, omega arith, λ b. onto _ _ b _ _ _ _ refl refl (c .before .linked .ensures (c .if4 .left)) (c .before .before .if3 .left) (omega arith) (omega arith) ∙ fewer _ _ b _ _ _ (omega arith))
+returns-5 c = (
+  omega arith,
+  omega arith,
+  omega arith,
+  λ b.
+      onto _ _ b _ _ _ _ refl refl (c .before .linked .ensures (c .if4 .left)) (c .before .before .if3 .left)
+      (omega arith) (omega arith)
+      ∙ fewer _ _ b _ _ _ (omega arith),
+)
 
 pub by-one-spec : {M : Type 1} → statement M
 by-one-spec =

@@ -4,10 +4,6 @@ use Rattle.sound.proofs.quick.Onward.{fewer}
 use borrow.Author.Needs.{needs}
 use Rattle.sound.proofs.quick.order.in_order.Statement.{statement}
 use Rattle.sound.proofs.quick.order.in_order.Tie as tie
-use Rattle.sound.proofs.quick.order.in_order.Reads as reads
-use Rattle.sound.proofs.quick.order.in_order.Lts as lts
-use Rattle.sound.proofs.quick.order.by_fours.Reads as by-fours-reads
-use Rattle.sound.proofs.quick.order.by_one.Reads as by-one-reads
 
 add-if1 : tie.Need-add-if1
 add-if1 c = search needs

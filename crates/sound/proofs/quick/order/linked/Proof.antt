@@ -2,10 +2,6 @@ use Rattle.sound.proofs.quick.Onward.{led-twenty}
 use borrow.Author.Needs.{needs}
 use Rattle.sound.proofs.quick.order.linked.Statement.{statement}
 use Rattle.sound.proofs.quick.order.linked.Tie as tie
-use Rattle.sound.proofs.quick.order.linked.Reads as reads
-use Rattle.sound.proofs.quick.order.linked.Lts as lts
-use Rattle.sound.proofs.quick.bytes.eight.Reads as eight-reads
-use Rattle.sound.proofs.quick.bytes.four.Reads as four-reads
 
 eight-requires : tie.Need-eight-requires
 eight-requires c κs = search needs
@@ -26,7 +22,11 @@ four-requires : tie.Need-four-requires
 four-requires c κs = search needs
 
 returns : tie.Need-returns
-returns c = λ h. led-twenty _ _ (c .before .before .eight .result) (c .before .eight2 .result) (c .four .result) _ (c .before .before .eight .ensures .1) (c .before .eight2 .ensures .0) (c .four .ensures .0) (c .before .before .before .before .pre .1) h
+returns c =
+    let start : tie.Start = search in
+    λ h.
+    led-twenty _ _ (c .before .before .eight .result) (c .before .eight2 .result) (c .four .result) _
+    (c .before .before .eight .ensures .1) (c .before .eight2 .ensures .0) (c .four .ensures .0) (start .pre .1) h
 
 pub linked-spec : {M : Type 1} → statement M
 linked-spec =

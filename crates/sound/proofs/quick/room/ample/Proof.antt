@@ -6,8 +6,6 @@ use Rattle.rules.specs.Limits.{places}
 use Rattle.sound.proofs.quick.Ample.{room-ample}
 use Rattle.sound.proofs.quick.room.ample.Statement.{statement}
 use Rattle.sound.proofs.quick.room.ample.Tie as tie
-use Rattle.sound.proofs.quick.room.ample.Reads as reads
-use Rattle.sound.proofs.quick.room.ample.Lts as lts
 
 returns : tie.Need-returns
 returns c = λ h. absurd (false≢true h)

@@ -3,21 +3,12 @@ use Rattle.sound.proofs.quick.Settings.{closed-row, open-row}
 use borrow.Author.Needs.{needs}
 use Rattle.sound.proofs.quick.rows.place_ok.Statement.{statement}
 use Rattle.sound.proofs.quick.rows.place_ok.Tie as tie
-use Rattle.sound.proofs.quick.rows.place_ok.Reads as reads
-use Rattle.sound.proofs.quick.rows.place_ok.Lts as lts
-use Rattle.sound.proofs.quick.bytes.eight.Reads as eight-reads
-use Rattle.sound.proofs.rows.place_ok.Reads as plain-reads
-use Rattle.sound.proofs.rows.place_word.Reads as place-word-reads
-use Rattle.sound.proofs.rows.good_side.Reads as good-side-reads
-
-add-at : tie.Need-add-at
-add-at c = search needs
 
 mul-at : tie.Need-mul-at
 mul-at c = search needs
 
-add-at-2 : tie.Need-add-at-2
-add-at-2 c = search needs
+add-at : tie.Need-add-at
+add-at c = search needs
 
 mul-at-2 : tie.Need-mul-at-2
 mul-at-2 c = search needs
@@ -56,7 +47,17 @@ good-side-requires : tie.Need-good-side-requires
 good-side-requires c κs = search needs
 
 returns-3 : tie.Need-returns-3
-returns-3 c = c .good-side .ensures ∙ open-row _ _ _ _ (c .before .before .before .before .eight3 .ensures .0) (c .before .before .before .if2 .left) (c .before .before .before .before .before .before .eight .ensures .0) _ _ (c .before .before .place-word .ensures) (c .before .place-word2 .ensures) (c .before .before .before .before .before .if1 .left)
+returns-3 c =
+    let here : tie.After-eight3 = search in let eight3 = here .eight3 in
+    let here : tie.Else1 = search in let if1 = here .if1 in
+    let here : tie.After-eight = search in let eight = here .eight in
+    c .good-side .ensures
+    ∙ open-row _ _ _ _ (eight3 .ensures .0) (c .before .before .before .if2 .left) (eight .ensures .0) _ _
+    (c .before .before .place-word .ensures) (c .before .place-word2 .ensures) (if1 .left)
 
 pub place-ok-spec : {M : Type 1} → statement M
-place-ok-spec = tie.close (tie.spec add-at mul-at add-at-2 mul-at-2 eight-requires add-eight eight-requires-2 returns add-eight-2 eight-requires-3 place-ok-requires returns-2 place-word-requires place-word-requires-2 good-side-requires returns-3)
+place-ok-spec =
+    tie.close
+    (tie.spec mul-at add-at mul-at-2 eight-requires add-eight eight-requires-2 returns add-eight-2
+    eight-requires-3 place-ok-requires returns-2 place-word-requires place-word-requires-2 good-side-requires
+    returns-3)

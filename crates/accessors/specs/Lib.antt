@@ -1,0 +1,4 @@
+pub mod Sides
+pub mod Outstanding
+pub mod Shown
+pub mod Accessors

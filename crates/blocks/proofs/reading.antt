@@ -1,5 +1,0 @@
-pub mod Laws
-pub mod Framed
-pub mod Round
-pub mod Walk
-pub mod Stores

@@ -1,0 +1,168 @@
+-- The queues and ports of memories that stand for a desk: their entries pass, and a place has as many as its request says.
+use Prim.Native.Nat.{ℕ, zero, suc, _+_, _*_, _≤_, _<_}
+use mathlib.Core.Path.{_≡_, refl, sym, ap, _∙_}
+use mathlib.Core.List.{List, [], _∷_, map}
+use mathlib.Core.Option.{Option, none, some}
+use native.Mathlib.Omega.{arith}
+use native.Mathlib.Decide.{ℕ-discrete}
+use lib.Dec.{eqb}
+use lib.ListN.{length, getD}
+use Rattle.occurrences.specs.Count.{bit, count}
+use Rattle.occurrences.proofs.Counts.{bit-eq, bit-ne}
+use Rattle.rules.specs.Limits.{files, places, bufferBytes}
+use Rattle.rules.specs.State.{Req, idle, reading, writing, readDone, writeDone, Acc, Built, File, built}
+use Rattle.rules.specs.Requests.{accAt}
+use Rattle.rules.specs.Memories.{lies, buffer}
+use Rattle.rules.specs.Allocation.{Alloc, placeOf, queueOf}
+use Rattle.segment.specs.Table.{dataOf}
+use Rattle.laws.specs.Outstanding.{reqAt, waitsRead, waitsWrite, uncollected, outstanding, reqOf}
+use Rattle.laws.specs.Outstanding as laws
+use Rattle.laws.specs.Runs.{OnFile}
+use Rattle.laws.specs.Bounds.{Bounded}
+use Rattle.laws.specs.Sides.{Sided}
+use Rattle.laws.specs.Entries.{accsOf}
+use Rattle.memory.specs.Image.{accOf, reqWords, fileWords, rqOf, wqOf, queueWords}
+use Rattle.memory.specs.Stands.{shareAt, buffersAt, bufferAt, FileBytes}
+use Rattle.memory.specs.Fine.{Fine}
+use Rattle.memory.proofs.Frames.{bufferAt-is}
+use Rattle.sound.specs.Walks.{placeIn}
+use Rattle.decision.specs.Survey.{Each, ReadEntry, WriteEntry, PortEntry, named}
+use Rattle.decision.proofs.desk.DeskRows.{Rowed}
+use Rattle.decision.proofs.desk.DeskFiles.{Filed}
+use Rattle.decision.proofs.desk.DeskEntries.{lies-short, buffer-size, read-entry, write-entry, read-done, write-done}
+
+-- a queue q whose entries g hold the words W
+module _ (s : List ℕ) (g : ℕ → ℕ) (W : ℕ → List ℕ) where
+  pub each-queue : (P : ℕ → Type 0) (q : List ℕ) → map (dataOf s) (map g q) ≡ map W q → ((p : ℕ) → 1 ≤ count p q → dataOf s (g p) ≡ W p → P (g p)) → Each P (map g q)
+  unfolding Each count
+  each-queue P [] e h = tt
+  each-queue P (p ∷ q) e h = (h p (omega (arith, bit-eq p p refl)) (cc), each-queue P q (cc) (λ x c. h x (omega arith)))
+
+  pub named-queue : (f x : ℕ) (q : List ℕ) → map (dataOf s) (map g q) ≡ map W q → ((p : ℕ) → 1 ≤ count p q → dataOf s (g p) ≡ W p → placeIn s (g p) ≡ places * f + p)
+      → named s (places * f + x) (map g q) ≡ count x q
+  unfolding named count
+  named-queue f x [] e h = refl
+  named-queue f x (p ∷ q) e h =
+      go (ℕ-discrete p x) (h p (omega (arith, bit-eq p p refl)) (cc)) (named-queue f x q (cc) (λ y c. h y (omega arith)))
+    where
+      go : Dec (p ≡ x) → placeIn s (g p) ≡ places * f + p → named s (places * f + x) (map g q) ≡ count x q → named s (places * f + x) (g p ∷ map g q) ≡ bit (eqb p x) + count x q
+      go (yes u) k r = omega (arith, r, bit-eq p x u, bit-eq (placeIn s (g p)) (places * f + x) (omega arith))
+      go (no u) k r = omega (arith, r, bit-ne p x u, bit-ne (placeIn s (g p)) (places * f + x) (λ v. u (omega arith)))
+
+-- an accessor with an outstanding request
+pub record Busy (l : List (Option Acc)) (p : ℕ) (q : Req) : Type 0 where
+  pub acc : Acc
+  pub is : getD l p none ≡ some acc
+  pub req : acc .req ≡ q
+  pub low : p < length l
+
+pub busy-at : (l : List (Option Acc)) (p : ℕ) (q : Req) → reqAt l p ≡ q → outstanding q ≡ 1 → Busy l p q
+unfolding laws.reqOf waitsRead waitsWrite uncollected
+busy-at [] p q e h = absurd (omega (arith, h, ap outstanding e))
+busy-at (none ∷ l) zero q e h = absurd (omega (arith, h, ap outstanding e))
+busy-at (some a ∷ l) zero q e h = record { acc = a; is = refl; req = e; low = omega arith }
+busy-at (o ∷ l) (suc p) q e h = let r : Busy l p q = busy-at l p q e h in record { acc = r .acc; is = r .is; req = r .req; low = omega (arith, r .low) }
+
+-- what memories that stand for a desk say of file f
+pub record Facts (s blocks bufs : List ℕ) (a : Alloc) (f : ℕ) (x : File) : Type 0 where
+  pub size : length bufs ≡ places * bufferBytes * files
+  pub file : f < files
+  pub fine : OnFile Fine x
+  pub eight : length (accsOf x) ≡ places
+  pub row : Filed s f x
+  pub rows : (p : ℕ) → p < places → Rowed s (places * f + p) (accOf x p)
+  pub bytes : FileBytes x (shareAt f blocks) (buffersAt f bufs)
+  pub reads : map (dataOf s) (queueOf (λ b. b .rq) f x a) ≡ queueWords f x (rqOf x)
+  pub writes : map (dataOf s) (queueOf (λ b. b .wq) f x a) ≡ queueWords f x (wqOf x)
+
+module _ (s blocks bufs : List ℕ) (a : Alloc) (f : ℕ) where
+  module _ (b : Built) (F : Facts s blocks bufs a f (built b)) where
+    fine : Fine b
+    fine = unfold OnFile in F .fine
+
+    pub body-at : (p : ℕ) → p < places → bufferAt (places * f + p) bufs ≡ buffer (getD (b .accs) p none)
+    unfolding FileBytes accsOf
+    body-at = bufferAt-is f bufs (b .accs) (F .eight) (λ p h. buffer-size (getD (b .accs) p none) (short p)) (F .bytes .1)
+      where
+        short : (p : ℕ) → length (lies (reqOf (getD (b .accs) p none))) ≤ bufferBytes
+        short p = lies-short (b .geo .words) (reqAt (b .accs) p) (fine .room .geo .words-high) (fine .bounds p)
+
+    -- the entry e of the request at p
+    module _ (p e : ℕ) (holds : dataOf s e ≡ reqWords (placeOf f p) (reqOf (accAt b p))) where
+      req-is : reqOf (accAt b p) ≡ reqAt (b .accs) p
+      unfolding accAt
+      req-is = refl
+
+      module _ (q : Req) (u : reqAt (b .accs) p ≡ q) (out : outstanding q ≡ 1) where
+        busy : Busy (b .accs) p q
+        busy = busy-at (b .accs) p q u out
+
+        low : p < places
+        low = unfold accsOf in omega (arith, busy .low, F .eight)
+
+        sided : Sided (busy .acc)
+        sided = fine .sides p (busy .acc) (unfold accAt in busy .is)
+
+        rowed : Rowed s (places * f + p) (some (busy .acc))
+        rowed = unfold accOf accAt in rw (busy .is) at (F .rows p low)
+
+        body : bufferAt (places * f + p) bufs ≡ buffer (some (busy .acc))
+        body = body-at p low ∙ ap buffer (busy .is)
+
+        words : dataOf s e ≡ reqWords (places * f + p) (busy .acc .req)
+        unfolding placeOf
+        words = holds ∙ ap (reqWords (places * f + p)) (req-is ∙ u ∙ sym (busy .req))
+
+        small : places * f + p < files * places
+        small = omega (arith, low, F .file)
+
+        bound : Bounded (b .geo .words) q
+        bound = rw u at (fine .bounds p)
+
+      pub read-of : 1 ≤ waitsRead (reqAt (b .accs) p) → ReadEntry s bufs f e × (placeIn s e ≡ places * f + p)
+      unfolding Bounded waitsRead waitsWrite uncollected fileWords
+      read-of h = go (reqAt (b .accs) p) refl h
+        where
+          go : (q : Req) → reqAt (b .accs) p ≡ q → 1 ≤ waitsRead q → ReadEntry s bufs f e × (placeIn s e ≡ places * f + p)
+          go (reading w l k) u h =
+              let o : outstanding (reading w l k) ≡ 1 = refl in
+              read-entry s bufs (F .size) (places * f + p) e (small (reading w l k) u o) (busy (reading w l k) u o .acc) (sided (reading w l k) u o) (rowed (reading w l k) u o)
+              (body (reading w l k) u o) (words (reading w l k) u o) f l w k (omega (arith, low (reading w l k) u o)) (busy (reading w l k) u o .req) (bound (reading w l k) u o)
+          go idle u h = absurd (omega arith)
+          go (writing w d) u h = absurd (omega arith)
+          go (readDone st g d) u h = absurd (omega arith)
+          go (writeDone st g) u h = absurd (omega arith)
+
+      pub write-of : 1 ≤ waitsWrite (reqAt (b .accs) p) → WriteEntry s bufs f e × (placeIn s e ≡ places * f + p)
+      unfolding Bounded waitsRead waitsWrite uncollected fileWords
+      write-of h = go (reqAt (b .accs) p) refl h
+        where
+          go : (q : Req) → reqAt (b .accs) p ≡ q → 1 ≤ waitsWrite q → WriteEntry s bufs f e × (placeIn s e ≡ places * f + p)
+          go (writing w d) u h =
+              let o : outstanding (writing w d) ≡ 1 = refl in
+              write-entry s bufs (F .size) (places * f + p) e (small (writing w d) u o) (busy (writing w d) u o .acc) (sided (writing w d) u o) (rowed (writing w d) u o)
+              (body (writing w d) u o) (words (writing w d) u o) f (b .geo .words) w d (omega (arith, low (writing w d) u o)) (busy (writing w d) u o .req)
+              (bound (writing w d) u o) (fine .room .geo .words-high) (F .row 0 (omega arith))
+          go idle u h = absurd (omega arith)
+          go (reading w l k) u h = absurd (omega arith)
+          go (readDone st g d) u h = absurd (omega arith)
+          go (writeDone st g) u h = absurd (omega arith)
+
+      pub done-of : 1 ≤ uncollected (reqAt (b .accs) p) → PortEntry s bufs (places * f + p) e
+      unfolding Bounded waitsRead waitsWrite uncollected fileWords
+      done-of h = go (reqAt (b .accs) p) refl h
+        where
+          go : (q : Req) → reqAt (b .accs) p ≡ q → 1 ≤ uncollected q → PortEntry s bufs (places * f + p) e
+          go (readDone st g d) u h =
+              let o : outstanding (readDone st g d) ≡ 1 = refl in
+              read-done s bufs (F .size) (places * f + p) e (small (readDone st g d) u o) (busy (readDone st g d) u o .acc) (sided (readDone st g d) u o)
+              (rowed (readDone st g d) u o) (body (readDone st g d) u o) (words (readDone st g d) u o) st g d (busy (readDone st g d) u o .req)
+              (bound (readDone st g d) u o .0) (bound (readDone st g d) u o .1)
+          go (writeDone st g) u h =
+              let o : outstanding (writeDone st g) ≡ 1 = refl in
+              write-done s bufs (F .size) (places * f + p) e (small (writeDone st g) u o) (busy (writeDone st g) u o .acc) (sided (writeDone st g) u o)
+              (rowed (writeDone st g) u o) (body (writeDone st g) u o) (words (writeDone st g) u o) st g (busy (writeDone st g) u o .req)
+              (bound (writeDone st g) u o)
+          go idle u h = absurd (omega arith)
+          go (reading w l k) u h = absurd (omega arith)
+          go (writing w d) u h = absurd (omega arith)

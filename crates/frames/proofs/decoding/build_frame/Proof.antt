@@ -1,0 +1,43 @@
+use borrow.Author.Tests.{eq-eqb, ne-eqb}
+use Rattle.rules.specs.Frames.{sized, frameOf}
+use borrow.Author.Needs.{needs}
+use Rattle.frames.proofs.decoding.build_frame.Statement.{statement}
+use Rattle.frames.proofs.decoding.build_frame.Tie as tie
+
+shared-slice-read-t6 : tie.Need-shared-slice-read-t6
+shared-slice-read-t6 c = search needs
+
+get-requires : tie.Need-get-requires
+get-requires c κs = search needs
+
+shared-slice-read-t9 : tie.Need-shared-slice-read-t9
+shared-slice-read-t9 c = search needs
+
+get-requires-2 : tie.Need-get-requires-2
+get-requires-2 c κs = search needs
+
+shared-slice-read-t12 : tie.Need-shared-slice-read-t12
+shared-slice-read-t12 c = search needs
+
+returns : tie.Need-returns
+unfolding frameOf sized
+returns c =
+    let here : tie.Then1 = search in let if1 = here .if1 in
+    let start : tie.Start = search in
+    rw (start .pre, eq-eqb _ 8 (if1 .taken), c .before .before .before .get .ensures, c .before .get2 .ensures)
+
+returns-2 : tie.Need-returns-2
+unfolding frameOf sized
+returns-2 c = rw (c .before .before .pre, ne-eqb _ 8 (c .if1 .left))
+
+pub build-frame-spec : {M : Type 1} → statement M
+build-frame-spec =
+    tie.close
+    (tie.spec
+    shared-slice-read-t6
+    get-requires
+    shared-slice-read-t9
+    get-requires-2
+    shared-slice-read-t12
+    returns
+    returns-2)

@@ -1,0 +1,43 @@
+use borrow.Author.Tests.{eq-eqb, ne-eqb}
+use Rattle.rules.specs.Frames.{sized, frameOf}
+use borrow.Author.Needs.{needs}
+use Rattle.frames.proofs.decoding.control_frame.Statement.{statement}
+use Rattle.frames.proofs.decoding.control_frame.Tie as tie
+
+shared-slice-read-control-code : tie.Need-shared-slice-read-control-code
+shared-slice-read-control-code c = search needs
+
+shared-slice-read-control-code-2 : tie.Need-shared-slice-read-control-code-2
+shared-slice-read-control-code-2 c = search needs
+
+shared-slice-read-control-code-3 : tie.Need-shared-slice-read-control-code-3
+shared-slice-read-control-code-3 c = search needs
+
+get-requires : tie.Need-get-requires
+get-requires c κs = search needs
+
+control-code-requires : tie.Need-control-code-requires
+control-code-requires c κs = search needs
+
+returns : tie.Need-returns
+unfolding frameOf sized
+returns c =
+    let here : tie.Then1 = search in let if1 = here .if1 in
+    let start : tie.Start = search in
+    rw (start .pre, eq-eqb _ 6 (if1 .taken), ← (c .before .get .ensures)) (c .control-code .ensures)
+
+returns-2 : tie.Need-returns-2
+unfolding frameOf sized
+returns-2 c = rw (c .before .before .pre, ne-eqb _ 6 (c .if1 .left))
+
+pub control-frame-spec : {M : Type 1} → statement M
+control-frame-spec =
+    tie.close
+    (tie.spec
+    shared-slice-read-control-code
+    shared-slice-read-control-code-2
+    shared-slice-read-control-code-3
+    get-requires
+    control-code-requires
+    returns
+    returns-2)

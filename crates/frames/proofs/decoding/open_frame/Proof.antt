@@ -1,0 +1,39 @@
+use borrow.Author.Tests.{eq-eqb, ne-eqb}
+use Rattle.rules.specs.Frames.{sized, frameOf}
+use borrow.Author.Needs.{needs}
+use Rattle.frames.proofs.decoding.open_frame.Statement.{statement}
+use Rattle.frames.proofs.decoding.open_frame.Tie as tie
+
+shared-slice-read-t6 : tie.Need-shared-slice-read-t6
+shared-slice-read-t6 c = search needs
+
+shared-slice-read-t8 : tie.Need-shared-slice-read-t8
+shared-slice-read-t8 c = search needs
+
+shared-slice-read-t10 : tie.Need-shared-slice-read-t10
+shared-slice-read-t10 c = search needs
+
+shared-slice-read-t12 : tie.Need-shared-slice-read-t12
+shared-slice-read-t12 c = search needs
+
+returns : tie.Need-returns
+unfolding frameOf sized
+returns c =
+    let here : tie.Then1 = search in let if1 = here .if1 in
+    let start : tie.Start = search in
+    rw (start .pre, eq-eqb _ 5 (if1 .taken))
+
+returns-2 : tie.Need-returns-2
+unfolding frameOf sized
+returns-2 c = rw (c .before .pre, ne-eqb _ 5 (c .if1 .left))
+
+pub open-frame-spec : {M : Type 1} → statement M
+open-frame-spec =
+    tie.close
+    (tie.spec
+    shared-slice-read-t6
+    shared-slice-read-t8
+    shared-slice-read-t10
+    shared-slice-read-t12
+    returns
+    returns-2)

@@ -1,0 +1,19 @@
+use borrow.Author.Tests.{eq-eqb, ne-eqb}
+use Rattle.rules.specs.Frames.{sized, frameOf}
+use borrow.Author.Needs.{needs}
+use Rattle.frames.proofs.decoding.time_frame.Statement.{statement}
+use Rattle.frames.proofs.decoding.time_frame.Tie as tie
+
+get-requires : tie.Need-get-requires
+get-requires c κs = search needs
+
+returns : tie.Need-returns
+unfolding frameOf sized
+returns c = rw (c .before .before .before .pre, eq-eqb _ 3 (c .before .if1 .taken), c .get .ensures)
+
+returns-2 : tie.Need-returns-2
+unfolding frameOf sized
+returns-2 c = rw (c .before .before .pre, ne-eqb _ 3 (c .if1 .left))
+
+pub time-frame-spec : {M : Type 1} → statement M
+time-frame-spec = tie.close (tie.spec get-requires returns returns-2)

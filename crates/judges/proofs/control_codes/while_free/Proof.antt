@@ -1,0 +1,19 @@
+-- `control_codes::while_free` meets its contract: an answer to each need, in the order of the code.
+use Rattle.judges.specs.Verdicts.{whileFree}
+use borrow.Author.Needs.{needs}
+use Rattle.judges.proofs.control_codes.while_free.Statement.{statement}
+use Rattle.judges.proofs.control_codes.while_free.Tie as tie
+
+is-free-requires : tie.Need-is-free-requires
+is-free-requires c κs = search needs
+
+returns : tie.Need-returns
+unfolding whileFree
+returns c = rw (← c .before .is-free .ensures, c .if1 .taken)
+
+returns-2 : tie.Need-returns-2
+unfolding whileFree
+returns-2 c = rw (← c .before .is-free .ensures, c .if1 .left)
+
+pub while-free-spec : {M : Type 1} → statement M
+while-free-spec = tie.close (tie.spec is-free-requires returns returns-2)

@@ -1,0 +1,111 @@
+// Build, open and counts.
+use crate::sharing::forbids;
+use crate::sharing::has_room;
+use accessors::sides::count_side;
+use accessors::words_of;
+use kinds::limits::FILES;
+use kinds::refusals;
+use kinds::sides::CLOSED;
+ghost use mathlib.Core.Path.{_≡_};
+ghost use Prim.Native.Nat.{_<_};
+ghost use lib.ListN.{length};
+ghost use Rattle.rules.specs.Limits.{files};
+ghost use Rattle.rules.specs.State.{Built};
+ghost use Rattle.rules.specs.Calls as calls;
+ghost use Rattle.rules.specs.Desk.{on};
+ghost use Rattle.segment.specs.Layout.{segmentBytes};
+ghost use Rattle.accessors.specs.Shown.{Shown};
+ghost use Rattle.judges.specs.Verdicts.{buildRefusal, modesInRange, openRefusal};
+ghost use Rattle.judges.specs.Refused.{Stood, Refuses};
+
+// "access, share and multiaccess: 0 to 3"
+const MOST_MODE: u8 = 3;
+
+fn build_refusal(words: u16, factor: u8, records: u16, extents: u8) -> u8
+    ensures { λ r. ⌜ r ≡ buildRefusal words factor records extents ⌝ }
+{
+    if !geometry::in_range(words, factor, records, extents) {
+        return refusals::RANGE;
+    }
+    let blocks = geometry::data_blocks(records, factor, extents);
+    if !geometry::fits_share(words, factor, blocks) {
+        return refusals::SIZE;
+    }
+    refusals::NONE
+}
+
+pub fn judge_build(
+    segment: &[u8],
+    file: u8,
+    words: u16,
+    factor: u8,
+    records: u16,
+    extents: u8,
+) -> u8
+    requires { ⌜ Stood (now segment) ⌝ }
+    ensures { λ r. ⌜ Refuses (now (segment .entry)) (on file (calls.build words factor records extents)) r ⌝ }
+{
+    if FILES <= file as usize {
+        return refusals::FILE;
+    }
+    if words_of(segment, file as usize) != 0 {
+        return refusals::FILE;
+    }
+    build_refusal(words, factor, records, extents)
+}
+
+fn modes_in_range(access: u8, share: u8, multi: u8) -> bool
+    ensures { λ r. ⌜ r ≡ modesInRange access share multi ⌝ }
+{
+    if MOST_MODE < access {
+        return false;
+    }
+    if MOST_MODE < share {
+        return false;
+    }
+    multi <= MOST_MODE
+}
+
+// Of a built file f.
+fn open_refusal(segment: &[u8], f: usize, access: u8, share: u8, multi: u8) -> u8
+    requires { ⌜ length (now segment) ≡ segmentBytes ⌝ }
+    requires { ⌜ f < files ⌝ }
+    ensures { λ r. ⌜ ((b : Built) → Shown (now (segment .entry)) f b → r ≡ openRefusal access share multi b) ⌝ }
+{
+    if !modes_in_range(access, share, multi) {
+        return refusals::RANGE;
+    }
+    if forbids(segment, f, access, share, multi) {
+        return refusals::SHARING;
+    }
+    if count_side(segment, f, CLOSED) == 0 {
+        return refusals::FULL;
+    }
+    if access == 0 {
+        return refusals::NONE;
+    }
+    if !has_room(segment, f, access) {
+        return refusals::ROOM;
+    }
+    refusals::NONE
+}
+
+pub fn judge_open(segment: &[u8], file: u8, access: u8, share: u8, multi: u8) -> u8
+    requires { ⌜ Stood (now segment) ⌝ }
+    ensures { λ r. ⌜ Refuses (now (segment .entry)) (on file (calls.opens access share multi)) r ⌝ }
+{
+    if words_of(segment, file as usize) == 0 {
+        return refusals::FILE;
+    }
+    open_refusal(segment, file as usize, access, share, multi)
+}
+
+pub fn judge_counts(segment: &[u8], file: u8) -> u8
+    requires { ⌜ Stood (now segment) ⌝ }
+    ensures { λ r. ⌜ Refuses (now (segment .entry)) (on file calls.counts) r ⌝ }
+{
+    if words_of(segment, file as usize) == 0 {
+        return refusals::FILE;
+    }
+    refusals::NONE
+}

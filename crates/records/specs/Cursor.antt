@@ -1,0 +1,24 @@
+-- A walk over the records that a ring holds.
+use Prim.Native.Nat.{ℕ}
+use mathlib.Core.Path.{_≡_}
+use mathlib.Core.List.{List}
+use Rattle.rules.specs.State.{Rec}
+use Rattle.shares.specs.Back.{readBack}
+use Rattle.shares.specs.Places.{placeIn}
+use Rattle.ring.specs.declared.Ring.{Ring}
+use Rattle.ring.specs.Ring.{geo}
+use Rattle.ring.specs.Held.{Held}
+use Rattle.records.specs.declared.cursor.Cursor.{Cursor}
+
+-- where the oldest record stands
+abbrev pub headPlace : ℕ → Ring → List ℕ → ℕ
+headPlace words r xs = placeIn (geo words r) xs (r .block) (r .spent)
+
+-- the records held, oldest first
+abbrev pub heldRecs : ℕ → Ring → List ℕ → List Rec
+heldRecs words r xs = readBack (geo words r) xs (r .block) (r .spent) (r .held)
+
+-- the cursor stands at the oldest of its ring's records, which the share holds
+pub record Stands (words : ℕ) (xs : List ℕ) (c : Cursor) : Type 0 where
+  pub held : Held words (c .ring) xs
+  pub at : c .at ≡ headPlace words (c .ring) xs

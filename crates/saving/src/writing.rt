@@ -1,0 +1,79 @@
+// A file's sheet: how long it is, and its lines written into the output.
+use records::cursor::first;
+use ring::Ring;
+ghost use mathlib.Core.Path.{_≡_};
+ghost use Prim.Native.Nat.{_+_, _≤_};
+ghost use lib.ListN.{length};
+ghost use lib.Seq.{sets};
+ghost use Rattle.rules.specs.Sheet.{headFrame, recLines};
+ghost use Rattle.ring.specs.Ring.{geo, Fitted};
+ghost use Rattle.ring.specs.Held.{Held};
+ghost use Rattle.records.specs.Cursor.{heldRecs};
+ghost use Rattle.saving.specs.Sheets.{sheetOf};
+
+// What the first frame begins with, and where R, D and the records held stand in it.
+const SHEET: u8 = 1;
+
+const WORDS: usize = 1;
+
+const BLOCKS: usize = 4;
+
+const HELD: usize = 6;
+
+// The first line: the bytes of its frame, two digits each, and LF.
+const HEAD_BYTES: usize = 8;
+
+const HEAD_LINE: usize = 2 * HEAD_BYTES + 1;
+
+// The length of the sheet.
+pub fn sheet_length(share: &[u8], ring: Ring, words: u16) -> usize
+    requires { ⌜ Held words ring (now share) ⌝ }
+    ensures { λ r. ⌜ r ≡ length (sheetOf words ring (now (share .entry))) ⌝ }
+{
+    let mut cursor = first(share, ring, words);
+    let mut total = HEAD_LINE;
+    while cursor.ring.held > 0 {
+        let frame = records::reading::frame(share, cursor.at);
+        total += 2 * frame.len() + 1;
+        cursor = cursor.next(share, words);
+    }
+    total
+}
+
+// "First frame: 01, R(2), B, D(2), records held(2)".
+fn head_frame(ring: Ring, words: u16) -> [u8; HEAD_BYTES]
+    requires { ⌜ Fitted words ring ⌝ }
+    ensures { λ r. ⌜ r ≡ headFrame (geo words ring) (ring .held) ⌝ }
+{
+    let mut frame = [SHEET, 0, 0, ring.factor as u8, 0, 0, 0, 0];
+    words::put(&mut frame, WORDS, words);
+    words::put(&mut frame, BLOCKS, ring.blocks);
+    words::put(&mut frame, HELD, ring.held);
+    frame
+}
+
+// "Then one frame a record, oldest first", from a place of the output on.
+fn write_records(share: &[u8], ring: Ring, words: u16, output: &mut [u8], from: usize)
+    requires { ⌜ Held words ring (now share) ⌝ }
+    requires { ⌜ from + length (recLines (heldRecs words ring (now share))) ≤ length (now output) ⌝ }
+    ensures { λ _. ⌜ now (output .exit) ≡ sets (now (output .entry)) from (recLines (heldRecs words ring (now (share .entry)))) ⌝ }
+{
+    let mut cursor = first(share, ring, words);
+    let mut used = from;
+    while cursor.ring.held > 0 {
+        let frame = records::reading::frame(share, cursor.at);
+        used = hex::line(frame, output, used);
+        cursor = cursor.next(share, words);
+    }
+}
+
+// The sheet stands from the first byte of the output on.
+pub fn write_sheet(share: &[u8], ring: Ring, words: u16, output: &mut [u8])
+    requires { ⌜ Held words ring (now share) ⌝ }
+    requires { ⌜ length (sheetOf words ring (now share)) ≤ length (now output) ⌝ }
+    ensures { λ _. ⌜ now (output .exit) ≡ sets (now (output .entry)) 0 (sheetOf words ring (now (share .entry))) ⌝ }
+{
+    let head = head_frame(ring, words);
+    let used = hex::line(&head, output, 0);
+    write_records(share, ring, words, output, used);
+}
