@@ -1,7 +1,7 @@
 // Whether a share holds a file's records: one walk over the blocks that hold any. Nothing is changed.
 use crate::quick::whole;
 use kinds::limits::MOST_TYPE;
-use kinds::records::DATA;
+use kinds::record_types::DATA;
 use records::reading::next;
 use ring::Ring;
 use ring::layout::BLOCK_HEAD;

@@ -1,6 +1,6 @@
 // The quick way over records of the full size, of which a file in steady use has most. Where such a record ends follows from the geometry, so the next one is
 // read before this one's head has come, where `next` waits for it. `whole-fair` (proofs/quick/Laws.antt): the plain test takes the record, and goes on there.
-use kinds::records::DATA;
+use kinds::record_types::DATA;
 use ring::layout::FOLLOW;
 use ring::layout::ID;
 use ring::layout::RECORD_HEAD;

@@ -26,12 +26,12 @@ ghost use Rattle.midst.proofs.Walks.{Owed};
 
 mod readers;
 
-use blocks::memory::put_at;
+use blocks::by_file::put_at;
 use controls::waiting::remove;
 use controls::waiting::waits;
 use kinds::Answer;
 use kinds::limits::PLACES;
-use kinds::records::CLOSE;
+use kinds::record_types::CLOSE;
 use kinds::sides::WRITER;
 use midst::File;
 use midst::take_file;

@@ -15,7 +15,7 @@ ghost use Rattle.records.specs.Cursor.{heldRecs};
 ghost use Rattle.midst.specs.FileStands.{FileStands};
 use accessors::sides::count_side;
 use kinds::Answer;
-use kinds::records::DATA;
+use kinds::record_types::DATA;
 use kinds::sides::READER;
 use kinds::sides::WRITER;
 use records::cursor::first;
@@ -53,7 +53,7 @@ pub fn counts(segment: &[u8], blocks: &[u8], f: usize) -> Answer
 {
     let file = midst::take_file(segment, f);
     let ring = file.ring;
-    let share = blocks::memory::share(blocks, f);
+    let share = blocks::by_file::share(blocks, f);
     let records = data_records(share, ring, file.words);
     let writers = count_side(segment, f, WRITER);
     let readers = count_side(segment, f, READER);

@@ -2,7 +2,7 @@
 // The rules have the limits in Limits; their numbers for the cases stand in Frames, Answers and Calls.
 pub mod limits;
 pub mod operations;
-pub mod records;
+pub mod record_types;
 pub mod refusals;
 pub mod sides;
 pub mod statuses;

@@ -1,6 +1,6 @@
 // "Load packs the records from the share's first block, with no accessor."
-use blocks::memory::clear;
-use blocks::memory::put_at;
+use blocks::by_file::clear;
+use blocks::by_file::put_at;
 use midst::File;
 use reader::Head;
 use reader::ID;

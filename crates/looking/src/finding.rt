@@ -27,7 +27,7 @@ fn of_file(segment: &[u8], blocks: &[u8], f: usize) -> Shown
     ensures { λ r. ⌜ Finds (OfFile f) (now (segment .entry)) (now (blocks .entry)) r ⌝ }
 {
     let file = midst::take_file(segment, f);
-    let share = blocks::memory::share(blocks, f);
+    let share = blocks::by_file::share(blocks, f);
     let found = records::fetch::oldest(share, file.ring, file.words);
     match found {
         Found::At(at) => {

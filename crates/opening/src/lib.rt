@@ -10,7 +10,7 @@ mod entering;
 mod finding;
 
 use accessors::share_of;
-use blocks::memory::clear;
+use blocks::by_file::clear;
 use entering::open_reader;
 use entering::open_writer;
 use geometry::capacity;

@@ -5,7 +5,7 @@ use geometry::in_range;
 use kinds::limits::LEAST_CAPACITY;
 use kinds::limits::MOST_TYPE;
 use kinds::limits::SHEET_LINE_BYTES;
-use kinds::records::DATA;
+use kinds::record_types::DATA;
 ghost use mathlib.Core.Path.{_≡_};
 ghost use Prim.Native.Nat.{_≤_};
 ghost use lib.ListN.{length};

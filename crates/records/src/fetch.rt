@@ -15,7 +15,7 @@ use crate::cursor::Cursor;
 use crate::cursor::first;
 use crate::reading::Found;
 use kinds::limits::HEADER_WORDS;
-use kinds::records::DATA;
+use kinds::record_types::DATA;
 use ring::Ring;
 use ring::layout::TYPE;
 

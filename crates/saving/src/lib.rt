@@ -37,7 +37,7 @@ fn save_file(segment: &[u8], blocks: &[u8], file: usize, output: &mut [u8]) -> S
     ensures fits { λ r. ⌜ r .length ≤ length (now (output .entry)) ⌝ }
 {
     let taken = midst::take_file(segment, file);
-    let share = blocks::memory::share(blocks, file);
+    let share = blocks::by_file::share(blocks, file);
     let length = sheet_length(share, taken.ring, taken.words);
     if output.len() < length {
         return refused(refusals::SHORT);

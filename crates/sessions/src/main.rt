@@ -1,10 +1,10 @@
 // Sessions with the answers that document 01 has for them, played on the desk. A line is printed for each: its name and `ok`, or what differs.
 mod building;
 mod calls;
-mod closing;
-mod controls;
+mod close_calls;
+mod control_calls;
 mod further;
-mod opening;
+mod open_calls;
 mod playing;
 mod reading;
 mod room;
@@ -20,12 +20,12 @@ fn main() {
     play(&worked::TABLE);
     play(&building::TABLE);
     play(&shapes::TABLE);
-    play(&opening::TABLE);
+    play(&open_calls::TABLE);
     play(&room::TABLE);
     play(&waiting::TABLE);
     play(&reading::TABLE);
-    play(&controls::TABLE);
-    play(&closing::TABLE);
+    play(&control_calls::TABLE);
+    play(&close_calls::TABLE);
     play(&timing::TABLE);
     play(&sheets::TABLE);
     play(&further::TABLE);

@@ -17,7 +17,7 @@ ghost use Rattle.memory.specs.Fine.{Fine};
 ghost use Rattle.midst.specs.Mid.{Start, Mid};
 ghost use Rattle.settling.specs.Turns.{Amid, Served, readWords, takenRing};
 use crate::Turn;
-use blocks::memory::share;
+use blocks::by_file::share;
 use midst::File;
 use records::fetch::found;
 use records::fetch::handed;

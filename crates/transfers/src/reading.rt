@@ -20,7 +20,7 @@ use crate::Given;
 use crate::waiting::begin;
 use crate::waiting::may_wait;
 use crate::waiting::wait_read;
-use blocks::memory::share;
+use blocks::by_file::share;
 use kinds::Answer;
 use kinds::limits::ANSWER_HEAD;
 use kinds::limits::PLACES;

@@ -1,7 +1,7 @@
 use Rattle.words.proofs.Parts.{span}
 use borrow.Author.Needs.{needs}
-use Rattle.blocks.proofs.memory.share.Statement.{statement}
-use Rattle.blocks.proofs.memory.share.Tie as tie
+use Rattle.blocks.proofs.by_file.share.Statement.{statement}
+use Rattle.blocks.proofs.by_file.share.Tie as tie
 
 mul-a : tie.Need-mul-a
 mul-a c = search needs

@@ -1,9 +1,9 @@
 use mathlib.Core.Path.{_∙_}
 use Rattle.words.proofs.Parts.{span, length-part, part-lent}
-use Rattle.blocks.proofs.memory.Laws.{length-inscribed}
+use Rattle.blocks.proofs.by_file.Laws.{length-inscribed}
 use borrow.Author.Needs.{needs}
-use Rattle.blocks.proofs.memory.put_at.Statement.{statement}
-use Rattle.blocks.proofs.memory.put_at.Tie as tie
+use Rattle.blocks.proofs.by_file.put_at.Statement.{statement}
+use Rattle.blocks.proofs.by_file.put_at.Tie as tie
 
 mul-a : tie.Need-mul-a
 mul-a c = search needs

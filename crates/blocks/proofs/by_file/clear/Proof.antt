@@ -1,6 +1,6 @@
 use borrow.Author.Needs.{needs}
-use Rattle.blocks.proofs.memory.clear.Statement.{statement}
-use Rattle.blocks.proofs.memory.clear.Tie as tie
+use Rattle.blocks.proofs.by_file.clear.Statement.{statement}
+use Rattle.blocks.proofs.by_file.clear.Tie as tie
 
 mul-zero : tie.Need-mul-zero
 mul-zero c = search needs
