@@ -36,6 +36,14 @@ twice : (op n : ℕ) (r : Reply) (memory memory′ : List ℕ) (k : ℕ) → r �
 unfolding answerBytes
 twice op n r memory memory′ k e T = subst (λ (z : Reply). Told z memory memory′ k) (sym e) (tells-none (Status op n) memory memory′ k (T .bytes) (T .size))
 
+-- a frame whose tag is not that of a code is answered with 30
+pub no-code : (xs : List ℕ) (y : Frame) (memory memory′ : List ℕ) (k : ℕ) → OneOf (0 ∷ 2 ∷ []) (tagOf D.the-type y) → Twice 0 30 memory memory′ k → Refusal xs y memory memory′ k
+unfolding Refusal
+no-code xs (frame.Event e) memory memory′ k u T = T
+no-code xs (frame.Code f p) memory memory′ k (inl u) T = absurd (omega arith)
+no-code xs (frame.Code f p) memory memory′ k (inr u) T = absurd (omega arith)
+no-code xs frame.Shape memory memory′ k u T = T
+
 module _ {xs blocks buffers : List ℕ} {d : Desk} {s : Alloc} (S : StandsFor xs blocks buffers d s) (fr memory memory′ : List ℕ) (k : ℕ) where
   -- a call of a file
   on-refused : (f : ℕ) (q : Ask) (op n : ℕ) → asked (event fr) ≡ on f q → ((m : ℕ) → refusal q m ≡ answers (Status op m) []) → n ≡ refusalOf (answered d (on f q) .reply) → (n ≡ 0 → ⊥)

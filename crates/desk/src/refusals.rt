@@ -30,13 +30,8 @@ pub fn refuse(segment: &[u8], said: Frame, answer: &mut [u8]) -> usize
     requires { ⌜ Stood (now segment) × (10 ≤ length (now answer)) ⌝ }
     ensures { λ r. ⌜ Refusal (now (segment .entry)) said (now (answer .entry)) (now (answer .exit)) r ⌝ }
 {
-    match said {
-        Frame::Event(_) => status(NO_EVENT, refusals::SHAPE, answer),
-        Frame::Code { file, acc } => status(
-            operations::CONTROL,
-            judge_code(segment, file, acc),
-            answer,
-        ),
-        Frame::Shape => status(NO_EVENT, refusals::SHAPE, answer),
-    }
+    let Frame::Code { file, acc } = said else {
+        return status(NO_EVENT, refusals::SHAPE, answer);
+    };
+    status(operations::CONTROL, judge_code(segment, file, acc), answer)
 }
