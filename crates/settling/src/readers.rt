@@ -10,8 +10,6 @@ ghost use Rattle.rules.specs.State.{Built};
 ghost use Rattle.rules.specs.Settle.{handed, serveReader, atHead};
 ghost use Rattle.requests.specs.Moves.{completed};
 ghost use Rattle.ring.specs.Ring.{Ranged};
-ghost use Rattle.requests.specs.Moves.{completed};
-ghost use Rattle.ring.specs.Ring.{Ranged};
 ghost use Rattle.buffers.specs.Buffer.{buffersBytes, filled};
 ghost use Rattle.memory.specs.Fine.{Fine};
 ghost use Rattle.midst.specs.Mid.{Start, Mid};

@@ -5,9 +5,6 @@ use Rattle.settling.proofs.FirstReader.{reader-of, reader-under}
 use Rattle.segment.specs.Layout.{readQueue}
 use Rattle.segment.specs.Table.{nth}
 use Rattle.rules.specs.Limits.{entries}
-use Rattle.settling.proofs.Laws.{positive, held-share}
-use Rattle.settling.proofs.ReadTurns.{turn-nobody, turn-nothing, handed-short, served}
-use Rattle.settling.proofs.FirstReader.{reader-of, reader-under}
 use Rattle.midst.proofs.Stores.{mid-held}
 use Rattle.midst.proofs.Begins.{mid-lengths}
 use Rattle.records.proofs.cursor.Laws.{stands-ranged, stands-readable}
