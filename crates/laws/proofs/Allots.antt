@@ -10,7 +10,7 @@ use borrow.Author.Tests.{lt-ltb}
 use Rattle.rules.specs.Limits.{files, places, entries}
 use Rattle.rules.specs.State.{Timer}
 use Rattle.rules.specs.Requests.{withoutTimer}
-use Rattle.rules.specs.Allocation.{Held, nothing, own, timed, Alloc, heldAt, front, holds, withClock, takeOwn, takeTimer, freeTimer, freeOwn, endsAt, goesAt}
+use Rattle.rules.specs.Allocation.{Held, nothing, own, timed, Alloc, heldAt, noEntry, front, holds, withClock, takeOwn, takeTimer, freeTimer, freeOwn, endsAt, goesAt}
 use Rattle.occurrences.specs.Count.{bit, count}
 use Rattle.laws.specs.Counts.{countT}
 use Rattle.laws.specs.Entries.{entriesOf, taken, size, Whole}
@@ -56,7 +56,7 @@ module _ (i : ℕ) (s : Alloc) (w : Whole s) (k : i < files * places) where
 
   pub steps-takeOwn : heldAt s i ≡ nothing → 1 ≤ length (s .free) → Steps i s (takeOwn i s)
   unfolding takeOwn front entriesOf count
-  steps-takeOwn e n = steps-holds i _ _ s w k (λ x. rw e (omega (arith, count-front x (s .free) n)))
+  steps-takeOwn e n = steps-holds i _ _ s w k (λ x. rw e (omega (arith, count-front x (s .free) noEntry n)))
 
   pub heldAt-takeOwn : heldAt (takeOwn i s) i ≡ own (front s)
   unfolding takeOwn
@@ -66,7 +66,7 @@ module _ (i : ℕ) (s : Alloc) (w : Whole s) (k : i < files * places) where
 
   pub steps-takeTimer : (e : ℕ) → heldAt s i ≡ own e → 1 ≤ length (s .free) → Steps i s (takeTimer i (heldAt s i) s)
   unfolding takeTimer front entriesOf count
-  steps-takeTimer e h n = rw h (steps-holds i _ _ s w k (λ x. rw h (omega (arith, count-front x (s .free) n))))
+  steps-takeTimer e h n = rw h (steps-holds i _ _ s w k (λ x. rw h (omega (arith, count-front x (s .free) noEntry n))))
 
   pub heldAt-takeTimer : (e : ℕ) → heldAt s i ≡ own e → heldAt (takeTimer i (heldAt s i) s) i ≡ timed e (front s)
   unfolding takeTimer

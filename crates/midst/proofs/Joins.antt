@@ -24,7 +24,7 @@ use Rattle.rules.specs.Limits.{entries}
 use Rattle.rules.specs.State.{Req, idle, reading, writing, readDone, writeDone, Timer, Built, built}
 use Rattle.rules.specs.Requests.{accAt, armIn}
 use Rattle.rules.specs.Desk.{Desk}
-use Rattle.rules.specs.Allocation.{own, timed, Alloc, placeOf, heldAt, front, holds, withClock, takeOwn, takeTimer, ownEntry, timerEntry}
+use Rattle.rules.specs.Allocation.{own, timed, Alloc, placeOf, heldAt, noEntry, front, holds, withClock, takeOwn, takeTimer, ownEntry, timerEntry}
 use Rattle.rules.specs.Allocation as rules
 use Rattle.laws.specs.Counts.{countT}
 use Rattle.laws.specs.Outstanding.{uncollected, reqOf}
@@ -37,9 +37,9 @@ use Rattle.midst.proofs.Lists.{At, Change, at-set, seg-again, entriesIn
 
 -- an entry is taken
 
-front-first : (l : List ℕ) → 1 ≤ length l → l ≡ getD l 0 0 ∷ drop 1 l
-front-first [] h = absurd (omega arith)
-front-first (e ∷ l) h = refl
+front-first : (l : List ℕ) (z : ℕ) → 1 ≤ length l → l ≡ getD l 0 z ∷ drop 1 l
+front-first [] z h = absurd (omega arith)
+front-first (e ∷ l) z h = refl
 
 -- the lists, and their contents, without the first free entry
 
@@ -53,7 +53,7 @@ boxes-left d t = set (boxesOf d t) freeList (drop 1 (getD (boxesOf d t) freeList
 module _ {xs : List ℕ} {d : Desk} {t : Alloc} {k : ℕ} (S : Seg xs d t k) (room : 1 ≤ length (t .free)) (m : List ℕ) (n : length m ≡ dataWords) where
   free-is : getD (listsOf d t) freeList [] ≡ front t ∷ drop 1 (t .free)
   unfolding front
-  free-is = getD-listsOf d t freeList (omega arith) ∙ listOf-free d t ∙ front-first (t .free) room
+  free-is = getD-listsOf d t freeList (omega arith) ∙ listOf-free d t ∙ front-first (t .free) noEntry room
 
   pub seg-taken : (nth xs freeList ≡ front t) × (front t < entries) × Boxes (taken xs m) (front t ∷ []) (m ∷ []) (lists-left d t) (boxes-left d t) (S .rows)
   seg-taken = taken-boxes (S .boxes) (front t) (drop 1 (t .free)) m free-is n

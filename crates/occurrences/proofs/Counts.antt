@@ -49,10 +49,10 @@ unfolding count
 count-snoc-other x y l d = omega (arith, count-append x l (y ∷ []), bit-ne y x d)
 
 -- the front of a list and what is behind it
-pub count-front : (x : ℕ) (l : List ℕ) → 1 ≤ length l → count x (drop 1 l) + count x (getD l 0 0 ∷ []) ≡ count x l
+pub count-front : (x : ℕ) (l : List ℕ) (z : ℕ) → 1 ≤ length l → count x (drop 1 l) + count x (getD l 0 z ∷ []) ≡ count x l
 unfolding count
-count-front x [] h = absurd (omega arith)
-count-front x (y ∷ l) h = omega arith
+count-front x [] z h = absurd (omega arith)
+count-front x (y ∷ l) z h = omega arith
 
 -- an element of a list stands in it
 pub count-at : (l : List ℕ) (i : ℕ) → i < length l → 1 ≤ count (getD l i 0) l

@@ -41,9 +41,13 @@ freshAlloc = record { free = upFrom 0 entries; held = replicate (files * places)
 unfoldable pub heldAt : Alloc → ℕ → Held
 heldAt s i = getD (s .held) i nothing
 
--- the entry that is taken next; where none is left 0, which no run comes to (law `fed`)
+-- what is given where there is no entry: a number that none has
+abbrev pub noEntry : ℕ
+noEntry = entries
+
+-- the entry that is taken next; that none is left no run comes to (law `fed`)
 unfoldable pub front : Alloc → ℕ
-front s = getD (s .free) 0 0
+front s = getD (s .free) 0 noEntry
 
 unfoldable pub holds : ℕ → Held → List ℕ → Alloc → Alloc
 holds i h free s = record { free = free; held = set (s .held) i h; clock = s .clock }
@@ -116,15 +120,15 @@ allocAfter d (c ∷ cs) s = allocAfter (respond d c .desk) cs (allocAsked d (ask
 
 -- the lists
 
--- the entry that is held for the request, and for its timer; 0 where there is none, which no list of a run asks for (law `held`)
+-- the entry that is held for the request, and for its timer; where there is none no list of a run asks for it (law `held`)
 unfoldable pub ownEntry : Held → ℕ
-ownEntry nothing = 0
+ownEntry nothing = noEntry
 ownEntry (own e) = e
 ownEntry (timed e t) = e
 
 unfoldable pub timerEntry : Held → ℕ
-timerEntry nothing = 0
-timerEntry (own e) = 0
+timerEntry nothing = noEntry
+timerEntry (own e) = noEntry
 timerEntry (timed e t) = t
 
 -- "one file's read queue, one file's write queue": the entries of the waiting requests in their order
