@@ -43,7 +43,7 @@ use Rattle.closing.proofs.Walks.{Next, once}
 
 -- while a close record is owed, as much is known of a file as the changes of requests ask
 pub owed-knows : (n : ℕ) → Knows (Owed n)
-owed-knows n = record { agree = λ b h. h .1; bounds = λ b h. h .0 .0 .0; words = λ b h. h .0 .0 .1 .geo .words-high }
+owed-knows n = record { agree = λ b h. h .1 .0; bounds = λ b h. h .0 .0 .0; words = λ b h. h .0 .0 .1 .geo .words-high }
 
 bit-one : (t : Bool) → bit t ≡ 1 → t ≡ true
 bit-one true e = refl

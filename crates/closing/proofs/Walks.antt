@@ -121,7 +121,7 @@ module _ {n f : ℕ} {o : Start} {xs blocks buffers : List ℕ} {x : hand.File} 
     unfolding count
     counted =
         ap (λ (m : ℕ). count p (W .kept) + (m + count p l)) (sym (bit-eq p p refl)) ∙ sym (count-append p (W .kept) (p ∷ l))
-        ∙ ap (λ (q : List ℕ). count p (W .kept ++ q)) (sym e) ∙ ap (count p) (sym (W .queue)) ∙ W .mid .good .1 p .reads
+        ∙ ap (λ (q : List ℕ). count p (W .kept ++ q)) (sym e) ∙ ap (count p) (sym (W .queue)) ∙ W .mid .good .1 .0 p .reads
 
     pub once : (count p (W .kept) ≡ 0) × (count p l ≡ 0)
     once = (omega (arith, counted, outstanding-most (reqAt (b .accs) p)), omega (arith, counted, outstanding-most (reqAt (b .accs) p)))

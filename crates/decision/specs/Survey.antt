@@ -80,7 +80,7 @@ pub record Survey (s bufs : List ℕ) (ls : List (List ℕ)) : Type 0 where
   pub writes : (f : ℕ) → f < files → Each (WriteEntry s bufs f) (getD ls (writeQueue f) [])
   pub ports : (i : ℕ) → i < files * places → Each (PortEntry s bufs i) (getD ls (replyPort i) [])
   pub timers : Each (TimerEntry s) (getD ls timerList [])
-  pub order : InOrder s 0 (getD ls timerList [])
+  pub order : InOrder s 1 (getD ls timerList [])
   -- a place has one request at most, and a timer only where one waits, one at most
   pub single : (i : ℕ) → i < files * places → waitingAt s ls i + completedAt ls i ≤ 1
   pub timed : (i : ℕ) → i < files * places → timersAt s ls i ≤ waitingAt s ls i

@@ -1,18 +1,18 @@
 -- Each file's timers among those of the desk: a timer armed, one that goes, time taken off, and which are due.
 use mathlib.Core.Path.{_≡_, refl, sym, _∙_}
 use mathlib.Core.List.{List, [], _∷_, map}
-use Prim.Native.Nat.{ℕ, _/_, _%_, _≤_, _<_}
+use Prim.Native.Nat.{ℕ, _*_, _/_, _%_, _≤_, _<_}
 use native.Mathlib.Omega.{arith}
-use native.Mathlib.Decide.{ℕ-discrete, decLe}
+use native.Mathlib.Decide.{ℕ-discrete, decLe, decLt}
 use borrow.Author.Tests.{le-leb, lt-leb, eq-eqb, ne-eqb}
-use Rattle.rules.specs.Limits.{places}
+use Rattle.rules.specs.Limits.{files, places}
 use Rattle.rules.specs.State.{Timer}
 use Rattle.rules.specs.Requests.{armIn, withoutTimer}
 use Rattle.rules.specs.Time.{minus, due}
 use Rattle.rules.specs.Allocation.{placeOf}
 use Rattle.occurrences.specs.Count.{count}
 use Rattle.laws.specs.Counts.{placesOf, countT}
-use Rattle.laws.specs.Timers.{Sorted}
+use Rattle.laws.specs.Timers.{Sorted, Clock}
 use Rattle.laws.specs.Entries.{local, sieve}
 use Rattle.laws.specs.Midst.{here}
 use Rattle.occurrences.proofs.Counts.{bit-eq, bit-ne}
@@ -28,7 +28,7 @@ sieve-out : (f : ℕ) (t : Timer) (ts : List Timer) → (t .place / places ≡ f
 unfolding sieve
 sieve-out f t ts h = rw (ne-eqb (t .place / places) f h)
 
-sorted-sieve : (f lo : ℕ) (ts : List Timer) → Sorted lo ts → Sorted lo (sieve f ts)
+pub sorted-sieve : (f lo : ℕ) (ts : List Timer) → Sorted lo ts → Sorted lo (sieve f ts)
 unfolding Sorted
 sorted-sieve f lo [] s = unfold sieve in tt
 sorted-sieve f lo (t ∷ ts) s = go (ℕ-discrete (t .place / places) f) (sorted-sieve f (t .left) ts (s .1))
@@ -36,6 +36,18 @@ sorted-sieve f lo (t ∷ ts) s = go (ℕ-discrete (t .place / places) f) (sorted
     go : Dec (t .place / places ≡ f) → Sorted (t .left) (sieve f ts) → Sorted lo (sieve f (t ∷ ts))
     go (yes e) r = rw (sieve-in f t ts e) (unfold local in (s .0, r))
     go (no d) r = rw (sieve-out f t ts d) (sorted-lower lo (t .left) (sieve f ts) (s .0) r)
+
+-- if in each file every timer has something left, so has every timer of the desk
+pub sorted-sieves : (ts : List Timer) → Clock ts → ((f : ℕ) → f < files → Sorted 1 (sieve f ts)) → Sorted 1 ts
+unfolding Sorted local countT placesOf count
+sorted-sieves [] c h = tt
+sorted-sieves (t ∷ ts) c h = (own (decLt (t .place) (files * places)), c .sorted .1)
+  where
+    own : Dec (t .place < files * places) → 1 ≤ t .left
+    own (yes k) =
+        let s : Sorted 1 (local t ∷ sieve (t .place / places) ts) = rw (sieve-in (t .place / places) t ts refl) at (h (t .place / places) (omega arith)) in
+        s .0
+    own (no k) = absurd (omega (arith, c .within (t .place) (omega arith), bit-eq (t .place) (t .place) refl))
 
 -- a timer is armed in its file
 

@@ -72,7 +72,7 @@ none-due e st (p ∷ l) b s h z =
 
 -- the timers of a file
 
-abbrev Timed : Built → Type 0
+abbrev pub Timed : Built → Type 0
 Timed b = Agree b × Ticking b
 
 ticking-arm : (p n : ℕ) (b : Built) → Ticking b → Ticking (arm p n b)
@@ -85,7 +85,7 @@ unfolding wait say requeue alterAcc withAccs withQueues
 ticking-wait true p n q b s = ticking-arm p n _ s
 ticking-wait false p n q b s = ticking-arm p n _ s
 
-timed-walks : Walks Timed (λ n. Timed)
+pub timed-walks : Walks Timed (λ n. Timed)
 unfolding alterAcc withAccs withQueues withTimers withStore say requeue leave finish cancel freed behind putRec enter vacate
 timed-walks = record {
   mild = λ p f b h s. (agree-walks .mild p f b h (s .0), s .1);
@@ -114,15 +114,19 @@ ticking-lapse e b s =
     let h : Sorted (e + 1) (c .timers) = sorted-late e (c .timers) (none-due e 22 (due e (b .timers)) b (s .0) (λ x h. h) (omega arith)) (k .1) in
     sorted-lower 1 (e + 1 - e) _ (omega arith) (sorted-minus e (e + 1) (c .timers) h)
 
-timed-lapse : (e : ℕ) (b : Built) → Timed b → Timed (lapse e b)
+pub timed-lapse : (e : ℕ) (b : Built) → Timed b → Timed (lapse e b)
 timed-lapse e b s = (agree-lapse e b (s .0), ticking-lapse e b s)
 
-timed-starts : Starts Timed
+pub timed-starts : Starts Timed
 unfolding newFile loaded say Sorted
 timed-starts = record { built = λ g k. (agree-starts .built g k, tt); loads = λ s k. (agree-starts .loads s k, tt) }
 
+pub timed-hushed : (b : Built) → Timed b → Timed (hushed b)
+unfolding hushed
+timed-hushed b s = (agree-hushed b (s .0), s .1)
+
 timed : (f : ℕ) (cs : List Call) → OnFile Timed (fileOf (after freshDesk cs) f)
-timed f cs = lifted Timed (λ n. Timed) timed-walks timed-lapse timed-starts (λ b s. unfold hushed in (agree-hushed b (s .0), s .1)) f cs
+timed f cs = lifted Timed (λ n. Timed) timed-walks timed-lapse timed-starts timed-hushed f cs
 
 pub ticking : (f : ℕ) (cs : List Call) → OnFile Ticking (fileOf (after freshDesk cs) f)
 ticking f cs = on-file Timed Ticking (λ b s. s .1) (fileOf (after freshDesk cs) f) (timed f cs)

@@ -12,16 +12,18 @@ use Rattle.laws.specs.Runs.{OnFile}
 use Rattle.laws.specs.Room.{Roomy}
 use Rattle.laws.specs.Bounds.{Bounds}
 use Rattle.laws.specs.Queues.{Agree}
+use Rattle.laws.specs.Timers.{Ticking}
 use Rattle.laws.specs.Sides.{Sides}
 use Rattle.laws.specs.Entries.{Agreed}
 use Rattle.memory.specs.Stands.{Stands}
 
--- a built file: room, the records of its held blocks, its queues and requests, its accessors
+-- a built file: room, the records of its held blocks, its queues and requests, its timers, its accessors
 pub record Fine (b : Built) : Type 0 where
   pub room : Roomy b
   pub records : All GoodRec (usedRecs (b .geo) (b .store))
   pub bounds : Bounds b
   pub queues : Agree b
+  pub timers : Ticking b
   pub sides : Sides b
 
 -- the memories stand for a desk that is fine, with an allocation that agrees with it

@@ -13,7 +13,7 @@ use Rattle.sound.proofs.Steps.{then-on, then-off}
 -- what comes after each walk that went well
 
 abbrev after₃ : List ℕ → List ℕ → List ℕ → List ℕ → Walked
-after₃ s bufs seen busy = andThen (portWalks s bufs 0 seen busy (files * places)) (λ seen′ busy′. timerWalk s 0 timerList seen′ busy′ (entries + 1))
+after₃ s bufs seen busy = andThen (portWalks s bufs 0 seen busy (files * places)) (λ seen′ busy′. timerWalk s 1 timerList seen′ busy′ (entries + 1))
 
 abbrev after₂ : List ℕ → List ℕ → List ℕ → List ℕ → Walked
 after₂ s bufs seen busy = andThen (queueWalks s bufs 2 0 seen busy files) (after₃ s bufs)
@@ -50,7 +50,7 @@ module _ (s bufs seen₀ busy₀ : List ℕ) (e : seen₀ ≡ replicate entries 
           pub ports-off : portWalks s bufs 0 seen₂ busy₂ (files * places) ≡ walked false seen₃ busy₃ → allWalks s bufs ≡ walked false seen₃ busy₃
           ports-off w₃ = writes-on ∙ then-off _ _ seen₃ busy₃ w₃
 
-          pub ports-on : portWalks s bufs 0 seen₂ busy₂ (files * places) ≡ walked true seen₃ busy₃ → allWalks s bufs ≡ timerWalk s 0 timerList seen₃ busy₃ (entries + 1)
+          pub ports-on : portWalks s bufs 0 seen₂ busy₂ (files * places) ≡ walked true seen₃ busy₃ → allWalks s bufs ≡ timerWalk s 1 timerList seen₃ busy₃ (entries + 1)
           ports-on w₃ = writes-on ∙ then-on _ _ seen₃ busy₃ w₃
 
 -- then whether every entry was met, and the buffers that no request uses

@@ -77,7 +77,7 @@ portEntry s bufs busy i e =
     && zeroWords s (dataAt e + 7) 2
     && restZero bufs i (sizeIn s e)
 
--- a timer of a waiting place, with as much left as the one before
+-- a timer of a waiting place, with as much left as the one before; the first has a second at least
 unfoldable pub timerEntry : List ℕ → List ℕ → ℕ → ℕ → Bool
 timerEntry s busy low e =
     ltb (placeIn s e) (files * places)
@@ -156,7 +156,7 @@ allWalks s bufs =
     andThen (queueWalks s bufs 1 0 seen busy files) (λ seen′ busy′.
     andThen (queueWalks s bufs 2 0 seen′ busy′ files) (λ seen″ busy″.
     andThen (portWalks s bufs 0 seen″ busy″ (files * places)) (λ seen‴ busy‴.
-    timerWalk s 0 timerList seen‴ busy‴ (entries + 1)))))
+    timerWalk s 1 timerList seen‴ busy‴ (entries + 1)))))
 
 -- every one of n entries was met
 unfoldable pub allMet : List ℕ → ℕ → Bool

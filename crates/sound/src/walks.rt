@@ -101,6 +101,7 @@ fn queue_walk(
     false
 }
 
+// Each timer has a second left at least.
 fn timer_walk(
     s: &[u8],
     head: usize,
@@ -108,10 +109,10 @@ fn timer_walk(
     busy: &mut [u8; layout::DESK_PLACES],
 ) -> bool
     requires { ⌜ (length (now s) ≡ segmentBytes) × (head < fileRows) ⌝ }
-    ensures { λ r. ⌜ walked r (now (seen .exit)) (now (busy .exit)) ≡ timerWalk (now (s .entry)) 0 head (now (seen .entry)) (now (busy .entry)) (entries + 1) ⌝ }
+    ensures { λ r. ⌜ walked r (now (seen .exit)) (now (busy .exit)) ≡ timerWalk (now (s .entry)) 1 head (now (seen .entry)) (now (busy .entry)) (entries + 1) ⌝ }
 {
     let mut p = head;
-    let mut low: u16 = 0;
+    let mut low: u16 = 1;
     let mut left = TURNS;
     while left > 0 {
         let v = segment::get(s, p);

@@ -52,10 +52,10 @@ module _ (s : List ℕ) (g : Timer → ℕ) where
       low (yes h) = h
       low (no h) = absurd (omega (arith, w (t .place) (omega arith), bit-eq (t .place) (t .place) refl))
 
-  pub timers-pass : (ts : List Timer) → Sorted 0 ts → ((i : ℕ) → files * places ≤ i → countT i ts ≡ 0) → map (dataOf s) (map g ts) ≡ map timerWords ts
-      → Each (TimerEntry s) (map g ts) × InOrder s 0 (map g ts) × (map (placeIn s) (map g ts) ≡ placesOf ts)
+  pub timers-pass : (ts : List Timer) → Sorted 1 ts → ((i : ℕ) → files * places ≤ i → countT i ts ≡ 0) → map (dataOf s) (map g ts) ≡ map timerWords ts
+      → Each (TimerEntry s) (map g ts) × InOrder s 1 (map g ts) × (map (placeIn s) (map g ts) ≡ placesOf ts)
   unfolding Timed
-  timers-pass ts o w q = timed-pass 0 ts o w q
+  timers-pass ts o w q = timed-pass 1 ts o w q
 
 -- a file's queues and ports
 

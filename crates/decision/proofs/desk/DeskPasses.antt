@@ -24,6 +24,8 @@ use Rattle.laws.specs.Runs.{OnFile}
 use Rattle.laws.specs.Queues.{Agree}
 use Rattle.laws.specs.Counts.{countT}
 use Rattle.laws.specs.Entries.{accsOf, timersOf}
+use Rattle.laws.specs.Timers.{Sorted}
+use Rattle.laws.proofs.Sieve.{sorted-sieves}
 use Rattle.memory.specs.Image.{accOf, placeAcc, listsOf}
 use Rattle.memory.specs.Covers.{Once}
 use Rattle.memory.specs.Fine.{Fine, StandsFor}
@@ -100,10 +102,18 @@ module _ (s blocks bufs : List ℕ) (d : Desk) (a : Alloc) (S : StandsFor s bloc
     writes = rw (listOf-write d a f h, boxOf-write d a f h) at (S .stands .segment .boxes (writeQueue f) (omega arith));
   }
 
-  timers-all : Each (TimerEntry s) (getD ls timerList []) × InOrder s 0 (getD ls timerList []) × ((i : ℕ) → timersAt s ls i ≡ countT i (a .clock))
+  ticks : (x : File) → OnFile Fine x → Sorted 1 (timersOf x)
+  unfolding OnFile timersOf Sorted
+  ticks unbuilt F = tt
+  ticks (built b) F = F .timers
+
+  clock-ticks : Sorted 1 (a .clock)
+  clock-ticks = sorted-sieves (a .clock) (S .agreed .clock) (λ f h. rw (S .agreed .agrees f h .clock) (ticks (fileOf d f) (S .fine f h)))
+
+  timers-all : Each (TimerEntry s) (getD ls timerList []) × InOrder s 1 (getD ls timerList []) × ((i : ℕ) → timersAt s ls i ≡ countT i (a .clock))
   unfolding timersAt named countT
   timers-all =
-      let k = timers-pass s (λ t. timerEntry (heldAt a (t .place))) (a .clock) (S .agreed .clock .sorted) (S .agreed .clock .within)
+      let k = timers-pass s (λ t. timerEntry (heldAt a (t .place))) (a .clock) clock-ticks (S .agreed .clock .within)
       (unfold alloc.timerList in rw (listOf-timers d a, boxOf-timers d a) at (S .stands .segment .boxes timerList (omega arith))) in
       (rw timer-list (k .0), rw timer-list (k .1), λ i. ap (λ (l : List ℕ). count i (map (placeIn s) l)) timer-list ∙ ap (count i) (k .2))
 

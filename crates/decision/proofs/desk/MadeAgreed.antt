@@ -2,7 +2,7 @@
 use Prim.Native.Nat.{ℕ, _+_, _*_, _≤_, _<_}
 use mathlib.Core.Bool.{true, false}
 use mathlib.Core.Path.{_≡_, refl, sym, ap, subst, _∙_}
-use mathlib.Core.List.{List, [], _∷_, map}
+use mathlib.Core.List.{List, [], _∷_}
 use mathlib.Core.Option.{Option, none}
 use native.Mathlib.Omega.{arith}
 use native.Mathlib.Decide.{decLt}
@@ -20,7 +20,7 @@ use Rattle.laws.specs.Outstanding.{reqAt, waitsRead, waitsWrite, uncollected, a
 use Rattle.laws.specs.Outstanding as laws
 use Rattle.laws.specs.Runs.{OnFile}
 use Rattle.laws.specs.Counts.{placesOf, countT}
-use Rattle.laws.specs.Timers.{Sorted}
+use Rattle.laws.proofs.Clock.{sorted-lower}
 use Rattle.laws.specs.Queues.{Agree}
 use Rattle.laws.specs.Entries.{size, sieve, accsOf, timersOf, Agrees, Calm, Agreed}
 use Rattle.memory.specs.Image.{listOf, listsOf}
@@ -30,26 +30,20 @@ use Rattle.memory.proofs.Boxes.{length-up, getD-listsOf}
 use Rattle.memory.proofs.Held.{sieve-at}
 use Rattle.memory.proofs.Once.{acc-at, lists-taken}
 use Rattle.sound.specs.Rows.{builtAt, sideAt}
-use Rattle.sound.specs.Walks.{entryWord}
-use Rattle.decision.specs.Survey.{TimerEntry, InOrder, named, waitingAt, completedAt, timersAt, Survey}
+use Rattle.decision.specs.Survey.{TimerEntry, named, waitingAt, completedAt, timersAt, Survey}
 use Rattle.sound.specs.Sound.{filesOk}
 use Rattle.decision.proofs.lists.Owners.{each-none}
 use Rattle.decision.proofs.desk.MadeFacts.{blank-at}
-use Rattle.decision.proofs.desk.MadeDesk.{readsAt, writesAt, reqFor, heldFor, timerFor, clockFor, allocFor, builtFor, fileFor, deskFor}
+use Rattle.decision.proofs.desk.MadeDesk.{readsAt, writesAt, reqFor, heldFor, clockFor, allocFor, builtFor, fileFor, deskFor}
 use Rattle.decision.proofs.desk.MadeRequests.{counts, closed}
 use Rattle.decision.proofs.desk.MadeBase.{viewed, size-at, file-built, file-blank, accs-long, acc-of}
 use Rattle.decision.proofs.desk.MadeLists.{lists-right}
-use Rattle.decision.proofs.desk.MadeFine.{sieve-past, clock-count, req-at, fine}
+use Rattle.decision.proofs.desk.MadeFine.{sieve-past, clock-count, clock-order, req-at, fine}
 
 no-timers : (l : List Timer) → ((x : ℕ) → countT x l ≡ 0) → l ≡ []
 unfolding countT placesOf count
 no-timers [] h = refl
 no-timers (t ∷ l) h = absurd (omega (arith, h (t .place), bit-eq (t .place) (t .place) refl))
-
-in-order : (s : List ℕ) (lo : ℕ) (l : List ℕ) → InOrder s lo l → Sorted lo (map (timerFor s) l)
-unfolding InOrder Sorted timerFor
-in-order s lo [] a = tt
-in-order s lo (e ∷ l) a = (a .0, in-order s (entryWord s e 7) l (a .1))
 
 module _ (s blocks bufs : List ℕ) (ls : List (List ℕ)) (bytes : Bytes blocks) (long : length blocks ≡ shareBytes * files) (room : length bufs ≡ places * bufferBytes * files)
     (ok : filesOk s blocks 0 files ≡ true) (U : Survey s bufs ls) where
@@ -180,7 +174,7 @@ module _ (s blocks bufs : List ℕ) (ls : List (List ℕ)) (bytes : Bytes blocks
       once = λ x. sym (lists-taken d a held-long within agrees (λ f h. queues (fileOf d f) (fine-file f h)) x) ∙ (ap (total x) lists-same ∙ U .once x);
       long = held-long;
     };
-    clock = record { sorted = unfold allocFor clockFor in in-order s 0 (getD ls timerList []) (U .order); within = within };
+    clock = record { sorted = unfold allocFor in sorted-lower 0 1 (clockFor s ls) (omega arith) (clock-order s ls (U .order)); within = within };
     agrees = agrees;
     calm = calm;
   }

@@ -27,13 +27,15 @@ use Rattle.laws.specs.Bounds.{Bounded}
 use Rattle.laws.specs.Sides.{Sided}
 use Rattle.laws.specs.Counts.{placesOf, countT}
 use Rattle.laws.specs.Entries.{local, sieve}
+use Rattle.laws.specs.Timers.{Sorted}
+use Rattle.laws.proofs.Sieve.{sorted-sieve}
 use Rattle.memory.specs.Stands.{shareAt, buffersAt, bufferAt, FileBytes}
 use Rattle.memory.specs.Fine.{Fine}
 use Rattle.memory.proofs.Held.{sieve-at}
 use Rattle.memory.proofs.Frames.{buffersAt-are}
 use Rattle.sound.specs.Rows.{fileWord, placeWord, builtAt, geoAt, sideAt}
-use Rattle.sound.specs.Walks.{placeIn, restZero}
-use Rattle.decision.specs.Survey.{Each, ReadEntry, WriteEntry, named, waitingAt, completedAt, timersAt, Survey, Marked}
+use Rattle.sound.specs.Walks.{entryWord, placeIn, restZero}
+use Rattle.decision.specs.Survey.{Each, InOrder, ReadEntry, WriteEntry, named, waitingAt, completedAt, timersAt, Survey, Marked}
 use Rattle.sound.specs.Sound.{filesOk, idleZero, idlesZero}
 use Rattle.decision.proofs.desk.MadeFacts.{OpenRow, place-at}
 use Rattle.decision.proofs.desk.MadeDesk.{readsAt, writesAt, reqFor, openFor, accFor, timerFor, clockFor, inFile, builtFor}
@@ -112,6 +114,17 @@ clock-count s ls i = ap (count i) (go (getD ls timerList []))
     go : (l : List ℕ) → map (λ t. t .place) (map (timerFor s) l) ≡ map (placeIn s) l
     go [] = refl
     go (e ∷ l) = ap (_∷_ (placeIn s e)) (go l)
+
+-- the timers are in order, and each has something left
+
+in-order : (s : List ℕ) (lo : ℕ) (l : List ℕ) → InOrder s lo l → Sorted lo (map (timerFor s) l)
+unfolding InOrder Sorted timerFor
+in-order s lo [] a = tt
+in-order s lo (e ∷ l) a = (a .0, in-order s (entryWord s e 7) l (a .1))
+
+pub clock-order : (s : List ℕ) (ls : List (List ℕ)) → InOrder s 1 (getD ls timerList []) → Sorted 1 (clockFor s ls)
+unfolding clockFor
+clock-order s ls o = in-order s 1 (getD ls timerList []) o
 
 -- what is true of the accessor, if there is one
 OnAcc : (Acc → Type 0) → Option Acc → Type 0
@@ -231,6 +244,7 @@ module _ (s blocks bufs : List ℕ) (ls : List (List ℕ)) (bytes : Bytes blocks
       records = stored s blocks bufs ls bytes long ok U f h t .1;
       bounds = bounds;
       queues = λ x. record { reads = reads-is x; writes = writes-is x; times = times-is x };
+      timers = unfold builtFor in sorted-sieve f 1 (clockFor s ls) (clock-order s ls (U .order));
       sides = sides;
     }
 

@@ -43,7 +43,7 @@ module _ (s bufs : List ℕ) where
       andThen (queueWalks s bufs 1 0 seen busy files) (λ seen busy.
       andThen (queueWalks s bufs 2 0 seen busy files) (λ seen busy.
       andThen (portWalks s bufs 0 seen busy (files * places)) (λ seen busy.
-      timerWalk s 0 timerList seen busy most))))
+      timerWalk s 1 timerList seen busy most))))
 
   pub record AllFound (seen busy : List ℕ) (w : Walked) : Type 0 where
     pub parts : Parts

@@ -120,12 +120,12 @@ module _ (s bufs : List ℕ) where
       (portWalks s bufs) (λ i seen busy. refl) (λ i seen busy n. refl) (files * places) 0)
 
   abbrev pub TimersOk : List ℕ → List ℕ → Type 0
-  TimersOk busy xs = Holding s most timerList (TimerEntry s) xs × InOrder s 0 xs × Met 1 3 busy (owners s xs)
+  TimersOk busy xs = Holding s most timerList (TimerEntry s) xs × InOrder s 1 xs × Met 1 3 busy (owners s xs)
 
-  pub timers-found : Stage (λ seen busy. timerWalk s 0 timerList seen busy most) (λ xs. xs) TimersOk (λ busy xs. marks 3 busy (owners s xs))
+  pub timers-found : Stage (λ seen busy. timerWalk s 1 timerList seen busy most) (λ xs. xs) TimersOk (λ busy xs. marks 3 busy (owners s xs))
   timers-found =
       let P : ℕ → ℕ → Type 0 = λ low e. TimerEntry s e × (low ≤ entryWord s e 7) in
-      stage-as (λ seen busy. timerWalk s 0 timerList seen busy most) (λ xs. xs) (Passing s (timerKind s) most 0 timerList) TimersOk (after (timerKind s)) (λ busy xs. marks 3 busy (owners s xs))
-      (λ busy xs o. let (r, m) = pass-row s 1 3 P (timerKind s) (timer-means s) 0 busy xs (o .2) in let (a, b) = row-timers s 0 xs r in ((o .0, o .1, a), b, m))
-      (λ busy xs o. (o .0 .0, o .0 .1, row-pass s 1 3 P (timerKind s) (timer-means s) 0 busy xs (timers-row s 0 xs (o .0 .2) (o .1)) (o .2)))
+      stage-as (λ seen busy. timerWalk s 1 timerList seen busy most) (λ xs. xs) (Passing s (timerKind s) most 1 timerList) TimersOk (after (timerKind s)) (λ busy xs. marks 3 busy (owners s xs))
+      (λ busy xs o. let (r, m) = pass-row s 1 3 P (timerKind s) (timer-means s) 1 busy xs (o .2) in let (a, b) = row-timers s 1 xs r in ((o .0, o .1, a), b, m))
+      (λ busy xs o. (o .0 .0, o .0 .1, row-pass s 1 3 P (timerKind s) (timer-means s) 1 busy xs (timers-row s 1 xs (o .0 .2) (o .1)) (o .2)))
       (λ busy xs. after-marks s 1 3 P (timerKind s) (timer-means s) busy xs) (timer-stage s)

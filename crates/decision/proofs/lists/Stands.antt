@@ -27,7 +27,7 @@ pub record Stands (s bufs : List ℕ) (p : Parts) : Type 0 where
   pub writes : Lists (λ f. Holding s most (writeQueue f) (WriteEntry s bufs f)) 0 (p .writes)
   pub ports : Lists (λ i. Holding s 2 (replyPort i) (PortEntry s bufs i)) 0 (p .ports)
   pub timers : Holding s most timerList (TimerEntry s) (p .timers)
-  pub order : InOrder s 0 (p .timers)
+  pub order : InOrder s 1 (p .timers)
 
 -- the entries of place i in each part
 module _ (s : List ℕ) (p : Parts) (i : ℕ) where

@@ -49,9 +49,9 @@ unfolding queueKind queueWalk
 queue-stage s bufs side f p =
     stage-walk s (queueKind s bufs side f) (λ low p seen busy n. queueWalk s bufs side f p seen busy n) (λ low p seen busy. refl) (λ low p seen busy n. refl) most 0 p
 
-pub timer-stage : (s : List ℕ) → Stage (λ seen busy. timerWalk s 0 timerList seen busy most) (λ xs. xs) (Passing s (timerKind s) most 0 timerList) (after (timerKind s))
+pub timer-stage : (s : List ℕ) → Stage (λ seen busy. timerWalk s 1 timerList seen busy most) (λ xs. xs) (Passing s (timerKind s) most 1 timerList) (after (timerKind s))
 unfolding timerKind timerWalk
-timer-stage s = stage-walk s (timerKind s) (λ low p seen busy n. timerWalk s low p seen busy n) (λ low p seen busy. refl) (λ low p seen busy n. refl) most 0 timerList
+timer-stage s = stage-walk s (timerKind s) (λ low p seen busy n. timerWalk s low p seen busy n) (λ low p seen busy. refl) (λ low p seen busy n. refl) most 1 timerList
 
 -- the walk of a reply port takes one step
 

@@ -114,13 +114,14 @@ impl Desk {
         Ok(())
     }
 
-    /// A timer's place waits, and has no other timer; the smallest stands first.
+    /// A timer's place waits, and has no other timer; it has a second left, and the smallest stands first.
     fn load_timer(&mut self, entry: u16, data: &[u16]) -> Result<(), Unsound> {
         let (place, seconds) = (usize::from(data[0]), u64::from(data[7]));
         ask(place < FILES * PLACES, "a timer's place")?;
         let other = data[1..7].iter().chain(&data[8..]);
         ask(other.into_iter().all(|w| *w == 0), "a timer's other words")?;
         let last = self.entries.timers.last().map_or(0, |t| t.due);
+        ask(seconds >= 1, "a timer with nothing left")?;
         ask(last <= seconds, "the order of timers")?;
         let (file, index) = (place / PLACES, place % PLACES);
         let accessor = self.files[file].as_mut().and_then(|f| f.accessors[index].as_mut());

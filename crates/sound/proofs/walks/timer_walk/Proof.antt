@@ -12,7 +12,7 @@ use Rattle.sound.proofs.walks.timer_walk.Tie as tie
 
 abbrev Inv-loop : tie.InvT-loop
 Inv-loop s head seen₀ busy₀ p₀ low₀ left₀ seen busy p low left =
-    (p < fileRows) × (timerWalk s 0 head seen₀ busy₀ (entries + 1) ≡ timerWalk s low p seen busy left)
+    (p < fileRows) × (timerWalk s 1 head seen₀ busy₀ (entries + 1) ≡ timerWalk s low p seen busy left)
 
 abbrev μ-loop : tie.MeasureT-loop
 μ-loop s head seen₀ busy₀ p₀ low₀ left₀ seen busy p low left = left
