@@ -9,7 +9,7 @@ use Rattle.kinds.specs.declared.Answer.{Answer}
 use Rattle.kinds.specs.declared.Event.{Event}
 use Rattle.kinds.specs.declared.Frame.{Frame}
 use Rattle.kinds.specs.declared.Frame.the-variants as frame
-use Rattle.rules.specs.Limits.{files}
+use Rattle.rules.specs.Limits.{files, writeHead}
 use Rattle.rules.specs.State.{Built, built}
 use Rattle.rules.specs.Frames.{frameOf}
 use Rattle.rules.specs.Calls.{Ask, ask}
@@ -23,10 +23,10 @@ use Rattle.midst.proofs.Accepted.{accepted-file}
 use Rattle.midst.proofs.StandsBehind.{Built′, stays-built, respond-is, outcome-stays}
 use Rattle.desk.specs.Acted.{Acted, Four}
 
-module _ (fr : List ℕ) (e : Event) (q : Ask) (f : ℕ) (said : frameOf fr ≡ frame.Event e) (is : frameAsks (frame.Event e) (drop 5 fr) ≡ on f q) where
+module _ (fr : List ℕ) (e : Event) (q : Ask) (f : ℕ) (said : frameOf fr ≡ frame.Event e) (is : frameAsks (frame.Event e) (drop writeHead fr) ≡ on f q) where
   pub asked-is : asked (event fr) ≡ on f q
   unfolding asked
-  asked-is = ap (λ (z : Frame). frameAsks z (drop 5 fr)) said ∙ is
+  asked-is = ap (λ (z : Frame). frameAsks z (drop writeHead fr)) said ∙ is
 
   answered-is : (d : Desk) → respond d (event fr) ≡ answered d (on f q)
   unfolding respond

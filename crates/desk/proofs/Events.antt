@@ -12,7 +12,7 @@ use Rattle.kinds.specs.declared.Control as kinds
 use Rattle.kinds.specs.declared.Event.the-variants.{Build, Open, Read, Write, Control, Collect, Close, Time, Counts}
 use Rattle.kinds.specs.declared.Frame.{Frame}
 use Rattle.kinds.specs.declared.Frame.the-variants.{Event}
-use Rattle.rules.specs.Limits.{files}
+use Rattle.rules.specs.Limits.{files, writeHead}
 use Rattle.rules.specs.State.{Built, unbuilt, built}
 use Rattle.rules.specs.Reply.{answering}
 use Rattle.rules.specs.Frames.{frameOf}
@@ -69,14 +69,14 @@ module _ (fr : List ℕ) {xs blocks buffers : List ℕ} (never : (d : Desk) (s :
         acted-data fr (Read f p n) (calls.read p n) f said refl never d s S memory xs′ blocks′ buffers′ memory′ a k (built-read d f p n (ok-read d s S)) (four-read d f p n (ok-read d s S)) G
 
   module _ (f p n : ℕ) (said : frameOf fr ≡ Event (Write f p n)) where
-    pub ok-write : outcome.Accepted f (calls.write p n (drop 5 fr)) xs blocks buffers
+    pub ok-write : outcome.Accepted f (calls.write p n (drop writeHead fr)) xs blocks buffers
     unfolding frameAsks
-    ok-write = accepts fr (Write f p n) (calls.write p n (drop 5 fr)) f said refl never
+    ok-write = accepts fr (Write f p n) (calls.write p n (drop writeHead fr)) f said refl never
 
     pub act-write : (d : Desk) (s : Alloc) (S : StandsFor xs blocks buffers d s) (memory xs′ blocks′ buffers′ : List ℕ) (a : Answer)
-        → Done f d s (ask (fileOf d f) (calls.write p n (drop 5 fr))) blocks buffers xs′ blocks′ buffers′ a → Acted d s (event fr) blocks buffers memory xs′ blocks′ buffers′ memory a 0
+        → Done f d s (ask (fileOf d f) (calls.write p n (drop writeHead fr))) blocks buffers xs′ blocks′ buffers′ a → Acted d s (event fr) blocks buffers memory xs′ blocks′ buffers′ memory a 0
     unfolding frameAsks
-    act-write d s S memory xs′ blocks′ buffers′ a D = acted fr (Write f p n) (calls.write p n (drop 5 fr)) f said refl never d s S memory xs′ blocks′ buffers′ a (built-write d f p n (drop 5 fr) (write-long fr f p n said .1) (ok-write d s S)) D
+    act-write d s S memory xs′ blocks′ buffers′ a D = acted fr (Write f p n) (calls.write p n (drop writeHead fr)) f said refl never d s S memory xs′ blocks′ buffers′ a (built-write d f p n (drop writeHead fr) (write-long fr f p n said .1) (ok-write d s S)) D
 
   module _ (f p : ℕ) (c : kinds.Control) (said : frameOf fr ≡ Event (Control f p c)) where
     pub ok-control : outcome.Accepted f (calls.control p (some c)) xs blocks buffers
@@ -134,7 +134,7 @@ module _ (fr : List ℕ) {xs blocks buffers : List ℕ} (never : (d : Desk) (s :
       → Acted d s (event fr) blocks buffers memory xs′ blocks buffers′ memory Passed 0
   unfolding frameAsks asked respond answered
   act-time e said d s S memory xs′ buffers′ T h =
-      let is : asked (event fr) ≡ time e = ap (λ (y : Frame). frameAsks y (drop 5 fr)) said in
+      let is : asked (event fr) ≡ time e = ap (λ (y : Frame). frameAsks y (drop writeHead fr)) said in
       record {
         stays = time-stays S (event fr) e is xs′ buffers′ T h;
         bytes = [];

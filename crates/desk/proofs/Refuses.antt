@@ -8,6 +8,7 @@ use native.Mathlib.Omega.{arith}
 use lib.ListN.{getD, drop}
 use types.Run.{OneOf}
 use denote.Enum.Declared.{tagOf}
+use Rattle.rules.specs.Limits.{writeHead}
 use Rattle.kinds.specs.declared.Answer.the-variants.{Status}
 use Rattle.kinds.specs.declared.Event.{Event}
 use Rattle.kinds.specs.declared.Event.the-variants.{Build, Open, Read, Write, Control, Collect, Close, Time, Counts}
@@ -57,21 +58,21 @@ module _ {xs blocks buffers : List ℕ} {d : Desk} {s : Alloc} (S : StandsFor xs
       }
 
   -- an event
-  event-refused : (e : Event) (n : ℕ) → frameOf fr ≡ frame.Event e → n ≡ refusalOf (answered d (frameAsks (frame.Event e) (drop 5 fr)) .reply) → (n ≡ 0 → ⊥)
+  event-refused : (e : Event) (n : ℕ) → frameOf fr ≡ frame.Event e → n ≡ refusalOf (answered d (frameAsks (frame.Event e) (drop writeHead fr)) .reply) → (n ≡ 0 → ⊥)
       → Twice (operationOf e) n memory memory′ k → Responds d s (event fr) blocks buffers memory xs blocks buffers memory′ k
   unfolding operationOf frameAsks asked refusal
-  event-refused (Build f r b n x) m said e z T = on-refused f (calls.build r b n x) 1 m (ap (λ (y : Frame). frameAsks y (drop 5 fr)) said) (λ _. refl) e z T
-  event-refused (Open f a g n) m said e z T = on-refused f (calls.opens a g n) 2 m (ap (λ (y : Frame). frameAsks y (drop 5 fr)) said) (λ _. refl) e z T
-  event-refused (Read f p n) m said e z T = on-refused f (calls.read p n) 3 m (ap (λ (y : Frame). frameAsks y (drop 5 fr)) said) (λ _. refl) e z T
-  event-refused (Write f p n) m said e z T = on-refused f (calls.write p n (drop 5 fr)) 4 m (ap (λ (y : Frame). frameAsks y (drop 5 fr)) said) (λ _. refl) e z T
-  event-refused (Control f p c) m said e z T = on-refused f (calls.control p (some c)) 5 m (ap (λ (y : Frame). frameAsks y (drop 5 fr)) said) (λ _. refl) e z T
-  event-refused (Collect f p) m said e z T = on-refused f (calls.collect p) 6 m (ap (λ (y : Frame). frameAsks y (drop 5 fr)) said) (λ _. refl) e z T
-  event-refused (Close f p) m said e z T = on-refused f (calls.close p) 7 m (ap (λ (y : Frame). frameAsks y (drop 5 fr)) said) (λ _. refl) e z T
+  event-refused (Build f r b n x) m said e z T = on-refused f (calls.build r b n x) 1 m (ap (λ (y : Frame). frameAsks y (drop writeHead fr)) said) (λ _. refl) e z T
+  event-refused (Open f a g n) m said e z T = on-refused f (calls.opens a g n) 2 m (ap (λ (y : Frame). frameAsks y (drop writeHead fr)) said) (λ _. refl) e z T
+  event-refused (Read f p n) m said e z T = on-refused f (calls.read p n) 3 m (ap (λ (y : Frame). frameAsks y (drop writeHead fr)) said) (λ _. refl) e z T
+  event-refused (Write f p n) m said e z T = on-refused f (calls.write p n (drop writeHead fr)) 4 m (ap (λ (y : Frame). frameAsks y (drop writeHead fr)) said) (λ _. refl) e z T
+  event-refused (Control f p c) m said e z T = on-refused f (calls.control p (some c)) 5 m (ap (λ (y : Frame). frameAsks y (drop writeHead fr)) said) (λ _. refl) e z T
+  event-refused (Collect f p) m said e z T = on-refused f (calls.collect p) 6 m (ap (λ (y : Frame). frameAsks y (drop writeHead fr)) said) (λ _. refl) e z T
+  event-refused (Close f p) m said e z T = on-refused f (calls.close p) 7 m (ap (λ (y : Frame). frameAsks y (drop writeHead fr)) said) (λ _. refl) e z T
   event-refused (Time t) m said e z T = absurd (z (unfold answered refusalOf replyStatus statusOf in e))
-  event-refused (Counts f) m said e z T = on-refused f calls.counts 9 m (ap (λ (y : Frame). frameAsks y (drop 5 fr)) said) (λ _. refl) e z T
+  event-refused (Counts f) m said e z T = on-refused f calls.counts 9 m (ap (λ (y : Frame). frameAsks y (drop writeHead fr)) said) (λ _. refl) e z T
 
   -- its first byte is repeated
-  pub first-refused : (e : Event) (n : ℕ) → frameOf fr ≡ frame.Event e → n ≡ refusalOf (answered d (frameAsks (frame.Event e) (drop 5 fr)) .reply) → (n ≡ 0 → ⊥)
+  pub first-refused : (e : Event) (n : ℕ) → frameOf fr ≡ frame.Event e → n ≡ refusalOf (answered d (frameAsks (frame.Event e) (drop writeHead fr)) .reply) → (n ≡ 0 → ⊥)
       → Twice (getD fr 0 0) n memory memory′ k → Responds d s (event fr) blocks buffers memory xs blocks buffers memory′ k
   first-refused e n said h z T = event-refused e n said h z (subst (λ (op : ℕ). Twice op n memory memory′ k) (first-byte fr e said) T)
 
@@ -91,11 +92,11 @@ module _ {xs blocks buffers : List ℕ} {d : Desk} {s : Alloc} (S : StandsFor xs
   frame-refused (frame.Event e) said (inr u) R = absurd (omega arith)
   frame-refused (frame.Code f p) said u (n, N, T) =
       let e = N blocks buffers d s S in
-      on-refused f (calls.control p none) 5 n (ap (λ (y : Frame). frameAsks y (drop 5 fr)) said) (λ _. refl) e (λ z. accepted-code d f p (sym e ∙ z)) T
-  frame-refused frame.Shape said u T = shape-refused (ap (λ (y : Frame). frameAsks y (drop 5 fr)) said) T
+      on-refused f (calls.control p none) 5 n (ap (λ (y : Frame). frameAsks y (drop writeHead fr)) said) (λ _. refl) e (λ z. accepted-code d f p (sym e ∙ z)) T
+  frame-refused frame.Shape said u T = shape-refused (ap (λ (y : Frame). frameAsks y (drop writeHead fr)) said) T
 
 -- the number 0 says that the call is not refused
-pub not-refused : (fr : List ℕ) (e : Event) (n : ℕ) (d : Desk) → frameOf fr ≡ frame.Event e → n ≡ refusalOf (answered d (frameAsks (frame.Event e) (drop 5 fr)) .reply) → n ≡ 0
+pub not-refused : (fr : List ℕ) (e : Event) (n : ℕ) (d : Desk) → frameOf fr ≡ frame.Event e → n ≡ refusalOf (answered d (frameAsks (frame.Event e) (drop writeHead fr)) .reply) → n ≡ 0
     → refusalOf (respond d (event fr) .reply) ≡ 0
 unfolding respond asked
-not-refused fr e n d said h z = ap (λ (y : Frame). refusalOf (answered d (frameAsks y (drop 5 fr)) .reply)) said ∙ sym h ∙ z
+not-refused fr e n d said h z = ap (λ (y : Frame). refusalOf (answered d (frameAsks y (drop writeHead fr)) .reply)) said ∙ sym h ∙ z

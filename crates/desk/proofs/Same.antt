@@ -8,7 +8,7 @@ use lib.Seq.{sets}
 use borrow.Author.Tests.{lt-ltb}
 use Rattle.kinds.specs.declared.Answer.{Answer}
 use Rattle.kinds.specs.declared.Answer.the-variants.{Passed}
-use Rattle.rules.specs.Limits.{files}
+use Rattle.rules.specs.Limits.{files, answerHead}
 use Rattle.rules.specs.State.{unbuilt}
 use Rattle.rules.specs.Reply.{Reply, answers, shows}
 use Rattle.rules.specs.Calls.{Ask, ask}
@@ -125,7 +125,7 @@ module _ {xs blocks buffers : List ℕ} {d : Desk} {s : Alloc} (S : StandsFor xs
   gave-same memory x b y m x′ b′ y′ m′ a a′ n n′ G H =
       let (ex, eb, ey) = outcome-same x b y x′ b′ y′ (G .outcome) (H .outcome) in
       let e : G .bytes ≡ H .bytes = ap dataOf (sym (G .reply) ∙ H .reply) in
-      (ap answerOf (sym (G .reply) ∙ H .reply), G .size ∙ ap length e ∙ sym (H .size), G .behind ∙ ap (sets memory 4) e ∙ sym (H .behind), ex, eb, ey)
+      (ap answerOf (sym (G .reply) ∙ H .reply), G .size ∙ ap length e ∙ sym (H .size), G .behind ∙ ap (sets memory answerHead) e ∙ sym (H .behind), ex, eb, ey)
 
 -- time, which is lent no blocks
 module _ {xs blocks buffers : List ℕ} {d : Desk} {s : Alloc} (S : StandsFor xs blocks buffers d s) (e : ℕ) where

@@ -7,6 +7,7 @@ use lib.Dec.{eqb}
 use lib.ListN.{length, getD, take, drop, length-drop}
 use lib.Seq.{take-all}
 use borrow.Author.Tests.{eqb-true}
+use Rattle.rules.specs.Limits.{writeHead}
 use Rattle.words.specs.Word.{wordAt}
 use Rattle.kinds.specs.declared.Event.the-variants.{Build, Open, Read, Write, Control, Collect, Close, Time, Counts}
 use Rattle.kinds.specs.declared.Frame.{Frame}
@@ -20,7 +21,7 @@ module _ (fr : List ℕ) where
   Long (Event (Build f r b n x)) = Unit {0}
   Long (Event (Open f a s m)) = Unit {0}
   Long (Event (Read f p n)) = Unit {0}
-  Long (Event (Write f p n)) = (5 ≤ length fr) × (length (drop 5 fr) ≡ countBytes n)
+  Long (Event (Write f p n)) = (writeHead ≤ length fr) × (length (drop writeHead fr) ≡ countBytes n)
   Long (Event (Control f p c)) = Unit {0}
   Long (Event (Collect f p)) = Unit {0}
   Long (Event (Close f p)) = Unit {0}
@@ -50,7 +51,7 @@ module _ (fr : List ℕ) where
       bothc Long (eqb (getD fr 0 0) 1) (λ _. sized-long 8 _ (λ _. tt))
       (λ _. bothc Long (eqb (getD fr 0 0) 2) (λ _. sized-long 5 _ (λ _. tt))
       (λ _. bothc Long (eqb (getD fr 0 0) 3) (λ _. sized-long 5 _ (λ _. tt))
-      (λ _. bothc Long (eqb (getD fr 0 0) 4) (λ _. sized-long (5 + countBytes (wordAt fr 3)) _ (λ e. (omega arith, omega (arith, e, length-drop 5 fr))))
+      (λ _. bothc Long (eqb (getD fr 0 0) 4) (λ _. sized-long (writeHead + countBytes (wordAt fr 3)) _ (λ e. (omega arith, omega (arith, e, length-drop writeHead fr))))
       (λ _. bothc Long (eqb (getD fr 0 0) 5) (λ _. sized-long 6 _ (λ _. control-long _ _ _ _))
       (λ _. bothc Long (eqb (getD fr 0 0) 6) (λ _. sized-long 3 _ (λ _. tt))
       (λ _. bothc Long (eqb (getD fr 0 0) 7) (λ _. sized-long 3 _ (λ _. tt))
@@ -58,10 +59,10 @@ module _ (fr : List ℕ) where
       (λ _. bothc Long (eqb (getD fr 0 0) 9) (λ _. sized-long 2 _ (λ _. tt))
       (λ _. tt)))))))))
 
-  pub write-long : (f p n : ℕ) → frameOf fr ≡ Event (Write f p n) → (5 ≤ length fr) × (length (drop 5 fr) ≡ countBytes n)
+  pub write-long : (f p n : ℕ) → frameOf fr ≡ Event (Write f p n) → (writeHead ≤ length fr) × (length (drop writeHead fr) ≡ countBytes n)
   unfolding Long
   write-long f p n e = subst Long e frame-long
 
   -- all behind the first five bytes
-  pub rest-is : take (length fr - 5) (drop 5 fr) ≡ drop 5 fr
-  rest-is = take-all (length fr - 5) (drop 5 fr) (omega (arith, length-drop 5 fr))
+  pub rest-is : take (length fr - writeHead) (drop writeHead fr) ≡ drop writeHead fr
+  rest-is = take-all (length fr - writeHead) (drop writeHead fr) (omega (arith, length-drop writeHead fr))

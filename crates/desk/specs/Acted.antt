@@ -6,7 +6,7 @@ use mathlib.Core.Logic.{_⊎_}
 use lib.ListN.{length}
 use lib.Seq.{sets}
 use Rattle.kinds.specs.declared.Answer.{Answer}
-use Rattle.rules.specs.Limits.{bufferBytes}
+use Rattle.rules.specs.Limits.{bufferBytes, answerHead}
 use Rattle.rules.specs.Answers.{answerBytes}
 use Rattle.rules.specs.Reply.{Reply, answers, shows}
 use Rattle.rules.specs.Desk.{Desk, Call, respond}
@@ -25,10 +25,10 @@ pub record Acted (d : Desk) (s : Alloc) (c : Call) (blocks buffers memory xs′ 
   pub reply : respond d c .reply ≡ answers a bytes
   pub size : n ≡ length bytes
   pub most : n ≤ bufferBytes
-  pub behind : memory′ ≡ sets memory 4 bytes
-  pub four : (bytes ≡ []) ⊎ (length (answerBytes a) ≡ 4)
+  pub behind : memory′ ≡ sets memory answerHead bytes
+  pub four : (bytes ≡ []) ⊎ (length (answerBytes a) ≡ answerHead)
 
--- the data behind an answer begin at byte 4
+-- the data behind an answer begin where its head ends
 unfoldable pub Four : Reply → Type 0
-Four (answers a bytes) = (bytes ≡ []) ⊎ (length (answerBytes a) ≡ 4)
+Four (answers a bytes) = (bytes ≡ []) ⊎ (length (answerBytes a) ≡ answerHead)
 Four (shows st bytes) = Unit {0}

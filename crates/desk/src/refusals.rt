@@ -7,6 +7,7 @@ use kinds::operations;
 use kinds::refusals;
 ghost use Prim.Native.Nat.{_≤_};
 ghost use lib.ListN.{length};
+ghost use Rattle.rules.specs.Answers.{mostAnswer};
 ghost use Rattle.judges.specs.Refused.{Stood};
 ghost use Rattle.desk.specs.Refusals.{Twice, Refusal};
 
@@ -15,7 +16,7 @@ const NO_EVENT: u8 = 0;
 
 // Operation and status: an event that is refused has its operation repeated.
 pub fn status(operation: u8, number: u8, answer: &mut [u8]) -> usize
-    requires { ⌜ 10 ≤ length (now answer) ⌝ }
+    requires { ⌜ mostAnswer ≤ length (now answer) ⌝ }
     ensures { λ r. ⌜ Twice operation number (now (answer .entry)) (now (answer .exit)) r ⌝ }
 {
     let refusal = Answer::Status {
@@ -27,7 +28,7 @@ pub fn status(operation: u8, number: u8, answer: &mut [u8]) -> usize
 
 // A frame that is no event is refused: a code that is no control when its turn has come, any other as no frame.
 pub fn refuse(segment: &[u8], said: Frame, answer: &mut [u8]) -> usize
-    requires { ⌜ Stood (now segment) × (10 ≤ length (now answer)) ⌝ }
+    requires { ⌜ Stood (now segment) × (mostAnswer ≤ length (now answer)) ⌝ }
     ensures { λ r. ⌜ Refusal (now (segment .entry)) said (now (answer .entry)) (now (answer .exit)) r ⌝ }
 {
     let Frame::Code { file, acc } = said else {

@@ -5,7 +5,7 @@ ghost use Prim.Native.Nat.{_≤_};
 ghost use lib.ListN.{length};
 ghost use lib.Seq.{sets};
 ghost use Rattle.words.specs.Word.{word};
-ghost use Rattle.rules.specs.Answers.{answerBytes};
+ghost use Rattle.rules.specs.Answers.{answerBytes, mostAnswer};
 use kinds::Answer;
 use kinds::limits::ANSWER_HEAD;
 use kinds::operations;
@@ -74,10 +74,10 @@ fn counted(records: u16, all: u16, writers: u16, readers: u16, out: &mut [u8]) -
 
 // The answer's bytes stand from the first byte of `out`; how many is the result.
 pub fn encode(answer: Answer, out: &mut [u8]) -> usize
-    requires { ⌜ 10 ≤ length (now out) ⌝ }
+    requires { ⌜ mostAnswer ≤ length (now out) ⌝ }
     ensures size { λ r. ⌜ r ≡ length (answerBytes answer) ⌝ }
     ensures bytes { λ _. ⌜ now (out .exit) ≡ sets (now (out .entry)) 0 (answerBytes answer) ⌝ }
-    ensures bound { λ r. ⌜ r ≤ 10 ⌝ }
+    ensures bound { λ r. ⌜ r ≤ mostAnswer ⌝ }
 {
     match answer {
         Answer::Built { capacity } => done_word(operations::BUILD, capacity, out),

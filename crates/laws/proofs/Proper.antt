@@ -6,6 +6,7 @@ use native.Mathlib.Omega.{arith}
 use lib.Dec.{eqb}
 use lib.ListN.{length, getD, drop, length-drop}
 use borrow.Author.Tests.{eqb-true}
+use Rattle.rules.specs.Limits.{writeHead}
 use Rattle.words.specs.Word.{wordAt}
 use Rattle.kinds.specs.declared.Frame.{Frame}
 use Rattle.rules.specs.Count.{countBytes}
@@ -21,7 +22,7 @@ ProperAsked bad = Unit {0}
 
 module _ (fr : List ℕ) where
   Fine : Frame → Type 0
-  Fine x = ProperAsked (frameAsks x (drop 5 fr))
+  Fine x = ProperAsked (frameAsks x (drop writeHead fr))
 
   sized-fine : (n : ℕ) (x : Frame) → (length fr ≡ n → Fine x) → Fine (sized n fr x)
   unfolding sized Fine
@@ -44,7 +45,7 @@ module _ (fr : List ℕ) where
       bothc Fine (eqb (getD fr 0 0) 1) (λ _. sized-fine 8 _ (λ _. tt))
       (λ _. bothc Fine (eqb (getD fr 0 0) 2) (λ _. sized-fine 5 _ (λ _. tt))
       (λ _. bothc Fine (eqb (getD fr 0 0) 3) (λ _. sized-fine 5 _ (λ _. tt))
-      (λ _. bothc Fine (eqb (getD fr 0 0) 4) (λ _. sized-fine (5 + countBytes (wordAt fr 3)) _ (λ e. length-drop 5 fr ∙ less e))
+      (λ _. bothc Fine (eqb (getD fr 0 0) 4) (λ _. sized-fine (writeHead + countBytes (wordAt fr 3)) _ (λ e. length-drop writeHead fr ∙ less e))
       (λ _. bothc Fine (eqb (getD fr 0 0) 5) (λ _. sized-fine 6 _ (λ _. control-fine _ _ _ _))
       (λ _. bothc Fine (eqb (getD fr 0 0) 6) (λ _. sized-fine 3 _ (λ _. tt))
       (λ _. bothc Fine (eqb (getD fr 0 0) 7) (λ _. sized-fine 3 _ (λ _. tt))

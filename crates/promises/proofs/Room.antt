@@ -17,7 +17,7 @@ use Rattle.kinds.specs.declared.Control.the-variants.{Timeout, Verify, Abort, E
 use Rattle.kinds.specs.declared.Frame.{Frame}
 use Rattle.kinds.specs.declared.Frame.the-variants.{Event, Code, Shape}
 use Rattle.kinds.specs.declared.Event.the-variants as event
-use Rattle.rules.specs.Limits.{files, places, mostMode, mostReadBytes, answerRoom}
+use Rattle.rules.specs.Limits.{files, places, mostMode, mostReadBytes, answerRoom, writeHead}
 use Rattle.rules.specs.State.{Rec, Req, idle, reading, writing, readDone, writeDone, Acc, Built, File, unbuilt, built}
 use Rattle.rules.specs.Store.{fetch}
 use Rattle.rules.specs.Count.{countBytes, readable}
@@ -283,12 +283,12 @@ frame-short d Shape v h = plain (Status 0 30)
 -- an answer fits the answer memory
 pub event-fits : (d : Desk) → ((g : ℕ) → g < files → OnFile Fine (fileOf d g)) → (fr : List ℕ) → length (replyBytes (respond d (desk.event fr) .reply)) ≤ answerRoom
 unfolding respond asked Short
-event-fits d h fr = frame-short d (frameOf fr) (drop 5 fr) h .1
+event-fits d h fr = frame-short d (frameOf fr) (drop writeHead fr) h .1
 
 -- "Any other status: operation and status only": no answer is shorter
 pub event-told : (d : Desk) → ((g : ℕ) → g < files → OnFile Fine (fileOf d g)) → (fr : List ℕ) → 2 ≤ length (replyBytes (respond d (desk.event fr) .reply))
 unfolding respond asked Short
-event-told d h fr = frame-short d (frameOf fr) (drop 5 fr) h .0
+event-told d h fr = frame-short d (frameOf fr) (drop writeHead fr) h .0
 
 -- whatever the memories are seen as
 seen-short : (xs blocks buffers : List ℕ) (v : Option Standing) → Seen xs blocks buffers v → (fr : List ℕ) → length (replyBytes (replyOf v (desk.event fr))) ≤ answerRoom

@@ -16,3 +16,7 @@ answerBytes Closed = 7 ∷ 0 ∷ []
 answerBytes Passed = 8 ∷ 0 ∷ []
 answerBytes (Counted records all writers readers) = 9 ∷ 0 ∷ word records ++ word all ++ word writers ++ word readers
 answerBytes (Status operation status) = operation ∷ status ∷ []
+
+-- the longest of them, that of counts
+abbrev pub mostAnswer : ℕ
+mostAnswer = 10

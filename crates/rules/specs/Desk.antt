@@ -9,7 +9,7 @@ use Rattle.kinds.specs.declared.Answer.the-variants.{Passed, Status}
 use Rattle.kinds.specs.declared.Frame.{Frame}
 use Rattle.kinds.specs.declared.Frame.the-variants.{Event, Code, Shape}
 use Rattle.kinds.specs.declared.Event.the-variants.{Build, Open, Read, Write, Control, Collect, Close, Time, Counts}
-use Rattle.rules.specs.Limits.{files}
+use Rattle.rules.specs.Limits.{files, writeHead}
 use Rattle.rules.specs.State.{Hap, File, unbuilt}
 use Rattle.rules.specs.Frames.{frameOf}
 use Rattle.rules.specs.Answers.{answerBytes}
@@ -51,7 +51,7 @@ frameAsks (Code f p) d = on f (control p none)
 frameAsks Shape d = bad
 
 unfoldable pub asked : Call → Asked
-asked (event fr) = frameAsks (frameOf fr) (drop 5 fr)
+asked (event fr) = frameAsks (frameOf fr) (drop writeHead fr)
 asked (look f p) = on f (calls.look p)
 asked (save f n) = on f (calls.save n)
 asked (load f t) = on f (calls.load t)

@@ -4,6 +4,7 @@ use mathlib.Core.List.{List}
 use Prim.Native.Nat.{ℕ, _+_}
 use lib.Dec.{eqb}
 use lib.ListN.{length, getD}
+use Rattle.rules.specs.Limits.{writeHead}
 use Rattle.words.specs.Word.{wordAt}
 use Rattle.kinds.specs.declared.Control.the-variants.{Timeout, Verify, Abort, Extended, Typed, Keep}
 use Rattle.kinds.specs.declared.Event.the-variants.{Build, Open, Read, Write, Control, Collect, Close, Time, Counts}
@@ -33,7 +34,7 @@ frameOf fr =
     cond (eqb (b 0) 1) (sized 8 fr (Event (Build (b 1) (w 2) (b 4) (w 5) (b 7))))
     (cond (eqb (b 0) 2) (sized 5 fr (Event (Open (b 1) (b 2) (b 3) (b 4))))
     (cond (eqb (b 0) 3) (sized 5 fr (Event (Read (b 1) (b 2) (w 3))))
-    (cond (eqb (b 0) 4) (sized (5 + countBytes (w 3)) fr (Event (Write (b 1) (b 2) (w 3))))
+    (cond (eqb (b 0) 4) (sized (writeHead + countBytes (w 3)) fr (Event (Write (b 1) (b 2) (w 3))))
     (cond (eqb (b 0) 5) (sized 6 fr (controlFrame (b 1) (b 2) (b 3) (w 4)))
     (cond (eqb (b 0) 6) (sized 3 fr (Event (Collect (b 1) (b 2))))
     (cond (eqb (b 0) 7) (sized 3 fr (Event (Close (b 1) (b 2))))

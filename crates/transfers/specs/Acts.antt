@@ -5,7 +5,7 @@ use mathlib.Core.List.{List}
 use lib.ListN.{length}
 use lib.Seq.{sets}
 use Rattle.kinds.specs.declared.Answer.{Answer}
-use Rattle.rules.specs.Limits.{bufferBytes}
+use Rattle.rules.specs.Limits.{bufferBytes, answerHead}
 use Rattle.rules.specs.State.{Built}
 use Rattle.rules.specs.Settle.{settle}
 use Rattle.rules.specs.Reply.{answers, Out, leaves}
@@ -19,10 +19,10 @@ pub record Acts (f : ℕ) (o : Start) (x : Out) (xs blocks buffers : List ℕ) (
   pub mid : Mid Fine f o xs blocks buffers file acted
   pub out : x ≡ leaves (answers a bytes) (settle acted)
 
--- a read has: n bytes of data stand from byte 4 of the answer memory on
+-- a read has: n bytes of data stand behind the answer's head
 pub record Hands (f : ℕ) (o : Start) (x : Out) (xs blocks buffers memory memory′ : List ℕ) (file : hand.File) (a : Answer) (n : ℕ) : Type 0 where
   pub bytes : List ℕ
   pub acts : Acts f o x xs blocks buffers file a bytes
   pub size : n ≡ length bytes
   pub most : n ≤ bufferBytes
-  pub behind : memory′ ≡ sets memory 4 bytes
+  pub behind : memory′ ≡ sets memory answerHead bytes

@@ -4,7 +4,7 @@ ghost use mathlib.Core.List.{List};
 ghost use Prim.Native.Nat.{ℕ, _≤_};
 ghost use lib.ListN.{length};
 ghost use lib.Seq.{sets};
-ghost use Rattle.rules.specs.Limits.{bufferBytes, answerRoom};
+ghost use Rattle.rules.specs.Limits.{bufferBytes, answerRoom, answerHead};
 ghost use Rattle.rules.specs.Settle.{handed};
 ghost use Rattle.rules.specs.Calls.{ask};
 ghost use Rattle.rules.specs.Calls as calls;
@@ -49,7 +49,7 @@ fn give(own: &[u8], answer: &mut [u8], at: usize, typed: bool, limit: u16) -> u1
     requires { ⌜ Readable (now own) at × (length (now answer) ≡ answerRoom) ⌝ }
     requires { ⌜ length (handed typed limit (recAt (now own) at)) ≤ bufferBytes ⌝ }
     ensures size { λ r. ⌜ r ≡ length (handed typed limit (recAt (now (own .entry)) at)) ⌝ }
-    ensures answer { λ _. ⌜ now (answer .exit) ≡ sets (now (answer .entry)) 4 (handed typed limit (recAt (now (own .entry)) at)) ⌝ }
+    ensures answer { λ _. ⌜ now (answer .exit) ≡ sets (now (answer .entry)) answerHead (handed typed limit (recAt (now (own .entry)) at)) ⌝ }
 {
     let bytes = handed(own, at, typed, limit);
     words::copy(answer, ANSWER_HEAD, bytes);
