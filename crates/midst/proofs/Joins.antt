@@ -33,7 +33,8 @@ use Rattle.memory.specs.Image.{reqWords, timerWords, fileWords, placeWords, lis
 use Rattle.memory.proofs.Image.{listOf-free, listOf-timers, boxOf-free, boxOf-timers}
 use Rattle.memory.proofs.Boxes.{getD-listsOf, getD-boxesOf}
 use Rattle.midst.specs.Seg.{Seg, queueAt, sideQueue}
-use Rattle.midst.proofs.Lists.{At, Change, at-set, seg-again, entriesIn, wordsIn, below-side, list-side, box-side, is-now, same-queue, same-entries, same-words, same-port, same-timers, keep-queue, keep-port, timers-held, at-rest, same-rows}
+use Rattle.midst.proofs.Lists.{At, at-set, seg-again, entriesIn, wordsIn, below-side, list-side, box-side}
+use Rattle.midst.proofs.OnePlace.{Change, is-now, same-queue, same-entries, same-words, same-port, same-timers, keep-queue, keep-port, timers-held, at-rest, same-rows}
 
 -- an entry is taken
 

@@ -3,6 +3,7 @@ pub mod Begins
 pub mod Fills
 pub mod Rows
 pub mod Lists
+pub mod OnePlace
 pub mod Lows
 pub mod Joins
 pub mod Waits

@@ -30,7 +30,8 @@ use Rattle.laws.proofs.Allots.{steps-takeOwn, heldAt-takeOwn, steps-takeTimer, 
 use Rattle.laws.proofs.Happenings.{open-below, idle-holds}
 use Rattle.memory.specs.Image.{reqWords, placeWords}
 use Rattle.midst.specs.Seg.{Seg, queueAt, sideQueue}
-use Rattle.midst.proofs.Lists.{Low, Change, file-same, file-other, place-under}
+use Rattle.midst.proofs.Lists.{Low, file-same, file-other, place-under}
+use Rattle.midst.proofs.OnePlace.{Change}
 use Rattle.midst.proofs.Joins.{armsAt, seg-free, seg-queue, seg-arm}
 
 -- one more has happened
