@@ -3,6 +3,7 @@ pub mod Still
 pub mod Same
 pub mod Refused
 pub mod Events
+pub mod Short
 pub mod Room
 pub mod Unbuilt
 pub mod Fits
