@@ -1,5 +1,6 @@
 pub mod Split
 pub mod All
+pub mod Vocabulary
 pub mod Script
 pub mod Worked
 pub mod SessionsGeometry

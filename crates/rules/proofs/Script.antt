@@ -1,20 +1,13 @@
--- Sessions as document 01 writes them: a line of input and the line that is printed.
+-- Sessions: what is asked and what is told, in the words of `Vocabulary`, and the calls that have no frame.
 use mathlib.Core.Path.{_≡_}
 use mathlib.Core.List.{List, [], _∷_, _++_, map}
 use Prim.Native.Nat.{ℕ}
 use Prim.Native.String.{String}
-use Prim.Native.String as string
-use Prim.Native.Char.{code}
-use Rattle.rules.specs.Line.{bytesOf, lineFrame}
 use Rattle.rules.specs.Answers.{answerBytes}
 use Rattle.rules.specs.Reply.{Reply, answers, shows}
 use Rattle.rules.specs.Desk.{Call, event, Desk, freshDesk, replies, after}
 use Rattle.rules.specs.Desk as desk
-
--- the bytes of a quoted text
-unfoldable pub text : String → List ℕ
-text string.[] = []
-text (string._∷_ c s) = code c ∷ text s
+use Rattle.rules.proofs.Vocabulary.{text, said, bytes, Asked, frame, Told, answer, told}
 
 -- texts, each ended by LF
 unfoldable pub lines : List String → List ℕ
@@ -23,8 +16,8 @@ lines (s ∷ l) = text s ++ (10 ∷ lines l)
 
 infix 90 _⇒_
 pub data Exchange : Type 0 where
-  -- a line, and the answer's
-  _⇒_ : String → String → Exchange
+  -- a frame, and the answer to it
+  _⇒_ : Asked → Told → Exchange
   -- look at a file's reader: status, and the bytes shown, in hexadecimal
   looks : ℕ → ℕ → ℕ → String → Exchange
   -- save a file into so many bytes: status, and the sheet's lines
@@ -33,15 +26,15 @@ pub data Exchange : Type 0 where
   loads : ℕ → List String → String → ℕ → Exchange
 
 unfoldable pub call : Exchange → Call
-call (ask ⇒ told) = event (lineFrame (text ask))
-call (looks f p st told) = desk.look f p
-call (saves f n st told) = desk.save f n
+call (a ⇒ t) = event (frame a)
+call (looks f p st d) = desk.look f p
+call (saves f n st l) = desk.save f n
 call (loads f l rest st) = desk.load f (lines l ++ text rest)
 
 unfoldable pub expected : Exchange → List ℕ
-expected (ask ⇒ told) = bytesOf (text told)
-expected (looks f p st told) = st ∷ bytesOf (text told)
-expected (saves f n st told) = st ∷ lines told
+expected (a ⇒ t) = told a t
+expected (looks f p st d) = st ∷ said d
+expected (saves f n st l) = st ∷ lines l
 expected (loads f l rest st) = st ∷ []
 
 unfoldable pub heard : Reply → List ℕ
@@ -58,5 +51,5 @@ Holds l = map heard (replies freshDesk (map call l)) ≡ map expected l
 
 -- all that a script computes by
 unfoldable pub Plays : ℕ
-unfolding text lines call expected heard played
+unfolding text said bytes frame answer told lines call expected heard played
 Plays = 0

@@ -6,15 +6,15 @@ use Prim.Native.String.{String}
 use lib.ListN.{length, take, drop}
 use Rattle.words.specs.Word.{zeros}
 use Rattle.rules.specs.Limits.{shareBytes, bufferBytes}
-use Rattle.rules.specs.Line.{bytesOf}
 use Rattle.rules.specs.Desk.{fileOf}
 use Rattle.rules.specs.Memories.{blocks, buffers}
 use Rattle.rules.proofs.All.{All}
-use Rattle.rules.proofs.Script.{text, Exchange, _⇒_, loads, played, Plays}
+use Rattle.rules.proofs.Vocabulary.{said, builds, opens, reads, writes, collects, closes, bytes, built, opened, got, wrote, done, waiting, refused}
+use Rattle.rules.proofs.Script.{Exchange, _⇒_, loads, played, Plays}
 
 -- n bytes that begin with these
 unfoldable pub startsWith : ℕ → String → List ℕ
-startsWith n s = bytesOf (text s) ++ zeros (n - length (bytesOf (text s)))
+startsWith n s = said s ++ zeros (n - length (said s))
 
 -- file f's share, and the buffer of its accessor place p
 unfoldable pub shareAt : ℕ → List Exchange → List ℕ
@@ -26,10 +26,10 @@ bufferAt f p l = take bufferBytes (drop (bufferBytes * (8 * f + p)) (buffers (pl
 -- R 2, B 2, two data blocks of 12 words: "word 0 records put, word 1 words used with these two"; a record is "a word with the bytes that follow
 -- (4 + data), a type word (0 data, 1 open, 2 close), the writer's ID, and data, padded with one zero byte if odd"
 pub two-blocks : shareAt 1 (
-    "0101000202000201" ⇒ "01000004"
-    ∷ "0201030100" ⇒ "0200000001"
-    ∷ "040100FFFD414243" ⇒ "04000003"
-    ∷ "04010000014445" ⇒ "04000001"
+    builds 1 2 2 2 1 ⇒ built 4
+    ∷ opens 1 3 1 0 ⇒ opened 0 1
+    ∷ writes 1 0 (bytes 3) "414243" ⇒ wrote 3
+    ∷ writes 1 0 1 "4445" ⇒ wrote 1
     ∷ [])
     ≡ startsWith shareBytes "0002000A00040001000100070000000141424300000000000001000600060000000144450000000000000000000000"
 unfolding All Plays shareAt startsWith
@@ -38,16 +38,16 @@ two-blocks = refl
 -- a file that becomes empty goes on at the next block, although the last was not full; a block is zeroed whole at its first put, and what was read
 -- stays in the others
 pub next-block : shareAt 0 (
-    "0100000202000201" ⇒ "01000004"
-    ∷ "0200030300" ⇒ "0200000001"
-    ∷ "04000000014142" ⇒ "04000001"
-    ∷ "04000000014344" ⇒ "04000001"
-    ∷ "0200000300" ⇒ "0200010000"
-    ∷ "0300010001" ⇒ "030000014142"
-    ∷ "0300010001" ⇒ "030000014344"
-    ∷ "0400000000" ⇒ "04000000"
-    ∷ "0300010001" ⇒ "03000000"
-    ∷ "0400000001FFFE" ⇒ "04000001"
+    builds 0 2 2 2 1 ⇒ built 4
+    ∷ opens 0 3 3 0 ⇒ opened 0 1
+    ∷ writes 0 0 1 "4142" ⇒ wrote 1
+    ∷ writes 0 0 1 "4344" ⇒ wrote 1
+    ∷ opens 0 0 3 0 ⇒ opened 1 0
+    ∷ reads 0 1 1 ⇒ got 1 "4142"
+    ∷ reads 0 1 1 ⇒ got 1 "4344"
+    ∷ writes 0 0 0 "" ⇒ wrote 0
+    ∷ reads 0 1 1 ⇒ got 0 ""
+    ∷ writes 0 0 1 "FFFE" ⇒ wrote 1
     ∷ [])
     ≡ startsWith shareBytes "00010005000400000001000000000000000000000000000000010006000600000001FFFE00000000000000000000000000"
 unfolding All Plays shareAt startsWith
@@ -55,23 +55,23 @@ next-block = refl
 
 -- a purge of one record at least goes on at the block after the last record's; of an empty file it moves nothing
 pub purge-moves : shareAt 0 (
-    "0100000101000101" ⇒ "01000003"
-    ∷ "0200010100" ⇒ "0200000001"
-    ∷ "070000" ⇒ "0700"
-    ∷ "0200010100" ⇒ "0200000001"
+    builds 0 1 1 1 1 ⇒ built 3
+    ∷ opens 0 1 1 0 ⇒ opened 0 1
+    ∷ closes 0 0 ⇒ done
+    ∷ opens 0 1 1 0 ⇒ opened 0 1
     ∷ [])
     ≡ startsWith shareBytes "000100050004000100010000000100050004000200010000000100050004000100010000"
 unfolding All Plays shareAt startsWith
 purge-moves = refl
 
-pub purge-of-nothing : shareAt 0 ("0100000101000101" ⇒ "01000003" ∷ "0200010100" ⇒ "0200000001" ∷ []) ≡ startsWith shareBytes "00010005000400010001"
+pub purge-of-nothing : shareAt 0 (builds 0 1 1 1 1 ⇒ built 3 ∷ opens 0 1 1 0 ⇒ opened 0 1 ∷ []) ≡ startsWith shareBytes "00010005000400010001"
 unfolding All Plays shareAt startsWith
 purge-of-nothing = refl
 
 -- "Load packs the records from the share's first block", and the next put goes on behind them
 pub packed : shareAt 2 (
     loads 2 ("0100020200020003" ∷ "00010007" ∷ "00000007FF" ∷ "00020007" ∷ []) "" 0
-    ∷ "0202030000" ⇒ "022A"
+    ∷ opens 2 3 0 0 ⇒ refused 42
     ∷ [])
     ≡ startsWith shareBytes "00020009000400010007000500000007FF00000000000000000100050004000200070000000000000000000000000000"
 unfolding All Plays shareAt startsWith
@@ -79,10 +79,10 @@ packed = refl
 
 -- "A completed read's record, or a waiting write's data, lies at the start of the accessor's buffer, which is otherwise zero."
 pub waiting-data : bufferAt 0 1 (
-    "0100000401000201" ⇒ "01000004"
-    ∷ "0200030300" ⇒ "0200000001"
-    ∷ "0200030300" ⇒ "0200010002"
-    ∷ "040001FFFD414243" ⇒ "0401"
+    builds 0 4 1 2 1 ⇒ built 4
+    ∷ opens 0 3 3 0 ⇒ opened 0 1
+    ∷ opens 0 3 3 0 ⇒ opened 1 2
+    ∷ writes 0 1 (bytes 3) "414243" ⇒ waiting
     ∷ [])
     ≡ startsWith bufferBytes "414243"
 unfolding All Plays bufferAt startsWith
@@ -91,16 +91,16 @@ waiting-data = refl
 -- the writer's is zero again once it no longer waits, and the reader's holds the record as it will be answered, until it is collected
 unfoldable pub handed-over : List Exchange
 handed-over =
-    "0100000401000201" ⇒ "01000004"
-    ∷ "0200030300" ⇒ "0200000001"
-    ∷ "0200030300" ⇒ "0200010002"
-    ∷ "040001FFFD414243" ⇒ "0401"
-    ∷ "0200000300" ⇒ "0200020000"
-    ∷ "030002FFFE" ⇒ "0301"
+    builds 0 4 1 2 1 ⇒ built 4
+    ∷ opens 0 3 3 0 ⇒ opened 0 1
+    ∷ opens 0 3 3 0 ⇒ opened 1 2
+    ∷ writes 0 1 (bytes 3) "414243" ⇒ waiting
+    ∷ opens 0 0 3 0 ⇒ opened 2 0
+    ∷ reads 0 2 (bytes 2) ⇒ waiting
     ∷ []
 
 pub handed-on : (bufferAt 0 1 handed-over ≡ zeros bufferBytes)
     × (bufferAt 0 2 handed-over ≡ startsWith bufferBytes "4142")
-    × (bufferAt 0 2 (handed-over ++ ("060002" ⇒ "060000024142" ∷ [])) ≡ zeros bufferBytes)
+    × (bufferAt 0 2 (handed-over ++ (collects 0 2 ⇒ got 2 "4142" ∷ [])) ≡ zeros bufferBytes)
 unfolding All Plays bufferAt startsWith handed-over
 handed-on = (refl, refl, refl)

@@ -8,7 +8,8 @@ use Rattle.rules.specs.Line.{digitsOf, lineFrame}
 use Rattle.rules.specs.Reply.{answers}
 use Rattle.rules.specs.Desk.{event, respond, program}
 use Rattle.rules.proofs.All.{All}
-use Rattle.rules.proofs.Script.{text, lines, _⇒_, played, Plays}
+use Rattle.rules.proofs.Vocabulary.{text, builds, opens, built, opened}
+use Rattle.rules.proofs.Script.{lines, _⇒_, played, Plays}
 
 -- "lines ended by LF (the last may lack it)": no line follows the last LF, and an empty line is an empty frame
 pub last-line : (program (text "0900\n08") ≡ lines ("091F" ∷ "001E" ∷ []))
@@ -29,6 +30,6 @@ unfolding All
 longest-line = (refl, refl)
 
 -- the event call takes a frame of any length by its shape: −32768 is 32,768 bytes, above 2R (35)
-pub largest-count : respond (played ("0100000401000101" ⇒ "01000003" ∷ "0200030100" ⇒ "0200000001" ∷ [])) (event (4 ∷ 0 ∷ 0 ∷ 128 ∷ 0 ∷ zeros 32768)) .reply ≡ answers (Status 4 35) []
+pub largest-count : respond (played (builds 0 4 1 1 1 ⇒ built 3 ∷ opens 0 3 1 0 ⇒ opened 0 1 ∷ [])) (event (4 ∷ 0 ∷ 0 ∷ 128 ∷ 0 ∷ zeros 32768)) .reply ≡ answers (Status 4 35) []
 unfolding All Plays
 largest-count = refl

@@ -2,20 +2,21 @@
 use mathlib.Core.Path.{_≡_, refl}
 use mathlib.Core.List.{List, [], _∷_}
 use Rattle.rules.proofs.All.{All}
+use Rattle.rules.proofs.Vocabulary.{builds, opens, reads, writes, closes, counts, built, opened, got, wrote, counted, done, refused}
 use Rattle.rules.proofs.Script.{_⇒_, saves, loads, Holds, Plays}
 
 -- exactly enough output is enough; one byte short: 44; not built: 31; load of a built file: 31
 pub save-and-its-room : Holds (
-    "0100000401000101" ⇒ "01000003"
-    ∷ "0200030100" ⇒ "0200000001"
-    ∷ "040000000241424344" ⇒ "04000002"
+    builds 0 4 1 1 1 ⇒ built 3
+    ∷ opens 0 3 1 0 ⇒ opened 0 1
+    ∷ writes 0 0 2 "41424344" ⇒ wrote 2
     ∷ saves 0 43 0 ("0100040100030002" ∷ "00010001" ∷ "0000000141424344" ∷ [])
     ∷ saves 0 42 44 []
     ∷ saves 1 100 31 []
     ∷ saves 8 100 31 []
     ∷ loads 0 ("0100040100030002" ∷ "00010001" ∷ "0000000141424344" ∷ []) "" 31
     ∷ loads 8 ("0100040100030002" ∷ "00010001" ∷ "0000000141424344" ∷ []) "" 31
-    ∷ "0900" ⇒ "09000001000200010000"
+    ∷ counts 0 ⇒ counted 1 2 1 0
     ∷ [])
 unfolding All Plays
 save-and-its-room = refl
@@ -24,10 +25,10 @@ save-and-its-room = refl
 pub load-and-its-sheet : Holds (
     loads 3 ("0100040100030002" ∷ "00010001" ∷ "0000000141424344" ∷ []) "" 0
     ∷ saves 3 43 0 ("0100040100030002" ∷ "00010001" ∷ "0000000141424344" ∷ [])
-    ∷ "0903" ⇒ "09000001000200000000"
-    ∷ "0203000100" ⇒ "0200000000"
-    ∷ "0303000004" ⇒ "0300000241424344"
-    ∷ "0903" ⇒ "09000000000000000001"
+    ∷ counts 3 ⇒ counted 1 2 0 0
+    ∷ opens 3 0 1 0 ⇒ opened 0 0
+    ∷ reads 3 0 4 ⇒ got 2 "41424344"
+    ∷ counts 3 ⇒ counted 0 0 0 1
     ∷ [])
 unfolding All Plays
 load-and-its-sheet = refl
@@ -35,12 +36,12 @@ load-and-its-sheet = refl
 -- used = records held: a loaded file may be full, and then takes a writer only after a purge
 pub loaded-full : Holds (
     loads 0 ("0100040100030003" ∷ "00010001" ∷ "0000000141424344" ∷ "00020001" ∷ []) "" 0
-    ∷ "0200030100" ⇒ "022A"
-    ∷ "0200000100" ⇒ "0200000000"
-    ∷ "0200030100" ⇒ "022A"
-    ∷ "070000" ⇒ "0700"
-    ∷ "0200010100" ⇒ "0200000001"
-    ∷ "0900" ⇒ "09000000000100010000"
+    ∷ opens 0 3 1 0 ⇒ refused 42
+    ∷ opens 0 0 1 0 ⇒ opened 0 0
+    ∷ opens 0 3 1 0 ⇒ refused 42
+    ∷ closes 0 0 ⇒ done
+    ∷ opens 0 1 1 0 ⇒ opened 0 1
+    ∷ counts 0 ⇒ counted 0 1 1 0
     ∷ [])
 unfolding All Plays
 loaded-full = refl
@@ -70,7 +71,7 @@ pub not-a-sheet : Holds (
     ∷ loads 0 ("0100040100030001" ∷ "0000000141a2" ∷ []) "" 43
     ∷ loads 0 ("0100040100030001" ∷ "000000014" ∷ []) "" 43
     ∷ loads 0 ("0100040100030000" ∷ "-" ∷ []) "" 43
-    ∷ "0900" ⇒ "091F"
+    ∷ counts 0 ⇒ refused 31
     ∷ loads 0 ("0100040100030001" ∷ "00020001" ∷ []) "" 0
     ∷ [])
 unfolding All Plays

@@ -4,6 +4,7 @@ use mathlib.Core.List.{List, [], _∷_}
 use Prim.Native.String.{String}
 use Rattle.rules.specs.Desk.{program}
 use Rattle.rules.proofs.All.{All}
+use Rattle.rules.proofs.Vocabulary.{line, prints}
 use Rattle.rules.proofs.Script.{lines, _⇒_, saves, loads, Holds, Plays}
 
 -- the event program, given on standard input .. prints ..
@@ -39,9 +40,9 @@ worked = refl
 
 -- "After the third line the sheet is"
 pub sheet-after-third : Holds (
-    "0100000401000101" ⇒ "01000003"
-    ∷ "0200030100" ⇒ "0200000001"
-    ∷ "040000000241424344" ⇒ "04000002"
+    line "0100000401000101" ⇒ prints "01000003"
+    ∷ line "0200030100" ⇒ prints "0200000001"
+    ∷ line "040000000241424344" ⇒ prints "04000002"
     ∷ saves 0 43 0 ("0100040100030002" ∷ "00010001" ∷ "0000000141424344" ∷ [])
     ∷ [])
 unfolding All Plays
