@@ -1,6 +1,9 @@
 //! Calls that are refused, mostly: numbers out of range, wrong sides, damaged frames.
 
-use super::frames::{build_frame, control_frame, read_frame, write_frame};
+use super::frames::{
+    build_frame, close_frame, collect_frame, control_frame, counts_frame, open_frame, read_frame,
+    write_frame,
+};
 use super::{Call, Generator};
 use crate::model::desk::Desk;
 
@@ -65,17 +68,17 @@ impl Generator {
             14 => {
                 let access = random.pick(&[0, 1, 2, 3, 4, 255]);
                 let share = random.pick(&[0, 1, 2, 3, 4]);
-                vec![2, file, access, share, random.pick(&[0, 1, 2, 3, 4])]
+                open_frame(file, access, share, random.pick(&[0, 1, 2, 3, 4]))
             }
             15 => {
                 let access = random.pick(&[0, 1, 2, 3]);
                 let share = random.pick(&[0, 1, 2, 3]);
-                vec![2, file, access, share, random.pick(&[0, 3])]
+                open_frame(file, access, share, random.pick(&[0, 3]))
             }
             16 => self.bad_build(desk, file),
-            17 => vec![6, file, random.pick(&[place, place, 8, 255])],
-            18 => vec![7, file, random.pick(&[place, 8, 255])],
-            19 => vec![9, random.pick(&[8, 255, 0, 1, 2, 3, 4, 5, 6, 7])],
+            17 => collect_frame(file, random.pick(&[place, place, 8, 255])),
+            18 => close_frame(file, random.pick(&[place, 8, 255])),
+            19 => counts_frame(random.pick(&[8, 255, 0, 1, 2, 3, 4, 5, 6, 7])),
             // The wrong side: a reader writes, a writer reads.
             20 => read_frame(file, place, 2),
             21 => write_frame(file, place, 0, &[]),
@@ -106,7 +109,7 @@ impl Generator {
                 }
             }
         }
-        vec![9, file]
+        counts_frame(file)
     }
 
     fn damaged_frame(&mut self, mut frame: Vec<u8>) -> Vec<u8> {

@@ -1,6 +1,9 @@
 //! Calls that make sense where the file stands, each with a weight.
 
-use super::frames::{control_frame, read_frame, time_frame, write_frame};
+use super::frames::{
+    close_frame, collect_frame, control_frame, counts_frame, open_frame, read_frame, time_frame,
+    write_frame,
+};
 use super::{Call, Generator, Mood};
 use crate::model::accessor::Accessor;
 use crate::model::desk::Desk;
@@ -19,7 +22,7 @@ impl Generator {
         self.open_calls(f, file, &mut candidates);
         self.time_calls(desk, &mut candidates);
         self.other_calls(desk, f, file, &mut candidates);
-        self.random.weighted(candidates).unwrap_or(Call::Event(vec![9, file]))
+        self.random.weighted(candidates).unwrap_or(Call::Event(counts_frame(file)))
     }
 
     fn accessor_calls(
@@ -46,12 +49,12 @@ impl Generator {
             _ => 4,
         };
         let close = if accessor.request.is_some() { (close + 1) / 2 } else { close };
-        into.push((close, Call::Event(vec![7, file, place])));
+        into.push((close, Call::Event(close_frame(file, place))));
     }
 
     fn waiting_calls(&mut self, file: u8, place: u8, into: &mut Candidates) {
         let param = self.random.next() as u16;
-        into.push((4, Call::Event(vec![6, file, place])));
+        into.push((4, Call::Event(collect_frame(file, place))));
         into.push((3, Call::Event(control_frame(file, place, 43, param))));
         let code = self.random.pick(&[4, 6, 45, 46, 47, 48, 99]);
         into.push((1, Call::Event(control_frame(file, place, code, 1))));
@@ -60,7 +63,7 @@ impl Generator {
 
     fn completed_calls(&mut self, f: &MessageFile, file: u8, place: u8, into: &mut Candidates) {
         let collect = if self.mood == Mood::Starve { 20 } else { 35 };
-        into.push((collect, Call::Event(vec![6, file, place])));
+        into.push((collect, Call::Event(collect_frame(file, place))));
         into.push((2, Call::Event(control_frame(file, place, 43, 0))));
         into.push((4, Call::Look(file.into(), place.into())));
         into.push((1, Call::Event(read_frame(file, place, 4))));
@@ -184,7 +187,7 @@ impl Generator {
         let no_room = access > 0 && f.used() + f.writers() + 2 > f.geometry.capacity();
         let weight = if forbidden || no_room { 1 } else { weight.min(many) };
         let multi = self.random.pick(&[0, 1, 2]);
-        into.push((weight, Call::Event(vec![2, file, access, share, multi])));
+        into.push((weight, Call::Event(open_frame(file, access, share, multi))));
     }
 
     fn time_calls(&mut self, desk: &Desk, into: &mut Candidates) {
@@ -208,7 +211,7 @@ impl Generator {
     }
 
     fn other_calls(&mut self, desk: &Desk, f: &MessageFile, file: u8, into: &mut Candidates) {
-        into.push((4, Call::Event(vec![9, file])));
+        into.push((4, Call::Event(counts_frame(file))));
         let needed = desk.save(file.into(), usize::MAX).1.len();
         let room = match self.random.below(6) {
             0 => needed - 1,

@@ -5,7 +5,7 @@ use super::case::Case;
 use super::program::Library;
 use super::reached::Reached;
 use super::tally::Tally;
-use crate::generator::frames::{build_frame, control_frame, read_frame, write_frame};
+use crate::generator::frames::{build_frame, control_frame, open_frame, read_frame, write_frame};
 use crate::generator::random::Random;
 use crate::generator::Call;
 
@@ -85,7 +85,7 @@ fn opens(file: u8) -> Vec<Vec<u8>> {
     for access in [0, 1, 2, 3, 4, 255] {
         for share in [0, 1, 2, 3, 4, 255] {
             for multi in [0, 1, 2, 3, 4, 255] {
-                frames.push(vec![2, file, access, share, multi]);
+                frames.push(open_frame(file, access, share, multi));
             }
         }
     }

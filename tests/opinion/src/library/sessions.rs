@@ -8,7 +8,7 @@ use super::program::Library;
 use super::sheets::comes_back;
 use super::tally::Tally;
 use super::twin::Twin;
-use crate::generator::frames::{build_frame, control_frame, read_frame, write_frame};
+use crate::generator::frames::{build_frame, control_frame, open_frame, read_frame, write_frame};
 use crate::generator::random::Random;
 use crate::generator::Call;
 use crate::model::desk::Desk;
@@ -50,7 +50,7 @@ pub fn full_house(files: Range<u8>, random: &mut Random) -> Vec<Vec<u8>> {
         frames.push(build_frame(file, random.between(1, 4), 4, 14, 1));
         let writes = random.percent(50);
         for place in 0..8 {
-            frames.push(vec![2, file, if writes { 3 } else { 0 }, 3, 0]);
+            frames.push(open_frame(file, if writes { 3 } else { 0 }, 3, 0));
             frames.push(control_frame(file, place, 4, random.between(1, 9) as u16));
             waits.push(match writes {
                 true => write_frame(file, place, 1, &[file, place]),

@@ -1,6 +1,12 @@
 //! What is called in two runs that agree on a file, and what is read of that file and compared.
 
 use super::after;
+use super::vocabulary::Told::{Built, Opened, Waiting};
+use super::vocabulary::{builds, controls, opens, passes, reads, Asked};
+use crate::generator::frames::{
+    build_frame, close_frame, collect_frame, control_frame, counts_frame, open_frame, read_frame,
+    write_frame,
+};
 use crate::generator::Call;
 use crate::library::isolation::own::own_calls;
 use crate::library::isolation::part::Part;
@@ -14,18 +20,18 @@ use crate::outcome::{make_call, Outcome};
 fn what_a_call_names() {
     let frame = |bytes: &[u8]| named(&Call::Event(bytes.to_vec()));
     for shape in [
-        &[1, 5, 0, 4, 1, 0, 1, 1][..],
-        &[2, 5, 0, 0, 0],
-        &[3, 5, 0, 0, 4],
-        &[4, 5, 0, 0, 1, 65, 66],
-        &[4, 5, 0, 255, 255, 65],
-        &[5, 5, 0, 4, 0, 1],
-        &[6, 5, 0],
-        &[7, 5, 0],
-        &[9, 5],
+        build_frame(5, 4, 1, 1, 1),
+        open_frame(5, 0, 0, 0),
+        read_frame(5, 0, 4),
+        write_frame(5, 0, 1, b"AB"),
+        write_frame(5, 0, -1, b"A"),
+        control_frame(5, 0, 4, 1),
+        collect_frame(5, 0),
+        close_frame(5, 0),
+        counts_frame(5),
     ] {
-        assert_eq!(frame(shape), Named::File(5));
-        assert_eq!(frame(&[shape, &[0]].concat()), Named::Nothing);
+        assert_eq!(frame(&shape), Named::File(5));
+        assert_eq!(frame(&[&shape[..], &[0]].concat()), Named::Nothing);
         assert_eq!(frame(&shape[..shape.len() - 1]), Named::Nothing);
     }
     assert_eq!(frame(&[8, 5, 0]), Named::Time);
@@ -37,28 +43,33 @@ fn what_a_call_names() {
 }
 
 /// File 1: one reader's request timed out, and another waits with seven seconds left.
-const LINES: [&str; 8] = [
-    "0101000401000101",
-    "0201000300",
-    "0201000300",
-    "050100040002",
-    "050101040009",
-    "0301000004",
-    "0301010004",
-    "080002",
-];
+fn lines() -> [Asked; 8] {
+    [
+        builds(1, 4, 1, 1, 1),
+        opens(1, 0, 3, 0),
+        opens(1, 0, 3, 0),
+        controls(1, 0, 4, 2),
+        controls(1, 1, 4, 9),
+        reads(1, 0, 4),
+        reads(1, 1, 4),
+        passes(2),
+    ]
+}
 
 fn one_file() -> Memories {
     let mut desk = Desk::fresh();
-    LINES.iter().for_each(|line| drop(desk.line(line.as_bytes())));
+    lines().iter().for_each(|line| drop(desk.line(line)));
     desk.memories()
 }
 
 /// The same on a desk at which file 0 has a waiting reader.
 fn two_files() -> Memories {
-    let first = [("0100000401000101", "01000003"), ("0200000100", "0200000000")];
-    let mut desk = after(&[&first[..], &[("0300000004", "0301")]].concat());
-    LINES.iter().for_each(|line| drop(desk.line(line.as_bytes())));
+    let mut desk = after(&[
+        (builds(0, 4, 1, 1, 1), Built(3)),
+        (opens(0, 0, 1, 0), Opened(0, 0)),
+        (reads(0, 0, 4), Waiting),
+    ]);
+    lines().iter().for_each(|line| drop(desk.line(line)));
     desk.memories()
 }
 

@@ -1,5 +1,6 @@
 //! Programs that stand in for desk.c answer a call, and the comparison says what is wrong with it.
 
+use crate::generator::frames::counts_frame;
 use crate::generator::Call;
 use crate::library::twin::Twin;
 use crate::library::Library;
@@ -30,7 +31,7 @@ fn compared(answer: &[u8], then: &str) -> String {
     let library = Library::new(&["sh", "-c", &script]).unwrap();
     let mut twin = Twin::of(&library, &Desk::fresh().memories());
     // Counts of a file that is not built: refusal 31.
-    match twin.call(&Call::Event(vec![9, 0])) {
+    match twin.call(&Call::Event(counts_frame(0))) {
         Ok(_) => "they agree".to_string(),
         Err(difference) => difference,
     }

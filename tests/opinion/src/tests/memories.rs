@@ -1,5 +1,7 @@
 //! The three memories: what a desk's bytes are, and that they are read back as that desk.
 
+use super::vocabulary::Told::{Built, Done, Opened, Waiting};
+use super::vocabulary::{builds, controls, opens, passes, reads};
 use super::{after, WORKED};
 use crate::generator::Generator;
 use crate::model::desk::Desk;
@@ -39,14 +41,14 @@ fn the_worked_session_while_a_write_waits() {
 #[test]
 fn a_completed_read_and_a_timer() {
     let desk = after(&[
-        ("0107000401000101", "01000003"),
-        ("0207000300", "0200000000"),
-        ("0207000300", "0200010000"),
-        ("050701040009", "0500"),
-        ("050700040007", "0500"),
-        ("0307000004", "0301"),
-        ("030701FFF8", "0301"),
-        ("080007", "0800"),
+        (builds(7, 4, 1, 1, 1), Built(3)),
+        (opens(7, 0, 3, 0), Opened(0, 0)),
+        (opens(7, 0, 3, 0), Opened(1, 0)),
+        (controls(7, 1, 4, 9), Done),
+        (controls(7, 0, 4, 7), Done),
+        (reads(7, 0, 4), Waiting),
+        (reads(7, 1, -8), Waiting),
+        (passes(7), Done),
     ]);
     let memories = desk.memories();
     // Entries 0 and 1 at place 56, 2 and 3 at place 57; 1 went free.

@@ -9,23 +9,27 @@ mod refusals;
 mod room;
 mod sessions;
 mod sheets;
+mod vocabulary;
 mod waiting;
 mod worked;
 
 use crate::model::desk::Desk;
 use crate::model::status::DONE;
+use vocabulary::Exchange;
 
-/// Sends lines and expects an answer each, both in digits.
-fn talk(desk: &mut Desk, pairs: &[(&str, &str)]) {
-    for (index, (line, expected)) in pairs.iter().enumerate() {
-        let answer = String::from_utf8(desk.line(line.as_bytes())).unwrap();
-        assert_eq!(&answer, expected, "line {index}: {line}");
+/// Sends lines and expects an answer each.
+fn talk<E: Exchange>(desk: &mut Desk, exchanges: &[E]) {
+    for (index, exchange) in exchanges.iter().enumerate() {
+        let text = |bytes: Vec<u8>| String::from_utf8(bytes).unwrap();
+        let line = exchange.asked();
+        let answer = desk.line(&line);
+        assert_eq!(text(answer), text(exchange.told()), "line {index}: {}", text(line));
     }
 }
 
-fn after(lines: &[(&str, &str)]) -> Desk {
+fn after<E: Exchange>(exchanges: &[E]) -> Desk {
     let mut desk = Desk::fresh();
-    talk(&mut desk, lines);
+    talk(&mut desk, exchanges);
     desk
 }
 

@@ -1,5 +1,7 @@
 //! Room, the ring's blocks, and who may open.
 
+use super::vocabulary::Told::{Built, Counted, Done, Got, Opened, Refused, Waiting, Wrote};
+use super::vocabulary::{builds, closes, collects, counts, opens, reads, writes};
 use super::{after, talk};
 use crate::model::desk::Desk;
 
@@ -9,23 +11,23 @@ fn room_returns_by_the_block() {
     talk(
         &mut Desk::fresh(),
         &[
-            ("0100000102000201", "01000004"),
-            ("0200010100", "0200000001"),
-            ("040000FFFF61", "04000001"),
-            ("040000FFFF62", "04000001"),
-            ("0200000100", "0200010000"),
-            ("040000FFFF63", "0401"),
+            (builds(0, 1, 2, 2, 1), Built(4)),
+            (opens(0, 1, 1, 0), Opened(0, 1)),
+            (writes(0, 0, -1, b"a"), Wrote(1)),
+            (writes(0, 0, -1, b"b"), Wrote(1)),
+            (opens(0, 0, 1, 0), Opened(1, 0)),
+            (writes(0, 0, -1, b"c"), Waiting),
             // Open record and "a" were all of block 0: one block is free again, "c" goes in.
-            ("0300010001", "0300000161"),
-            ("060000", "06000001"),
-            ("040000FFFF64", "04000001"),
-            ("040000FFFF65", "0401"),
+            (reads(0, 1, 1), Got(1, b"a")),
+            (collects(0, 0), Wrote(1)),
+            (writes(0, 0, -1, b"d"), Wrote(1)),
+            (writes(0, 0, -1, b"e"), Waiting),
             // "b" alone leaves its block held by "c".
-            ("0300010001", "0300000162"),
-            ("060000", "0601"),
-            ("0300010001", "0300000163"),
-            ("060000", "06000001"),
-            ("0900", "09000002000200010001"),
+            (reads(0, 1, 1), Got(1, b"b")),
+            (collects(0, 0), Waiting),
+            (reads(0, 1, 1), Got(1, b"c")),
+            (collects(0, 0), Wrote(1)),
+            (counts(0), Counted(2, 2, 1, 1)),
         ],
     );
 }
@@ -33,18 +35,22 @@ fn room_returns_by_the_block() {
 #[test]
 fn purge_goes_on_at_the_next_block_and_an_empty_one_stays() {
     let mut desk = after(&[
-        ("0100000401000101", "01000003"),
-        ("0200010100", "0200000001"),
-        ("070000", "0700"),
+        (builds(0, 4, 1, 1, 1), Built(3)),
+        (opens(0, 1, 1, 0), Opened(0, 1)),
+        (closes(0, 0), Done),
         // Open at block 0 and close at block 1 are purged; the open record begins block 2.
-        ("0200010100", "0200000001"),
-        ("0900", "09000000000100010000"),
+        (opens(0, 1, 1, 0), Opened(0, 1)),
+        (counts(0), Counted(0, 1, 1, 0)),
     ]);
     assert_eq!(desk.blocks()[36..46], [0, 1, 0, 5, 0, 4, 0, 1, 0, 1]);
     assert_eq!(desk.blocks()[18..28], [0, 1, 0, 5, 0, 4, 0, 2, 0, 1]);
     talk(
         &mut desk,
-        &[("0200000100", "0200010000"), ("0300010000", "0301"), ("0900", "09000000000000010001")],
+        &[
+            (opens(0, 0, 1, 0), Opened(1, 0)),
+            (reads(0, 1, 0), Waiting),
+            (counts(0), Counted(0, 0, 1, 1)),
+        ],
     );
 }
 
@@ -53,20 +59,20 @@ fn writers_ids_places_and_shares() {
     talk(
         &mut Desk::fresh(),
         &[
-            ("0100000101000901", "0100000B"),
-            ("0200020200", "0200000001"),
-            ("0200020201", "0200010002"),
-            ("0200020202", "0200020003"),
-            ("0200020203", "0228"),
-            ("0200020204", "0223"),
-            ("0200020300", "0228"),
-            ("0200000200", "0200030000"),
-            ("0200000200", "0228"),
-            ("070001", "0700"),
-            ("0200010200", "0200010002"),
-            ("070000", "0700"),
-            ("0200000200", "0228"),
-            ("0200030200", "0200000001"),
+            (builds(0, 1, 1, 9, 1), Built(11)),
+            (opens(0, 2, 2, 0), Opened(0, 1)),
+            (opens(0, 2, 2, 1), Opened(1, 2)),
+            (opens(0, 2, 2, 2), Opened(2, 3)),
+            (opens(0, 2, 2, 3), Refused(40)),
+            (opens(0, 2, 2, 4), Refused(35)),
+            (opens(0, 2, 3, 0), Refused(40)),
+            (opens(0, 0, 2, 0), Opened(3, 0)),
+            (opens(0, 0, 2, 0), Refused(40)),
+            (closes(0, 1), Done),
+            (opens(0, 1, 2, 0), Opened(1, 2)),
+            (closes(0, 0), Done),
+            (opens(0, 0, 2, 0), Refused(40)),
+            (opens(0, 3, 2, 0), Opened(0, 1)),
         ],
     );
 }
@@ -76,19 +82,19 @@ fn no_room_for_the_open_record_and_eight_accessors() {
     talk(
         &mut Desk::fresh(),
         &[
-            ("0100000101000101", "01000003"),
-            ("0200020300", "0200000001"),
-            ("0200020300", "022A"),
-            ("0200000300", "0200010000"),
-            ("0200000300", "0200020000"),
-            ("0200000300", "0200030000"),
-            ("0200000300", "0200040000"),
-            ("0200000300", "0200050000"),
-            ("0200000300", "0200060000"),
-            ("0200000300", "0200070000"),
-            ("0200000300", "0229"),
-            ("0200020300", "0229"),
-            ("0200020200", "0228"),
+            (builds(0, 1, 1, 1, 1), Built(3)),
+            (opens(0, 2, 3, 0), Opened(0, 1)),
+            (opens(0, 2, 3, 0), Refused(42)),
+            (opens(0, 0, 3, 0), Opened(1, 0)),
+            (opens(0, 0, 3, 0), Opened(2, 0)),
+            (opens(0, 0, 3, 0), Opened(3, 0)),
+            (opens(0, 0, 3, 0), Opened(4, 0)),
+            (opens(0, 0, 3, 0), Opened(5, 0)),
+            (opens(0, 0, 3, 0), Opened(6, 0)),
+            (opens(0, 0, 3, 0), Opened(7, 0)),
+            (opens(0, 0, 3, 0), Refused(41)),
+            (opens(0, 2, 3, 0), Refused(41)),
+            (opens(0, 2, 2, 0), Refused(40)),
         ],
     );
 }

@@ -1,5 +1,7 @@
 //! Sheets that load, and texts that are no sheets.
 
+use super::vocabulary::Told::{Counted, Done, Got, Opened, Refused};
+use super::vocabulary::{closes, counts, opens, reads};
 use super::{saved, talk};
 use crate::model::desk::Desk;
 use crate::model::geometry::Geometry;
@@ -18,14 +20,14 @@ fn a_full_sheet_loads_and_access_1_purges_it_first() {
     talk(
         &mut desk,
         &[
-            ("0905", "09000002000300000000"),
-            ("0205020100", "022A"),
-            ("0205000100", "0200000000"),
-            ("0305000001", "03000000"),
+            (counts(5), Counted(2, 3, 0, 0)),
+            (opens(5, 2, 1, 0), Refused(42)),
+            (opens(5, 0, 1, 0), Opened(0, 0)),
+            (reads(5, 0, 1), Got(0, b"")),
         ],
     );
     assert_eq!(desk.look(5, 0), (DONE, vec![0x41, 0x42]));
-    talk(&mut desk, &[("070500", "0700"), ("0205010100", "0200000001")]);
+    talk(&mut desk, &[(closes(5, 0), Done), (opens(5, 1, 1, 0), Opened(0, 1))]);
     // The last record lay in block 2, so the open record begins block 0 (6 words a block).
     assert_eq!(desk.blocks()[5 * 4096..5 * 4096 + 12], [0, 1, 0, 5, 0, 4, 0, 1, 0, 1, 0, 0]);
 }

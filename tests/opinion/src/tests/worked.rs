@@ -1,5 +1,9 @@
 //! The worked session, its sheet, and the P cases of document 01.
 
+use super::vocabulary::Told::{
+    Built, Done, EndOfFile, Got, Malformed, Opened, Refused, TimedOut, Waiting,
+};
+use super::vocabulary::{builds, closes, collects, controls, line, opens, passes, reads};
 use super::{after, free_front, saved, talk, WORKED};
 use crate::model::desk::Desk;
 use crate::model::geometry::Geometry;
@@ -36,7 +40,10 @@ fn p_geometry() {
     assert_eq!(Geometry::from_build(1, 1, 1, 1).capacity(), 3);
     assert_eq!(Geometry::from_build(100, 10, 1, 1).block_words(), 1032);
     assert_eq!(Geometry::from_build(128, 3, 1, 1).block_words(), 395);
-    talk(&mut Desk::fresh(), &[("0100008001000E01", "0126"), ("0100008001000D01", "0100000F")]);
+    talk(
+        &mut Desk::fresh(),
+        &[(builds(0, 128, 1, 14, 1), Refused(38)), (builds(0, 128, 1, 13, 1), Built(15))],
+    );
 }
 
 #[test]
@@ -45,14 +52,14 @@ fn p_read_counts() {
     talk(
         &mut desk,
         &[
-            ("0200000100", "0200010000"),
-            ("0300010083", "0323"),
-            ("030001FEFB", "0323"),
-            ("0300018000", "0323"),
-            ("050001002F0001", "001E"),
-            ("0500012F0001", "0500"),
-            ("0300010082", "0300000241424344"),
-            ("030001FEFC", "0300000441424344"),
+            (opens(0, 0, 1, 0), Opened(1, 0)),
+            (reads(0, 1, 131), Refused(35)),
+            (reads(0, 1, -261), Refused(35)),
+            (reads(0, 1, -32768), Refused(35)),
+            (line("050001002F0001"), Malformed),
+            (controls(0, 1, 47, 1), Done),
+            (reads(0, 1, 130), Got(2, b"ABCD")),
+            (reads(0, 1, -260), Got(4, b"ABCD")),
         ],
     );
 }
@@ -60,21 +67,33 @@ fn p_read_counts() {
 #[test]
 fn p_timeout() {
     let mut desk = after(&[
-        ("0100000401000101", "01000003"),
-        ("0200000100", "0200000000"),
-        ("050000040005", "0500"),
-        ("0300000004", "0301"),
-        ("080004", "0800"),
-        ("060000", "0601"),
+        (builds(0, 4, 1, 1, 1), Built(3)),
+        (opens(0, 0, 1, 0), Opened(0, 0)),
+        (controls(0, 0, 4, 5), Done),
+        (reads(0, 0, 4), Waiting),
+        (passes(4), Done),
+        (collects(0, 0), Waiting),
     ]);
     assert_eq!(desk.lists()[1], [0]);
     assert_eq!(desk.lists()[81], [1]);
-    talk(&mut desk, &[("080001", "0800"), ("050000060000", "0521"), ("0500002B0000", "0502")]);
+    talk(
+        &mut desk,
+        &[
+            (passes(1), Done),
+            (controls(0, 0, 6, 0), Refused(33)),
+            (controls(0, 0, 43, 0), EndOfFile),
+        ],
+    );
     assert_eq!(desk.lists()[17], [0]);
     assert_eq!(free_front(&desk, 2), [1, 2]);
     talk(
         &mut desk,
-        &[("070000", "0721"), ("060000", "0616"), ("060000", "0627"), ("070000", "0700")],
+        &[
+            (closes(0, 0), Refused(33)),
+            (collects(0, 0), TimedOut),
+            (collects(0, 0), Refused(39)),
+            (closes(0, 0), Done),
+        ],
     );
     assert_eq!(free_front(&desk, 2), [0, 1]);
 }

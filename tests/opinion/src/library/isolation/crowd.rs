@@ -1,7 +1,10 @@
 //! A crowd: waiting reads and writes with timeouts at as many places of the other seven files as
 //! possible, so that few entries are free; aborted, collected and armed again in any order.
 
-use crate::generator::frames::{build_frame, control_frame, read_frame, write_frame};
+use crate::generator::frames::{
+    build_frame, close_frame, collect_frame, control_frame, counts_frame, open_frame, read_frame,
+    write_frame,
+};
 use crate::generator::random::Random;
 use crate::generator::Call;
 use crate::model::accessor::Accessor;
@@ -41,11 +44,11 @@ impl Crowd {
         }
         let (file, place) = (random.pick(&self.others) as u8, random.below(PLACES) as u8);
         match random.below(12) {
-            0 => Call::Event(vec![9, file]),
-            1 => Call::Event(vec![6, file, place]),
+            0 => Call::Event(counts_frame(file)),
+            1 => Call::Event(collect_frame(file, place)),
             2 => Call::Event(read_frame(file, place, 2)),
             // A writer that closes leaves a record, and may not find room to come back.
-            3..=4 if !self.writes[usize::from(file)] => Call::Event(vec![7, file, place]),
+            3..=4 if !self.writes[usize::from(file)] => Call::Event(close_frame(file, place)),
             _ => Call::Event(control_frame(file, place, 43, 0)),
         }
     }
@@ -76,17 +79,17 @@ impl Crowd {
         // Nobody waits to write before eight writers take up the room.
         if built.open_count() < PLACES {
             let access = if self.writes[file] { random.pick(&[2, 3]) } else { 0 };
-            return Call::Event(vec![2, number, access, 3, 0]);
+            return Call::Event(open_frame(number, access, 3, 0));
         }
         match &built.accessors[place] {
             Some(accessor) => Call::Event(self.request(number, place as u8, accessor, random)),
-            None => Call::Event(vec![9, number]),
+            None => Call::Event(counts_frame(number)),
         }
     }
 
     fn request(&self, file: u8, place: u8, accessor: &Accessor, random: &mut Random) -> Vec<u8> {
         if accessor.request.is_some() {
-            return vec![6, file, place];
+            return collect_frame(file, place);
         }
         if accessor.timeout == 0 || random.percent(10) {
             let seconds = random.pick(&[1, 2, 2, 3, 3, 4, 5, 5, 6, 40, 1000, 65535]);

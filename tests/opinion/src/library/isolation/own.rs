@@ -2,7 +2,9 @@
 //! nothing.  The generator looks at a model on which nothing else is called.
 
 use super::runs::{named, Named, Step};
-use crate::generator::frames::{build_frame, control_frame, read_frame, time_frame};
+use crate::generator::frames::{
+    build_frame, control_frame, counts_frame, open_frame, read_frame, time_frame,
+};
 use crate::generator::random::Random;
 use crate::generator::Call;
 use crate::library::caller::Caller;
@@ -35,7 +37,7 @@ pub fn own_calls(seed: u64, file: usize, calls: usize) -> (Vec<Step>, Desk) {
         }
     }
     let looks = (0..PLACES).map(|place| Call::Look(file, place));
-    let last = looks.chain([Call::Save(file, SHEET_BYTES), Call::Event(vec![9, file as u8])]);
+    let last = looks.chain([Call::Save(file, SHEET_BYTES), Call::Event(counts_frame(file as u8))]);
     steps.extend(last.map(|call| Step { call, own: true, room: None }));
     (steps, desk)
 }
@@ -84,8 +86,8 @@ pub fn wrong_room(call: &Call, random: &mut Random) -> Option<usize> {
 fn before_it_is_built(file: usize, caller: &mut Caller, random: &mut Random) -> Vec<Call> {
     let number = file as u8;
     let mut calls = vec![
-        Call::Event(vec![9, number]),
-        Call::Event(vec![2, number, 0, 3, 0]),
+        Call::Event(counts_frame(number)),
+        Call::Event(open_frame(number, 0, 3, 0)),
         Call::Event(read_frame(number, 0, 4)),
         Call::Event(build_frame(number, 0, 1, 1, 1)),
         Call::Event(build_frame(number, 128, 1, 14, 1)),

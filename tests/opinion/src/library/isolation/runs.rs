@@ -3,12 +3,12 @@
 
 use super::counts::Counts;
 use super::part::Part;
+use crate::generator::frames::is_frame;
 use crate::generator::Call;
 use crate::library::case::{line, shrink};
 use crate::library::host::Host;
 use crate::library::program::Library;
 use crate::library::twin::{outcome_text, Difference};
-use crate::model::count::Count;
 use crate::model::desk::Desk;
 use crate::model::limits::{ANSWER_BYTES, BUFFER_BYTES};
 use crate::model::segment::Memories;
@@ -37,18 +37,10 @@ pub fn named(call: &Call) -> Named {
             return Named::File(*file)
         }
     };
-    match (frame.first(), frame.len()) {
-        (Some(8), 3) => Named::Time,
-        (Some(4), n) if n >= 5 && Count::from_word(frame[3], frame[4]).bytes != n - 5 => {
-            Named::Nothing
-        }
-        (Some(1), 8)
-        | (Some(2 | 3), 5)
-        | (Some(4), 5..)
-        | (Some(5), 6)
-        | (Some(6 | 7), 3)
-        | (Some(9), 2) => Named::File(frame[1].into()),
-        _ => Named::Nothing,
+    match frame.first() {
+        _ if !is_frame(frame) => Named::Nothing,
+        Some(8) => Named::Time,
+        _ => Named::File(frame[1].into()),
     }
 }
 

@@ -4,7 +4,9 @@
 use super::crowd::Crowd;
 use super::own::wrong_room;
 use super::runs::{named, Named, Step};
-use crate::generator::frames::{control_frame, read_frame, write_frame};
+use crate::generator::frames::{
+    close_frame, control_frame, open_frame, read_frame, time_frame, write_frame,
+};
 use crate::generator::random::Random;
 use crate::generator::Call;
 use crate::library::caller::Caller;
@@ -96,8 +98,8 @@ impl Stranger {
             (0..=9, Err(_)) | (0, Ok(_)) => Call::Load(file, self.some_sheet()),
             (1..=4, Ok(_)) | (10, _) => Call::Save(file, self.room(desk, file)),
             // Purges where nobody has the file open.
-            (5..=6, Ok(f)) if f.open_count() == 0 => Call::Event(vec![2, file as u8, 1, 3, 0]),
-            (5, Ok(_)) => Call::Event(vec![7, file as u8, self.random.below(PLACES) as u8]),
+            (5..=6, Ok(f)) if f.open_count() == 0 => Call::Event(open_frame(file as u8, 1, 3, 0)),
+            (5, Ok(_)) => Call::Event(close_frame(file as u8, self.random.below(PLACES) as u8)),
             _ => self.caller.next(desk),
         }
     }
@@ -127,11 +129,11 @@ impl Stranger {
         let random = &mut self.random;
         let (file, place) = (self.file as u8, random.below(PLACES) as u8);
         let mut frame = match random.below(6) {
-            0 => vec![8, 0, random.byte()],
-            1 => vec![7, file, place],
+            0 => time_frame(random.byte().into()),
+            1 => close_frame(file, place),
             2 => read_frame(file, place, 4),
             3 => control_frame(file, place, 43, 0),
-            4 => vec![2, file, 1, 3, 0],
+            4 => open_frame(file, 1, 3, 0),
             _ => return write_frame(file, place, 2, &[random.byte()]),
         };
         match random.percent(50) {
@@ -151,7 +153,7 @@ impl Stranger {
             0 => Call::Look(file, place),
             1 => Call::Save(file, SHEET_BYTES),
             2 => Call::Load(file, self.caller.good_sheet()),
-            3 => Call::Event(vec![7, beyond, place as u8]),
+            3 => Call::Event(close_frame(beyond, place as u8)),
             4 => Call::Event(write_frame(beyond, place as u8, 1, &[0x41, 0x42])),
             _ => Call::Event(read_frame(beyond, place as u8, 4)),
         }
