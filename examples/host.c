@@ -15,7 +15,8 @@
 
 enum { BUILD = 1, OPEN, READ, WRITE, CONTROL, COLLECT, CLOSE, TIME, COUNTS };
 enum { TO_READ = 0, TO_APPEND = 3, EXCLUSIVE = 1, ANY_MULTI = 0 };
-enum { MOST_FRAME = 261, IN_FILE = 0, OUT_FILE = 1 };
+/* A record stands in the answer behind operation, status and log. */
+enum { MOST_FRAME = 261, RECORD_AT = 4, IN_FILE = 0, OUT_FILE = 1 };
 
 /* The desk: these three memories, and nothing else. */
 static uint8_t segment[TENDRILHOOK_SEGMENT_BYTES];
@@ -115,10 +116,10 @@ static int ask(const char *purpose, int operation, int file, int accessor)
     return call(purpose, frame, sizeof frame);
 }
 
-/* The record that the last answer brought stands behind operation, status and log. */
+/* The record that the last answer brought. */
 static void print_record(void)
 {
-    printf("    the record: %.*s\n", (int)answered - 4, (const char *)answer + 4);
+    printf("    the record: %.*s\n", (int)answered - RECORD_AT, (const char *)answer + RECORD_AT);
 }
 
 /* The three calls that are no events: what they are asked stands in the frame's place, and what they give in the answer's. */
@@ -159,8 +160,8 @@ static void relay(int reader, int writer)
 {
     while (read_record("relay takes a record from file 0", IN_FILE, reader, 16) == TENDRILHOOK_DONE) {
         uint8_t record[TENDRILHOOK_ANSWER_BYTES];
-        size_t length = answered - 4;
-        memcpy(record, answer + 4, length);
+        size_t length = answered - RECORD_AT;
+        memcpy(record, answer + RECORD_AT, length);
         if (write_record("relay hands it on to file 1", OUT_FILE, writer, record, length) != TENDRILHOOK_DONE) exit(EXIT_FAILURE);
     }
 }

@@ -17,6 +17,14 @@ static struct memories {
 
 static int faults;
 
+/* The bytes of frames. */
+#define BUILD(file, words, factor, records, extents) 1, file, 0, words, factor, 0, records, extents
+#define OPEN(file, access, share, multi) 2, file, access, share, multi
+#define READ(file, accessor, words) 3, file, accessor, 0, words
+#define WRITE(file, accessor, high, low) 4, file, accessor, high, low
+#define COLLECT(file, accessor) 6, file, accessor
+#define COUNTS(file) 9, file
+
 #define DESK now.segment, sizeof now.segment, now.blocks, sizeof now.blocks, now.buffers, sizeof now.buffers
 
 static size_t event(const uint8_t *frame, size_t length)
@@ -37,11 +45,16 @@ static void refused(int number, const char *what, int status, size_t answered)
     now = before;
 }
 
+/* The frame is shown before what it is. */
 static void bad_event(int number, const char *what, const uint8_t *frame, size_t length)
 {
+    char shown[128];
+    size_t n = 0;
     before = now;
     size_t answered = event(frame, length);
-    refused(number, what, answered == 0 ? TENDRILHOOK_UNSOUND : now.answer[1], answered);
+    for (size_t i = 0; i < length; i++) n += (size_t)snprintf(shown + n, sizeof shown - n, "%02X", (unsigned)frame[i]);
+    snprintf(shown + n, sizeof shown - n, ": %s", what);
+    refused(number, shown, answered == 0 ? TENDRILHOOK_UNSOUND : now.answer[1], answered);
 }
 
 #define BAD(number, what, ...) bad_event(number, what, (const uint8_t[]){ __VA_ARGS__ }, sizeof(const uint8_t[]){ __VA_ARGS__ })
@@ -51,25 +64,25 @@ static void prepare(void)
 {
     for (size_t i = 0; i < sizeof now.output; i++) now.output[i] = (uint8_t)(i * 7 + 3);
     tendrilhook_fresh(DESK);
-    EVENT(1, 0, 0, 4, 1, 0, 1, 1);
-    EVENT(2, 0, 3, 1, 0);
-    EVENT(2, 0, 0, 1, 0);
-    EVENT(4, 0, 0, 0, 2, 'A', 'B', 'C', 'D');
-    EVENT(4, 0, 0, 0xFF, 0xFD, 'E', 'F', 'G');
-    EVENT(1, 2, 0, 4, 1, 0, 1, 1);
-    for (int i = 0; i < 8; i++) EVENT(2, 2, 0, 3, 0);
-    EVENT(1, 3, 0, 4, 1, 0, 1, 1);
-    EVENT(2, 3, 3, 3, 0);
+    EVENT(BUILD(0, 4, 1, 1, 1));
+    EVENT(OPEN(0, 3, 1, 0));
+    EVENT(OPEN(0, 0, 1, 0));
+    EVENT(WRITE(0, 0, 0, 2), 'A', 'B', 'C', 'D');
+    EVENT(WRITE(0, 0, 0xFF, 0xFD), 'E', 'F', 'G');
+    EVENT(BUILD(2, 4, 1, 1, 1));
+    for (int i = 0; i < 8; i++) EVENT(OPEN(2, 0, 3, 0));
+    EVENT(BUILD(3, 4, 1, 1, 1));
+    EVENT(OPEN(3, 3, 3, 0));
 }
 
 static void not_a_desk(void)
 {
     before = now;
     size_t answered = tendrilhook_event(now.segment, sizeof now.segment - 1, now.blocks, sizeof now.blocks, now.buffers, sizeof now.buffers,
-                                        now.answer, sizeof now.answer, (const uint8_t[]){ 9, 0 }, 2);
+                                        now.answer, sizeof now.answer, (const uint8_t[]){ COUNTS(0) }, 2);
     refused(29, "a segment that is a byte too short", answered == 0 ? TENDRILHOOK_UNSOUND : 0, 0);
     now.segment[1] ^= 1;
-    BAD(29, "a segment with a bit changed", 9, 0);
+    BAD(29, "a segment with a bit changed", COUNTS(0));
     now.segment[1] ^= 1;
 }
 
@@ -86,17 +99,17 @@ int main(void)
 {
     prepare();
     not_a_desk();
-    BAD(30, "0300: a read that is cut off", 3, 0);
-    BAD(31, "0305000004: a read from file 5, which is not built", 3, 5, 0, 0, 4);
-    BAD(32, "0300050004: a read by accessor 5, which is not open", 3, 0, 5, 0, 4);
-    BAD(33, "0400000000: a write while one waits", 4, 0, 0, 0, 0);
-    BAD(34, "0400010000: a write by a reader", 4, 0, 1, 0, 0);
-    BAD(35, "0300010083: a read of 131 words", 3, 0, 1, 0, 131);
-    BAD(38, "0101008001000E01: a build of more than 2,048 words", 1, 1, 0, 128, 1, 0, 14, 1);
-    BAD(39, "060001: a collect of nothing", 6, 0, 1);
-    BAD(40, "0200000100: a second reader of a file opened exclusive", 2, 0, 0, 1, 0);
-    BAD(41, "0202000300: a ninth accessor", 2, 2, 0, 3, 0);
-    BAD(42, "0203030300: a writer without room for its open record", 2, 3, 3, 3, 0);
+    BAD(30, "a read that is cut off", 3, 0);
+    BAD(31, "a read from file 5, which is not built", READ(5, 0, 4));
+    BAD(32, "a read by accessor 5, which is not open", READ(0, 5, 4));
+    BAD(33, "a write while one waits", WRITE(0, 0, 0, 0));
+    BAD(34, "a write by a reader", WRITE(0, 1, 0, 0));
+    BAD(35, "a read of 131 words", READ(0, 1, 131));
+    BAD(38, "a build of more than 2,048 words", BUILD(1, 128, 1, 14, 1));
+    BAD(39, "a collect of nothing", COLLECT(0, 1));
+    BAD(40, "a second reader of a file opened exclusive", OPEN(0, 0, 1, 0));
+    BAD(41, "a ninth accessor", OPEN(2, 0, 3, 0));
+    BAD(42, "a writer without room for its open record", OPEN(3, 3, 3, 0));
     not_an_event();
     return faults == 0 ? EXIT_SUCCESS : EXIT_FAILURE;
 }

@@ -27,7 +27,8 @@ enum { BUILD = 1, OPEN, READ, WRITE, CONTROL, COLLECT, CLOSE, TIME };
 enum { TO_READ = 0, TO_APPEND = 3, EXCLUSIVE = 1, TIMEOUT = 4, KEEP = 47 };
 /* A stage reads the file of the number before its own, and writes that of its own number. */
 enum { MODEL = 1, REGRID, PLOT, LAST = PLOT, SCHEDULER };
-enum { FILES = 2, RECORDS = 200, MOST_DATA = 16 };
+/* A record stands in the answer behind operation, status and log. */
+enum { FILES = 2, RECORDS = 200, MOST_DATA = 16, RECORD_AT = 4 };
 
 static const char *const names[] = { "", "model", "regrid", "plot", "scheduler" };
 static char room[64];
@@ -68,6 +69,11 @@ static int say(const char *what, int status)
 
 static uint8_t low(int number) { return (uint8_t)(number & 255); }
 
+static int build(int file, int words, int factor, int records, int extents)
+{
+    return EVENT(BUILD, low(file), 0, low(words), low(factor), 0, low(records), low(extents));
+}
+
 static int open_file(int file, int access)
 {
     if (EVENT(OPEN, low(file), low(access), EXCLUSIVE, 0) != TENDRILHOOK_DONE) die("cannot open");
@@ -86,12 +92,32 @@ static int write_record(const void *data, size_t length)
     return shared_event(frame, 5 + length, answer, &answered);
 }
 
+static int control(int file, int accessor, int code, int parameter)
+{
+    return EVENT(CONTROL, low(file), low(accessor), low(code), 0, low(parameter));
+}
+
+static int collect_from(int file, int accessor)
+{
+    return EVENT(COLLECT, low(file), low(accessor));
+}
+
+static int close_file(int file, int accessor)
+{
+    return EVENT(CLOSE, low(file), low(accessor));
+}
+
+static int pass_seconds(int seconds)
+{
+    return EVENT(TIME, 0, low(seconds));
+}
+
 /* A request that waits is collected, again and again: meanwhile other stages call, and time passes. */
 static int outcome(int file, int accessor, int status)
 {
     while (status == TENDRILHOOK_WAITING) {
         nanosleep(&(struct timespec){ .tv_nsec = 200000 }, NULL);
-        status = EVENT(COLLECT, low(file), low(accessor));
+        status = collect_from(file, accessor);
     }
     return status;
 }
@@ -100,7 +126,7 @@ static int outcome(int file, int accessor, int status)
 static const char *record(void)
 {
     static char text[MOST_DATA + 1];
-    snprintf(text, sizeof text, "%.*s", (int)answered - 4, (const char *)answer + 4);
+    snprintf(text, sizeof text, "%.*s", (int)answered - RECORD_AT, (const char *)answer + RECORD_AT);
     return text;
 }
 
@@ -111,13 +137,13 @@ static void open_all(void)
     shared_adopt();
     if (self != MODEL) from = open_file(self - 2, TO_READ);
     if (self != PLOT) to = open_file(self - 1, TO_APPEND);
-    if (self == PLOT) EVENT(CONTROL, low(self - 2), low(from), TIMEOUT, 0, 3);
+    if (self == PLOT) control(self - 2, from, TIMEOUT, 3);
 }
 
 static void close_all(void)
 {
-    if (self != MODEL) EVENT(CLOSE, low(self - 2), low(from));
-    if (self != PLOT) EVENT(CLOSE, low(self - 1), low(to));
+    if (self != MODEL) close_file(self - 2, from);
+    if (self != PLOT) close_file(self - 1, to);
 }
 
 /* Whether there is one more record for this stage. A read that timed out is made again. */
@@ -141,8 +167,9 @@ static int work(void)
     int moved = 0;
     for (; self == MODEL && moved < RECORDS; moved++) hand_on(text, (size_t)snprintf(text, sizeof text, "step %d", moved));
     for (; self == REGRID && next_record(); moved++) {
-        memcpy(text, answer + 4, answered - 4);
-        hand_on(text, answered - 4);
+        size_t length = answered - RECORD_AT;
+        memcpy(text, answer + RECORD_AT, length);
+        hand_on(text, length);
     }
     for (; self == PLOT && next_record(); moved++) {
         snprintf(text, sizeof text, "step %d", moved);
@@ -165,7 +192,7 @@ static void forecast(int hours)
 static void peek(void)
 {
     char what[64];
-    EVENT(CONTROL, low(self - 2), low(from), KEEP, 0, 1);
+    control(self - 2, from, KEEP, 1);
     int status = read_record();
     snprintf(what, sizeof what, "reads \"%s\" from file 0, where it stays", record());
     say(what, status);
@@ -174,13 +201,13 @@ static void peek(void)
 static void relay(void)
 {
     peek();
-    say("hands it on to file 1", write_record(answer + 4, answered - 4));
+    say("hands it on to file 1", write_record(answer + RECORD_AT, answered - RECORD_AT));
     say("and takes it out of file 0", read_record());
 }
 
 static void collect(void)
 {
-    if (say("collects", EVENT(COLLECT, low(self - 2), low(from))) == TENDRILHOOK_DONE) printf("%10s\"%s\"\n", "", record());
+    if (say("collects", collect_from(self - 2, from)) == TENDRILHOOK_DONE) printf("%10s\"%s\"\n", "", record());
 }
 
 static void show_all(void)
@@ -314,7 +341,7 @@ static void at_once(int model, int regrid, int plot, int *reports)
             done[which].fd = -1;
             left--;
         }
-        if (EVENT(TIME, 0, 1) != TENDRILHOOK_DONE) die("time does not pass");
+        if (pass_seconds(1) != TENDRILHOOK_DONE) die("time does not pass");
     }
 }
 
@@ -334,10 +361,10 @@ static void close_for(int which)
             char what[64];
             if (shared->owner[file][place] != which) continue;
             snprintf(what, sizeof what, "closes file %d for %s", file, names[which]);
-            if (say(what, EVENT(CLOSE, low(file), low(place))) != TENDRILHOOK_OUTSTANDING) continue;
-            say("collects for it", EVENT(COLLECT, low(file), low(place)));
+            if (say(what, close_file(file, place)) != TENDRILHOOK_OUTSTANDING) continue;
+            say("collects for it", collect_from(file, place));
             printf("%10s\"%s\" comes back to the host\n", "", record());
-            say(what, EVENT(CLOSE, low(file), low(place)));
+            say(what, close_file(file, place));
         }
 }
 
@@ -379,8 +406,8 @@ int main(void)
     snprintf(room, sizeof room, "/tendrilhook-stages-%ld", (long)getpid());
     if (shared_make(room) != 0) die("no shared memory, or no robust mutexes");
     /* Records of 8 words, 2 to a block, room for 4 and for the records of an open and a close. */
-    say("builds file 0", EVENT(BUILD, 0, 0, 8, 2, 0, 4, 1));
-    say("builds file 1", EVENT(BUILD, 1, 0, 8, 2, 0, 4, 1));
+    say("builds file 0", build(0, 8, 2, 4, 1));
+    say("builds file 1", build(1, 8, 2, 4, 1));
     for (int which = MODEL; which <= LAST; which++) start(which);
 
     printf("\nThree stages at once, and time that passes.\n");
