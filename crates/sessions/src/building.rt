@@ -1,29 +1,29 @@
 // Build.
 
-pub const TABLE: [u8; 765] = *b"
+pub const TABLE: [u8; 907] = *b"
 = build ranges
 - 'Record size R words 1..128, blocking factor B 1..16, records N 1..2,000, extents X 1..32': one below and one above each; 31 comes first
-0100000001000101 0123
-0100008101000101 0123
-0100000400000101 0123
-0100000411000101 0123
-0100000401000001 0123
-010000040107D101 0123
-0100000401000100 0123
-0100000401000121 0123
-0108000001000101 011F
-0100000401000101 01000003
-0100000001000101 011F
-0107008010000120 0126
-0107000110000120 010001F0
+builds 0 0 1 1 1 => refused 35
+builds 0 129 1 1 1 => refused 35
+builds 0 4 0 1 1 => refused 35
+builds 0 4 17 1 1 => refused 35
+builds 0 4 1 0 1 => refused 35
+builds 0 4 1 2001 1 => refused 35
+builds 0 4 1 1 0 => refused 35
+builds 0 4 1 1 33 => refused 35
+builds 8 0 1 1 1 => refused 31
+builds 0 4 1 1 1 => built 3
+builds 0 0 1 1 1 => refused 31
+builds 7 128 16 1 32 => refused 38
+builds 7 1 16 1 32 => built 496
 
 = whole blocks
 - 'whole blocks are meant': (1,1,1) gives 3, and (51,3,8) gives 69
-0100000401000101 01000003
-0101000403003308 01000045
+builds 0 4 1 1 1 => built 3
+builds 1 4 3 51 8 => built 69
 
 = share limit
 - R 128, B 1, X 1: N 14 is refused 38, N 13 is built with 15 data blocks; the label block counts for X and not for 38
-0100008001000E01 0126
-0100008001000D01 0100000F
+builds 0 128 1 14 1 => refused 38
+builds 0 128 1 13 1 => built 15
 ";

@@ -1,73 +1,73 @@
 // Close.
 
-pub const TABLE: [u8; 1614] = *b"
+pub const TABLE: [u8; 1992] = *b"
 = close record last
 - the waiting reader ends with status 2 before the close record is put: with 46 it would get it
-0100000401000101 01000003
-0200010300 0200000001
-0200000300 0200010000
-0500012E0001 0500
-0300010082 0300000200010001
-0300010082 0301
-070000 0700
-060001 0602
-0900 09000000000100000001
-0300010082 0300000200020001
+builds 0 4 1 1 1 => built 3
+opens 0 1 3 0 => opened 0 1
+opens 0 0 3 0 => opened 1 0
+controls 0 1 46 1 => done
+reads 0 1 130 => got 2 00010001
+reads 0 1 130 => waiting
+closes 0 0 => done
+collects 0 1 => end-of-file
+counts 0 => counted 0 1 0 1
+reads 0 1 130 => got 2 00020001
 
 = every reader ends
 - every waiting reader without extended wait ends, also one behind an extended one; an extended one waits on
-0100000401000A01 0100000C
-0200000300 0200000000
-0200000300 0200010000
-0200030300 0200020001
-0500002D0001 0500
-0300000001 0301
-0300010001 0301
-070002 0700
-060000 0601
-060001 0602
-0900 09000000000000000002
-0200030300 0200020001
-04000200014142 04000001
-060000 060000014142
+builds 0 4 1 10 1 => built 12
+opens 0 0 3 0 => opened 0 0
+opens 0 0 3 0 => opened 1 0
+opens 0 3 3 0 => opened 2 1
+controls 0 0 45 1 => done
+reads 0 0 1 => waiting
+reads 0 1 1 => waiting
+closes 0 2 => done
+collects 0 0 => waiting
+collects 0 1 => end-of-file
+counts 0 => counted 0 0 0 2
+opens 0 3 3 0 => opened 2 1
+writes 0 2 1 4142 => wrote 1
+collects 0 0 => got 1 4142
 
 = last writer only
 - readers end for the last writer only, also one that waits by its first read
-0100000401000A01 0100000C
-0200000300 0200000000
-0300000001 0301
-0200030300 0200010001
-0200030300 0200020002
-070001 0700
-060000 0601
-070002 0700
-060000 0602
+builds 0 4 1 10 1 => built 12
+opens 0 0 3 0 => opened 0 0
+reads 0 0 1 => waiting
+opens 0 3 3 0 => opened 1 1
+opens 0 3 3 0 => opened 2 2
+closes 0 1 => done
+collects 0 0 => waiting
+closes 0 2 => done
+collects 0 0 => end-of-file
 
 = waiting is cancelled
 - a waiting request is cancelled; a completed one has to be collected first (33)
-0100000401000101 01000003
-0200000300 0200000000
-0300000001 0301
-070000 0700
-0900 09000000000000000000
-0200000300 0200000000
-0300000001 0301
-0200030300 0200010001
-04000100014142 04000001
-070000 0721
-060000 060000014142
-070000 0700
-070000 0720
+builds 0 4 1 1 1 => built 3
+opens 0 0 3 0 => opened 0 0
+reads 0 0 1 => waiting
+closes 0 0 => done
+counts 0 => counted 0 0 0 0
+opens 0 0 3 0 => opened 0 0
+reads 0 0 1 => waiting
+opens 0 3 3 0 => opened 1 1
+writes 0 1 1 4142 => wrote 1
+closes 0 0 => refused 33
+collects 0 0 => got 1 4142
+closes 0 0 => done
+closes 0 0 => refused 32
 
 = writers stay
 - waiting writers stay when the last reader goes; the last writer's own waiting write is lost
-0100000401000101 01000003
-0200030300 0200000001
-0200000300 0200010000
-04000000014141 04000001
-04000000014242 0401
-070001 0700
-060000 0601
-070000 0700
-0900 09000001000300000000
+builds 0 4 1 1 1 => built 3
+opens 0 3 3 0 => opened 0 1
+opens 0 0 3 0 => opened 1 0
+writes 0 0 1 4141 => wrote 1
+writes 0 0 1 4242 => waiting
+closes 0 1 => done
+collects 0 0 => waiting
+closes 0 0 => done
+counts 0 => counted 1 3 0 0
 ";

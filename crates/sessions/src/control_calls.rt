@@ -1,46 +1,46 @@
 // Controls.
 
-pub const TABLE: [u8; 977] = *b"
+pub const TABLE: [u8; 1320] = *b"
 = codes
 - 4, 6, 43, 45, 46, 47; any other code, 48 too: 35; 45, 46, 47 with 0 or 1; 46 and 47 by a writer: 34, before 35
-0100000401000101 01000003
-0200030300 0200000001
-0200000300 0200010000
-050000040005 0500
-05000006FFFF 0500
-0500002D0002 0523
-0500002D0001 0500
-0500002E0001 0522
-0500002F0002 0522
-0500012E0002 0523
-0500012F0100 0523
-050001300000 0523
-050000300001 0523
-050001000000 0523
-0500012B0000 0527
-050009040000 0520
-050809040000 051F
+builds 0 4 1 1 1 => built 3
+opens 0 3 3 0 => opened 0 1
+opens 0 0 3 0 => opened 1 0
+controls 0 0 4 5 => done
+controls 0 0 6 65535 => done
+controls 0 0 45 2 => refused 35
+controls 0 0 45 1 => done
+controls 0 0 46 1 => refused 34
+controls 0 0 47 2 => refused 34
+controls 0 1 46 2 => refused 35
+controls 0 1 47 256 => refused 35
+controls 0 1 48 0 => refused 35
+controls 0 0 48 1 => refused 35
+controls 0 1 0 0 => refused 35
+controls 0 1 43 0 => refused 39
+controls 0 9 4 0 => refused 32
+controls 8 9 4 0 => refused 31
 
 = while outstanding
 - 33 while a request is outstanding, also for an unknown code, but not for 43
-0100000401000101 01000003
-0200030300 0200000001
-0200000300 0200010000
-0300010001 0301
-050001300000 0521
-050001040005 0521
-050001060000 0521
-0500012E0002 0521
-0500012BFFFF 0500
-060001 0627
+builds 0 4 1 1 1 => built 3
+opens 0 3 3 0 => opened 0 1
+opens 0 0 3 0 => opened 1 0
+reads 0 1 1 => waiting
+controls 0 1 48 0 => refused 33
+controls 0 1 4 5 => refused 33
+controls 0 1 6 0 => refused 33
+controls 0 1 46 2 => refused 33
+controls 0 1 43 65535 => done
+collects 0 1 => refused 39
 
 = abort of a completed
 - 43 on a completed request answers status 2 and leaves it for collection
-0100000401000101 01000003
-0200030300 0200000001
-0200000300 0200010000
-0300010001 0301
-04000000014142 04000001
-0500012B0000 0502
-060001 060000014142
+builds 0 4 1 1 1 => built 3
+opens 0 3 3 0 => opened 0 1
+opens 0 0 3 0 => opened 1 0
+reads 0 1 1 => waiting
+writes 0 0 1 4142 => wrote 1
+controls 0 1 43 0 => end-of-file
+collects 0 1 => got 1 4142
 ";

@@ -4,13 +4,17 @@ mod calls;
 mod close_calls;
 mod control_calls;
 mod further;
+mod longest;
 mod open_calls;
 mod playing;
 mod reading;
 mod room;
 mod shapes;
 mod sheets;
+mod spelling;
+mod text;
 mod timing;
+mod vocabulary;
 mod waiting;
 mod worked;
 
@@ -28,5 +32,6 @@ fn main() {
     play(&close_calls::TABLE);
     play(&timing::TABLE);
     play(&sheets::TABLE);
+    play(&longest::TABLE);
     play(&further::TABLE);
 }

@@ -1,107 +1,107 @@
 // Open.
 
-pub const TABLE: [u8; 2202] = *b"
+pub const TABLE: [u8; 2765] = *b"
 = modes
 - access, share and multiaccess from 0 to 3: 35; multiaccess 3: 40, after 35
-0100000401000A01 0100000C
-0200040100 0223
-0200000400 0223
-0200000104 0223
-0200000103 0228
-0200040103 0223
-0208000100 021F
-0201000100 021F
-0200000102 0200000000
+builds 0 4 1 10 1 => built 12
+opens 0 4 1 0 => refused 35
+opens 0 0 4 0 => refused 35
+opens 0 0 1 4 => refused 35
+opens 0 0 1 3 => refused 40
+opens 0 4 1 3 => refused 35
+opens 8 0 1 0 => refused 31
+opens 1 0 1 0 => refused 31
+opens 0 0 1 2 => opened 0 0
 
 = share one
 - share 0 counts as 1: one reader, one writer; all give the same share
-0100000401000A01 0100000C
-0200000000 0200000000
-0200000100 0228
-0200030200 0228
-0200030100 0200010001
-0200030000 0228
-070000 0700
-070001 0700
-0200030300 0200000001
+builds 0 4 1 10 1 => built 12
+opens 0 0 0 0 => opened 0 0
+opens 0 0 1 0 => refused 40
+opens 0 3 2 0 => refused 40
+opens 0 3 1 0 => opened 1 1
+opens 0 3 0 0 => refused 40
+closes 0 0 => done
+closes 0 1 => done
+opens 0 3 3 0 => opened 0 1
 
 = share two
 - share 2: one reader, many writers
-0100000401000A01 0100000C
-0200000200 0200000000
-0200000200 0228
-0200030200 0200010001
-0200020200 0200020002
-0200000300 0228
+builds 0 4 1 10 1 => built 12
+opens 0 0 2 0 => opened 0 0
+opens 0 0 2 0 => refused 40
+opens 0 3 2 0 => opened 1 1
+opens 0 2 2 0 => opened 2 2
+opens 0 0 3 0 => refused 40
 
 = eight accessors
 - share 3: many of both, eight in all; 40 comes before 41
-0100000401000A01 0100000C
-0200000300 0200000000
-0200000300 0200010000
-0200000300 0200020000
-0200000300 0200030000
-0200000300 0200040000
-0200000300 0200050000
-0200000300 0200060000
-0200030300 0200070001
-0200000300 0229
-0200000200 0228
-070003 0700
-0200000300 0200030000
+builds 0 4 1 10 1 => built 12
+opens 0 0 3 0 => opened 0 0
+opens 0 0 3 0 => opened 1 0
+opens 0 0 3 0 => opened 2 0
+opens 0 0 3 0 => opened 3 0
+opens 0 0 3 0 => opened 4 0
+opens 0 0 3 0 => opened 5 0
+opens 0 0 3 0 => opened 6 0
+opens 0 3 3 0 => opened 7 1
+opens 0 0 3 0 => refused 41
+opens 0 0 2 0 => refused 40
+closes 0 3 => done
+opens 0 0 3 0 => opened 3 0
 
 = smallest id
 - 'the smallest number from 1 that no open writer of the file holds', and the smallest free place
-0100000401000A01 0100000C
-0200030300 0200000001
-0200030300 0200010002
-0200030301 0200020003
-070001 0700
-0200030300 0200010002
-070000 0700
-0200000300 0200000000
-0200030300 0200030001
+builds 0 4 1 10 1 => built 12
+opens 0 3 3 0 => opened 0 1
+opens 0 3 3 0 => opened 1 2
+opens 0 3 3 1 => opened 2 3
+closes 0 1 => done
+opens 0 3 3 0 => opened 1 2
+closes 0 0 => done
+opens 0 0 3 0 => opened 0 0
+opens 0 3 3 0 => opened 3 1
 
 = purges
 - access 1 purges with nobody open, and room is counted after it; 2 and 3 never do
-0100000401000101 01000003
-0200010300 0200000001
-04000000014142 04000001
-070000 0700
-0900 09000001000300000000
-0200030300 022A
-0200020300 022A
-0900 09000001000300000000
-0200010300 0200000001
-0900 09000000000100010000
+builds 0 4 1 1 1 => built 3
+opens 0 1 3 0 => opened 0 1
+writes 0 0 1 4142 => wrote 1
+closes 0 0 => done
+counts 0 => counted 1 3 0 0
+opens 0 3 3 0 => refused 42
+opens 0 2 3 0 => refused 42
+counts 0 => counted 1 3 0 0
+opens 0 1 3 0 => opened 0 1
+counts 0 => counted 0 1 1 0
 
 = appends beside others
 - access 1 with an accessor open appends
-0100000401000A01 0100000C
-0200020300 0200000001
-04000000014142 04000001
-070000 0700
-0200000300 0200000000
-0200010300 0200010001
-0900 09000001000400010001
+builds 0 4 1 10 1 => built 12
+opens 0 2 3 0 => opened 0 1
+writes 0 0 1 4142 => wrote 1
+closes 0 0 => done
+opens 0 0 3 0 => opened 0 0
+opens 0 1 3 0 => opened 1 1
+counts 0 => counted 1 4 1 1
 
 = settings anew
 - settings start anew at each open
-0100000401000A01 0100000C
-0200000300 0200000000
-0500002E0001 0500
-0500002D0001 0500
-0500002F0001 0500
-050000040005 0500
-070000 0700
-0200000300 0200000000
-0200030300 0200010001
-04000100014142 04000001
-0300000001 030000014142
-0900 09000000000000010001
-0300000001 0301
-080005 0800
-060000 0601
-070001 0700
-060000 0602
+builds 0 4 1 10 1 => built 12
+opens 0 0 3 0 => opened 0 0
+controls 0 0 46 1 => done
+controls 0 0 45 1 => done
+controls 0 0 47 1 => done
+controls 0 0 4 5 => done
+closes 0 0 => done
+opens 0 0 3 0 => opened 0 0
+opens 0 3 3 0 => opened 1 1
+writes 0 1 1 4142 => wrote 1
+reads 0 0 1 => got 1 4142
+counts 0 => counted 0 0 1 1
+reads 0 0 1 => waiting
+passes 5 => done
+collects 0 0 => waiting
+closes 0 1 => done
+collects 0 0 => end-of-file
 ";

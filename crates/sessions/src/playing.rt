@@ -1,7 +1,8 @@
 // A table of sessions is a text of lines:
 //     = NAME          a session begins, on a fresh desk
 //     - TEXT          a remark
-//     FRAME ANSWER    a call, and what it has to be answered, in hexadecimal digits; a line that begins with the space has an empty frame
+//     ASKED => TOLD   an event, and what it has to be answered, in the words of `vocabulary`
+//     FRAME ANSWER    the same in hexadecimal digits: document 01's own session, and frames that are none; a line that begins with the space has an empty one
 //     ? FILE=STATUS FRAME ..         save: the status, and the frames of the sheet
 //     + FILE FRAME ..=STATUS         load, of a sheet with these frames
 //     @ FILE READER=STATUS BYTES     look: the status, and the bytes shown
@@ -9,13 +10,17 @@
 use crate::calls::tell_load;
 use crate::calls::tell_look;
 use crate::calls::tell_save;
+use crate::spelling::SPELT;
+use crate::spelling::spell;
+use crate::text::behind;
+use crate::text::find;
 use check::same;
 use kinds::limits::BLOCKS_BYTES;
 use kinds::limits::BUFFERS_BYTES;
 use libc::STDOUT_FILENO;
 use lines::answer_line;
 use segment::layout::SEGMENT_BYTES;
-ghost use Prim.Native.Nat.{ℕ, _+_, _≤_, _<_};
+ghost use Prim.Native.Nat.{_+_, _≤_};
 ghost use lib.ListN.{length};
 
 const LF: u8 = 10;
@@ -24,32 +29,6 @@ const LF: u8 = 10;
 struct Played {
     begun: bool,
     well: bool,
-}
-
-// Where b next stands in the text from `from` on; the text's end where it does not.
-fn find(text: &[u8], from: usize, b: u8) -> usize
-    requires { ⌜ from ≤ length (now text) ⌝ }
-    ensures { λ r. ⌜ (from ≤ r) × (r ≤ length (now (text .entry))) ⌝ }
-{
-    let mut i = from;
-    while i < text.len() {
-        if text[i] == b {
-            return i;
-        }
-        i += 1;
-    }
-    i
-}
-
-// The place behind i, or the text's end.
-fn behind(text: &[u8], i: usize) -> usize
-    ensures within { λ r. ⌜ r ≤ length (now (text .entry)) ⌝ }
-    ensures onward { λ r. ⌜ ((k : ℕ) → k ≤ i → k < length (now (text .entry)) → k < r) ⌝ }
-{
-    if i < text.len() {
-        return i + 1;
-    }
-    text.len()
 }
 
 // The session that went on ends.
@@ -145,6 +124,41 @@ fn call(segment: &mut [u8], blocks: &mut [u8], buffers: &mut [u8], line: &[u8]) 
     false
 }
 
+// The same of a line in the first n of these bytes.
+fn call_first(
+    segment: &mut [u8],
+    blocks: &mut [u8],
+    buffers: &mut [u8],
+    bytes: &[u8],
+    n: usize,
+) -> bool {
+    if n > bytes.len() {
+        return false;
+    }
+    call(segment, blocks, buffers, &bytes[0..n])
+}
+
+// The same of a line by name.
+fn call_named(segment: &mut [u8], blocks: &mut [u8], buffers: &mut [u8], line: &[u8]) -> bool {
+    let mut digits = [0u8; SPELT];
+    let n = spell(line, &mut digits);
+    call_first(segment, blocks, buffers, &digits, n)
+}
+
+// Names are written small, all other lines begin otherwise.
+fn called(
+    segment: &mut [u8],
+    blocks: &mut [u8],
+    buffers: &mut [u8],
+    line: &[u8],
+    first: u8,
+) -> bool {
+    if first >= b'a' {
+        return call_named(segment, blocks, buffers, line);
+    }
+    call(segment, blocks, buffers, line)
+}
+
 fn play_line(
     segment: &mut [u8],
     blocks: &mut [u8],
@@ -162,7 +176,7 @@ fn play_line(
     if first == b'-' {
         return at;
     }
-    if call(segment, blocks, buffers, line) {
+    if called(segment, blocks, buffers, line, first) {
         return at;
     }
     Played {

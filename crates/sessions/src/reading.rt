@@ -1,150 +1,150 @@
 // Read.
 
-pub const TABLE: [u8; 3585] = *b"
+pub const TABLE: [u8; 4154] = *b"
 = discards and waits
 - open and close records at the head go also where the read then waits
-0100000401000101 01000003
-0200030300 0200000001
-0200000300 0200010000
-0300010001 0301
-0900 09000000000000010001
+builds 0 4 1 1 1 => built 3
+opens 0 3 3 0 => opened 0 1
+opens 0 0 3 0 => opened 1 0
+reads 0 1 1 => waiting
+counts 0 => counted 0 0 1 1
 
 = discards and ends
 - and where it ends with status 2
-0100000401000101 01000003
-0200000300 0200000000
-0300000001 0301
-0500002B0000 0500
-0200030300 0200010001
-070001 0700
-0900 09000000000200000001
-0300000001 0302
-0900 09000000000000000001
+builds 0 4 1 1 1 => built 3
+opens 0 0 3 0 => opened 0 0
+reads 0 0 1 => waiting
+controls 0 0 43 0 => done
+opens 0 3 3 0 => opened 1 1
+closes 0 1 => done
+counts 0 => counted 0 2 0 1
+reads 0 0 1 => end-of-file
+counts 0 => counted 0 0 0 1
 
 = leaves those behind
 - those behind the record taken stay
-0100000401000101 01000003
-0200030300 0200000001
-04000000014142 04000001
-070000 0700
-0200000300 0200000000
-0300000001 030000014142
-0900 09000000000100000001
+builds 0 4 1 1 1 => built 3
+opens 0 3 3 0 => opened 0 1
+writes 0 0 1 4142 => wrote 1
+closes 0 0 => done
+opens 0 0 3 0 => opened 0 0
+reads 0 0 1 => got 1 4142
+counts 0 => counted 0 1 0 1
 
 = typed
 - control 46: the head record of any type, type and ID words before the data; count and log cover them
-0100000401000101 01000003
-0200030300 0200000001
-04000000014142 04000001
-0200000300 0200010000
-0500012E0001 0500
-0300010082 0300000200010001
-030001FFFB 030000050000000141
-0900 09000000000000010001
+builds 0 4 1 1 1 => built 3
+opens 0 3 3 0 => opened 0 1
+writes 0 0 1 4142 => wrote 1
+opens 0 0 3 0 => opened 1 0
+controls 0 1 46 1 => done
+reads 0 1 130 => got 2 00010001
+reads 0 1 -5 => got 5 0000000141
+counts 0 => counted 0 0 1 1
 
 = keeps the record
 - control 47: the next read leaves its record at the head, the open record before it goes; the one after takes it
-0100000401000101 01000003
-0200030300 0200000001
-04000000014142 04000001
-0200000300 0200010000
-0500012F0001 0500
-0300010001 030000014142
-0900 09000001000100010001
-0300010001 030000014142
-0900 09000000000000010001
+builds 0 4 1 1 1 => built 3
+opens 0 3 3 0 => opened 0 1
+writes 0 0 1 4142 => wrote 1
+opens 0 0 3 0 => opened 1 0
+controls 0 1 47 1 => done
+reads 0 1 1 => got 1 4142
+counts 0 => counted 1 1 1 1
+reads 0 1 1 => got 1 4142
+counts 0 => counted 0 0 1 1
 
 = keeps the head typed
 - with 46 and 47 the head record itself is left, of any type
-0100000401000101 01000003
-0200030300 0200000001
-04000000014142 04000001
-0200000300 0200010000
-0500012E0001 0500
-0500012F0001 0500
-0300010082 0300000200010001
-0900 09000001000200010001
-0300010082 0300000200010001
-0900 09000001000100010001
+builds 0 4 1 1 1 => built 3
+opens 0 3 3 0 => opened 0 1
+writes 0 0 1 4142 => wrote 1
+opens 0 0 3 0 => opened 1 0
+controls 0 1 46 1 => done
+controls 0 1 47 1 => done
+reads 0 1 130 => got 2 00010001
+counts 0 => counted 1 2 1 1
+reads 0 1 130 => got 2 00010001
+counts 0 => counted 1 1 1 1
 
 = keep is spent
 - 47 is spent by a read that ends with status 2, and not by a refused one
-0100000401000101 01000003
-0200000300 0200000000
-0300000001 0301
-0500002B0000 0500
-0500002F0001 0500
-0300000001 0302
-0200020300 0200010001
-04000100014142 04000001
-0300000001 030000014142
-0900 09000000000000010001
-04000100014344 04000001
-0500002F0001 0500
-0300000083 0323
-0300000001 030000014344
-0900 09000001000100010001
+builds 0 4 1 1 1 => built 3
+opens 0 0 3 0 => opened 0 0
+reads 0 0 1 => waiting
+controls 0 0 43 0 => done
+controls 0 0 47 1 => done
+reads 0 0 1 => end-of-file
+opens 0 2 3 0 => opened 1 1
+writes 0 1 1 4142 => wrote 1
+reads 0 0 1 => got 1 4142
+counts 0 => counted 0 0 1 1
+writes 0 1 1 4344 => wrote 1
+controls 0 0 47 1 => done
+reads 0 0 131 => refused 35
+reads 0 0 1 => got 1 4344
+counts 0 => counted 1 1 1 1
 
 = keep waits along
 - a waiting read carries 47; the record that it leaves serves the next waiting reader too
-0100000401000101 01000003
-0200000300 0200000000
-0200000300 0200010000
-0500002F0001 0500
-0300000001 0301
-0300010001 0301
-0200030300 0200020001
-04000200014142 04000001
-060000 060000014142
-060001 060000014142
-0900 09000000000000010002
+builds 0 4 1 1 1 => built 3
+opens 0 0 3 0 => opened 0 0
+opens 0 0 3 0 => opened 1 0
+controls 0 0 47 1 => done
+reads 0 0 1 => waiting
+reads 0 1 1 => waiting
+opens 0 3 3 0 => opened 2 1
+writes 0 2 1 4142 => wrote 1
+collects 0 0 => got 1 4142
+collects 0 1 => got 1 4142
+counts 0 => counted 0 0 1 2
 
 = cut and lost
 - 'A longer record is cut to the count and the rest is lost.'
-0100000401000101 01000003
-0200030300 0200000001
-040000000241424344 04000002
-0200000300 0200010000
-030001FFFF 0300000141
-0900 09000000000000010001
+builds 0 4 1 1 1 => built 3
+opens 0 3 3 0 => opened 0 1
+writes 0 0 2 41424344 => wrote 2
+opens 0 0 3 0 => opened 1 0
+reads 0 1 -1 => got 1 41
+counts 0 => counted 0 0 1 1
 
 = logs
 - 'The log is in the unit asked, words rounded up': of an odd record, and of a write in its own unit
-0100000401000101 01000003
-0200030300 0200000001
-040000FFFD414243 04000003
-0200000300 0200010000
-0300010004 03000002414243
-04000000014142 04000001
-030001FFF8 030000024142
+builds 0 4 1 1 1 => built 3
+opens 0 3 3 0 => opened 0 1
+writes 0 0 -3 414243 => wrote 3
+opens 0 0 3 0 => opened 1 0
+reads 0 1 4 => got 2 414243
+writes 0 0 1 4142 => wrote 1
+reads 0 1 -8 => got 2 4142
 
 = zero bytes
 - 'Zero bytes is a record', and a count of 0 takes a record
-0100000401000101 01000003
-0200030300 0200000001
-0400000000 04000000
-0200000300 0200010000
-0300010004 03000000
-04000000014142 04000001
-0300010000 03000000
-0900 09000000000000010001
+builds 0 4 1 1 1 => built 3
+opens 0 3 3 0 => opened 0 1
+writes 0 0 0 => wrote 0
+opens 0 0 3 0 => opened 1 0
+reads 0 1 4 => got 0
+writes 0 0 1 4142 => wrote 1
+reads 0 1 0 => got 0
+counts 0 => counted 0 0 1 1
 
 = read counts
 - read counts 130 and -260 taken, 131, -261 and -32768 refused 35
-0100000401000101 01000003
-0200000100 0200000000
-0300000083 0323
-030000FEFB 0323
-0300008000 0323
-0300000082 0301
-0500002B0000 0500
-030000FEFC 0302
+builds 0 4 1 1 1 => built 3
+opens 0 0 1 0 => opened 0 0
+reads 0 0 131 => refused 35
+reads 0 0 -261 => refused 35
+reads 0 0 -32768 => refused 35
+reads 0 0 130 => waiting
+controls 0 0 43 0 => done
+reads 0 0 -260 => end-of-file
 
 = write counts
 - 'a write has at most 2R bytes': R is 4
-0100000401000101 01000003
-0200030100 0200000001
-04000000054142434445464748494A 0423
-040000FFF7414243444546474849 0423
-04000000044142434445464748 04000004
+builds 0 4 1 1 1 => built 3
+opens 0 3 1 0 => opened 0 1
+writes 0 0 5 4142434445464748494A => refused 35
+writes 0 0 -9 414243444546474849 => refused 35
+writes 0 0 4 4142434445464748 => wrote 4
 ";

@@ -1,60 +1,60 @@
 // Room, and where it returns.
 
-pub const TABLE: [u8; 1487] = *b"
+pub const TABLE: [u8; 1693] = *b"
 = by the block
 - room returns by the block: with three records a block, the second read makes room for the waiting write
-0100000403000401 01000006
-0200030100 0200000001
-04000000014141 04000001
-04000000014242 04000001
-04000000014343 04000001
-04000000014444 04000001
-0200000100 0200010000
-04000000014545 0401
-0300010001 030000014141
-060000 0601
-0300010001 030000014242
-060000 06000001
-0900 09000003000300010001
+builds 0 4 3 4 1 => built 6
+opens 0 3 1 0 => opened 0 1
+writes 0 0 1 4141 => wrote 1
+writes 0 0 1 4242 => wrote 1
+writes 0 0 1 4343 => wrote 1
+writes 0 0 1 4444 => wrote 1
+opens 0 0 1 0 => opened 1 0
+writes 0 0 1 4545 => waiting
+reads 0 1 1 => got 1 4141
+collects 0 0 => waiting
+reads 0 1 1 => got 1 4242
+collects 0 0 => wrote 1
+counts 0 => counted 3 3 1 1
 
 = empty has room
 - 'A file that becomes empty has used = 0': its one block of three has all its room again
-0100000403000101 01000003
-0200030100 0200000001
-04000000014141 04000001
-04000000014242 0402
-0200000100 0200010000
-0300010001 030000014141
-04000000014242 04000001
-0300010001 030000014242
+builds 0 4 3 1 1 => built 3
+opens 0 3 1 0 => opened 0 1
+writes 0 0 1 4141 => wrote 1
+writes 0 0 1 4242 => end-of-file
+opens 0 0 1 0 => opened 1 0
+reads 0 1 1 => got 1 4141
+writes 0 0 1 4242 => wrote 1
+reads 0 1 1 => got 1 4242
 
 = kept places
 - 'one place is kept for each close record': with two writers two of the four places; a close record takes the place kept for it
-0100000401000201 01000004
-0200030300 0200000001
-0200030300 0200010002
-04000000014141 0401
-070001 0700
-0900 09000000000300010000
+builds 0 4 1 2 1 => built 4
+opens 0 3 3 0 => opened 0 1
+opens 0 3 3 0 => opened 1 2
+writes 0 0 1 4141 => waiting
+closes 0 1 => done
+counts 0 => counted 0 3 1 0
 
 = open needs two
 - 'needs used + W + 2 <= C': a second writer finds 1 + 1 + 2 above 3
-0100000401000101 01000003
-0200030300 0200000001
-0200030300 022A
-0900 09000000000100010000
+builds 0 4 1 1 1 => built 3
+opens 0 3 3 0 => opened 0 1
+opens 0 3 3 0 => refused 42
+counts 0 => counted 0 1 1 0
 
 = round the ring
 - first in, first out, round the ring of three blocks
-0100000401000101 01000003
-0200030300 0200000001
-0200000300 0200010000
-04000000014141 04000001
-0300010001 030000014141
-04000000014242 04000001
-04000000014343 04000001
-0300010001 030000014242
-04000000014444 04000001
-0300010001 030000014343
-0300010001 030000014444
+builds 0 4 1 1 1 => built 3
+opens 0 3 3 0 => opened 0 1
+opens 0 0 3 0 => opened 1 0
+writes 0 0 1 4141 => wrote 1
+reads 0 1 1 => got 1 4141
+writes 0 0 1 4242 => wrote 1
+writes 0 0 1 4343 => wrote 1
+reads 0 1 1 => got 1 4242
+writes 0 0 1 4444 => wrote 1
+reads 0 1 1 => got 1 4343
+reads 0 1 1 => got 1 4444
 ";

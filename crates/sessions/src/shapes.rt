@@ -1,33 +1,33 @@
 // Frames: the nine shapes, and what is none.
 
-pub const TABLE: [u8; 924] = *b"
+pub const TABLE: [u8; 1484] = *b"
 = shapes
 - a frame that is none of the nine shapes, or write data not as long as its count: 30, whatever its first byte
  001E
 00 001E
 0A00 001E
-01000004010001 001E
-010000040100010100 001E
-02000301 001E
-020003010000 001E
-03000000 001E
-030000000000 001E
-04000000 001E
+shorter builds 0 4 1 1 1 => malformed
+longer builds 0 4 1 1 1 => malformed
+shorter opens 0 3 1 0 => malformed
+longer opens 0 3 1 0 => malformed
+shorter reads 0 0 0 => malformed
+longer reads 0 0 0 => malformed
+shorter writes 0 0 0 => malformed
 0400000001 001E
-040000000141 001E
+shorter writes 0 0 1 4100 => malformed
 0400000001414243 001E
-040000FFFF 001E
+shorter writes 0 0 -1 00 => malformed
 0400008000 001E
-0500000400 001E
-05000004000000 001E
-0600 001E
-06000000 001E
-0700 001E
-07000000 001E
-0800 001E
-08000000 001E
-09 001E
-090000 001E
+shorter controls 0 0 4 0 => malformed
+longer controls 0 0 4 0 => malformed
+shorter collects 0 0 => malformed
+longer collects 0 0 => malformed
+shorter closes 0 0 => malformed
+longer closes 0 0 => malformed
+shorter passes 0 => malformed
+longer passes 0 => malformed
+shorter counts 0 => malformed
+longer counts 0 => malformed
 
 = no lines
 - lower case, an odd number of digits, other characters: an empty frame
@@ -40,19 +40,19 @@ pub const TABLE: [u8; 924] = *b"
 = lowest first
 - 30 before 31, 31 before 32, 32 before 33 to 35
 0408000001 001E
-0400000000 041F
-0308090083 031F
-0300090083 031F
-0607 001E
-060700 061F
-070700 071F
-0907 091F
-0908 091F
-0100000401000101 01000003
-0300090083 0320
-0400FF0000 0420
-060000 0620
-060008 0620
-070007 0720
-05000030FFFF 0520
+writes 0 0 0 => refused 31
+reads 8 9 131 => refused 31
+reads 0 9 131 => refused 31
+shorter collects 7 0 => malformed
+collects 7 0 => refused 31
+closes 7 0 => refused 31
+counts 7 => refused 31
+counts 8 => refused 31
+builds 0 4 1 1 1 => built 3
+reads 0 9 131 => refused 32
+writes 0 255 0 => refused 32
+collects 0 0 => refused 32
+collects 0 8 => refused 32
+closes 0 7 => refused 32
+controls 0 0 48 65535 => refused 32
 ";

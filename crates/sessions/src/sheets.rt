@@ -1,58 +1,58 @@
 // Look, save and load.
 
-pub const TABLE: [u8; 3059] = *b"
+pub const TABLE: [u8; 3280] = *b"
 = look
 - the record lying in the reader's buffer as it will be answered, else the data bytes of the file's oldest data record, also with 46; 31, 32, 34, 39
 @ 0 0=1F
 @ 8 0=1F
-0100000401000A01 0100000C
+builds 0 4 1 10 1 => built 12
 @ 0 0=20
 @ 0 8=20
-0200000300 0200000000
+opens 0 0 3 0 => opened 0 0
 @ 0 0=27
-0200030300 0200010001
+opens 0 3 3 0 => opened 1 1
 @ 0 1=22
 @ 0 0=27
-04000100014142 04000001
+writes 0 1 1 4142 => wrote 1
 @ 0 0=00 4142
-0500002E0001 0500
+controls 0 0 46 1 => done
 @ 0 0=00 4142
-0300000082 0300000200010001
+reads 0 0 130 => got 2 00010001
 @ 0 0=00 4142
-0300000082 03000003000000014142
+reads 0 0 130 => got 3 000000014142
 @ 0 0=27
-0300000082 0301
+reads 0 0 130 => waiting
 @ 0 0=27
-0400010000 04000000
+writes 0 1 0 => wrote 0
 @ 0 0=00 00000001
-060000 0600000200000001
+collects 0 0 => got 2 00000001
 @ 0 0=27
-0500002E0000 0500
-0300000082 0301
-0400010000 04000000
+controls 0 0 46 0 => done
+reads 0 0 130 => waiting
+writes 0 1 0 => wrote 0
 @ 0 0=00
-060000 06000000
+collects 0 0 => got 0
 @ 0 0=27
 
 = look behind an ended read
 - a read that timed out, or ended with 2, brought no record: the file's oldest one is shown
-0100000401000A01 0100000C
-0200000300 0200000000
-050000040005 0500
-0300000001 0301
-080005 0800
+builds 0 4 1 10 1 => built 12
+opens 0 0 3 0 => opened 0 0
+controls 0 0 4 5 => done
+reads 0 0 1 => waiting
+passes 5 => done
 @ 0 0=27
-0200030300 0200010001
-04000100014142 04000001
+opens 0 3 3 0 => opened 1 1
+writes 0 1 1 4142 => wrote 1
 @ 0 0=00 4142
-060000 0616
+collects 0 0 => timed-out
 @ 0 0=00 4142
 
 = saves and loads
 - save: 31 above 7 or not built; load: 31 above 7 or already built, before 43
 ? 0=1F
 ? 8=1F
-0100000401000101 01000003
+builds 0 4 1 1 1 => built 3
 ? 0=00 0100040100030000
 + 0 0100040100030000=1F
 + 8 0100040100030000=1F
@@ -91,28 +91,28 @@ pub const TABLE: [u8; 3059] = *b"
 - a loaded file may be full: a writer finds no room, but access 1 purges first
 + 2 0100010100030003 00010001 000000014142 0002FFFF=00
 ? 2=00 0100010100030003 00010001 000000014142 0002FFFF
-0902 09000001000300000000
-0202030300 022A
-0202010300 0200000001
+counts 2 => counted 1 3 0 0
+opens 2 3 3 0 => refused 42
+opens 2 1 3 0 => opened 0 1
 ? 2=00 0100010100030001 00010001
 
 = round trip
 - a ring whose first block is spent: the sheet has the records held, oldest first, and what it loads to has the same sheet and goes on
-0100000202000401 01000006
-0200030300 0200000001
-0200000300 0200010000
-04000000014141 04000001
-04000000014242 04000001
-04000000014343 04000001
-0300010001 030000014141
+builds 0 2 2 4 1 => built 6
+opens 0 3 3 0 => opened 0 1
+opens 0 0 3 0 => opened 1 0
+writes 0 0 1 4141 => wrote 1
+writes 0 0 1 4242 => wrote 1
+writes 0 0 1 4343 => wrote 1
+reads 0 1 1 => got 1 4141
 ? 0=00 0100020200030002 000000014242 000000014343
 + 1 0100020200030002 000000014242 000000014343=00
 ? 1=00 0100020200030002 000000014242 000000014343
-0901 09000002000200000000
-070000 0700
+counts 1 => counted 2 2 0 0
+closes 0 0 => done
 ? 0=00 0100020200030003 000000014242 000000014343 00020001
-0201000300 0200000000
-0301000001 030000014242
-0301000001 030000014343
-0301000001 0302
+opens 1 0 3 0 => opened 0 0
+reads 1 0 1 => got 1 4242
+reads 1 0 1 => got 1 4343
+reads 1 0 1 => end-of-file
 ";

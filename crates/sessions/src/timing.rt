@@ -1,92 +1,92 @@
 // Timeouts, and time.
 
-pub const TABLE: [u8; 1674] = *b"
+pub const TABLE: [u8; 2219] = *b"
 = timeout five
 - timeout 5: time 4 completes nothing, then 1 completes it
-0100000401000101 01000003
-0200000100 0200000000
-050000040005 0500
-0300000001 0301
-080004 0800
-060000 0601
-080001 0800
-060000 0616
-060000 0627
-0300000001 0302
+builds 0 4 1 1 1 => built 3
+opens 0 0 1 0 => opened 0 0
+controls 0 0 4 5 => done
+reads 0 0 1 => waiting
+passes 4 => done
+collects 0 0 => waiting
+passes 1 => done
+collects 0 0 => timed-out
+collects 0 0 => refused 39
+reads 0 0 1 => end-of-file
 
 = each its own
 - every request whose remaining timeout is at most e completes, the others lose e; the timer starts when the request waits
-0100000401000A01 0100000C
-0200000300 0200000000
-0200000300 0200010000
-0200000300 0200020000
-050000040005 0500
-050001040009 0500
-0300000001 0301
-080002 0800
-0300010001 0301
-0300020001 0301
-080003 0800
-060000 0616
-060001 0601
-060002 0601
-080005 0800
-060001 0601
-080001 0800
-060001 0616
-060002 0601
+builds 0 4 1 10 1 => built 12
+opens 0 0 3 0 => opened 0 0
+opens 0 0 3 0 => opened 1 0
+opens 0 0 3 0 => opened 2 0
+controls 0 0 4 5 => done
+controls 0 1 4 9 => done
+reads 0 0 1 => waiting
+passes 2 => done
+reads 0 1 1 => waiting
+reads 0 2 1 => waiting
+passes 3 => done
+collects 0 0 => timed-out
+collects 0 1 => waiting
+collects 0 2 => waiting
+passes 5 => done
+collects 0 1 => waiting
+passes 1 => done
+collects 0 1 => timed-out
+collects 0 2 => waiting
 
 = goes with its request
 - the timer goes when the request completes, and when it is aborted
-0100000401000101 01000003
-0200000300 0200000000
-050000040005 0500
-0300000001 0301
-0500002B0000 0500
-080004 0800
-0200030300 0200010001
-0300000001 0301
-080004 0800
-060000 0601
-04000100014142 04000001
-080009 0800
-060000 060000014142
+builds 0 4 1 1 1 => built 3
+opens 0 0 3 0 => opened 0 0
+controls 0 0 4 5 => done
+reads 0 0 1 => waiting
+controls 0 0 43 0 => done
+passes 4 => done
+opens 0 3 3 0 => opened 1 1
+reads 0 0 1 => waiting
+passes 4 => done
+collects 0 0 => waiting
+writes 0 1 1 4142 => wrote 1
+passes 9 => done
+collects 0 0 => got 1 4142
 
 = zero disables
 - a timeout of 0 disables; FFFF is 65,535 seconds
-0100000401000101 01000003
-0200000100 0200000000
-050000040005 0500
-050000040000 0500
-0300000001 0301
-08FFFF 0800
-060000 0601
-0500002B0000 0500
-05000004FFFF 0500
-0500002D0001 0500
-0300000001 0301
-08FFFE 0800
-060000 0601
-080001 0800
-060000 0616
+builds 0 4 1 1 1 => built 3
+opens 0 0 1 0 => opened 0 0
+controls 0 0 4 5 => done
+controls 0 0 4 0 => done
+reads 0 0 1 => waiting
+passes 65535 => done
+collects 0 0 => waiting
+controls 0 0 43 0 => done
+controls 0 0 4 65535 => done
+controls 0 0 45 1 => done
+reads 0 0 1 => waiting
+passes 65534 => done
+collects 0 0 => waiting
+passes 1 => done
+collects 0 0 => timed-out
 
 = a write times out
 - a waiting write times out too, and the one behind it is served later
-0100000401000201 01000004
-0200030300 0200000001
-0200030300 0200010002
-050000040003 0500
-04000000014141 0401
-04000100014242 0401
-0800FF 0800
-060000 0616
-0200000300 0200020000
-0300020001 0301
-060002 060000014242
-060001 06000001
+builds 0 4 1 2 1 => built 4
+opens 0 3 3 0 => opened 0 1
+opens 0 3 3 0 => opened 1 2
+controls 0 0 4 3 => done
+writes 0 0 1 4141 => waiting
+writes 0 1 1 4242 => waiting
+passes 255 => done
+collects 0 0 => timed-out
+opens 0 0 3 0 => opened 2 0
+reads 0 2 1 => waiting
+collects 0 2 => got 1 4242
+collects 0 1 => wrote 1
 
 = no file
 - time needs no file
-080000 0800
-08FFFF 0800
+passes 0 => done
+passes 65535 => done
 ";

@@ -1,93 +1,93 @@
 // Who waits, and who ends with status 2.
 
-pub const TABLE: [u8; 2139] = *b"
+pub const TABLE: [u8; 2622] = *b"
 = first write
 - a first write waits with nobody to read; the next ends with status 2, unless 45 is on
-0100000401000201 01000004
-0200030300 0200000001
-0200030300 0200010002
-04000000014141 0401
-060000 0601
-0500002B0000 0500
-04000000014141 0402
-0500002D0001 0500
-04000000014141 0401
+builds 0 4 1 2 1 => built 4
+opens 0 3 3 0 => opened 0 1
+opens 0 3 3 0 => opened 1 2
+writes 0 0 1 4141 => waiting
+collects 0 0 => waiting
+controls 0 0 43 0 => done
+writes 0 0 1 4141 => end-of-file
+controls 0 0 45 1 => done
+writes 0 0 1 4141 => waiting
 
 = first read
 - a first read waits with nobody to write; a refused one does not spend that, an abort does not give it back; 45 makes the next wait
-0100000401000101 01000003
-0200000100 0200000000
-0300000083 0323
-0300000001 0301
-0500002B0000 0500
-0300000001 0302
-0500002D0001 0500
-0300000001 0301
+builds 0 4 1 1 1 => built 3
+opens 0 0 1 0 => opened 0 0
+reads 0 0 131 => refused 35
+reads 0 0 1 => waiting
+controls 0 0 43 0 => done
+reads 0 0 1 => end-of-file
+controls 0 0 45 1 => done
+reads 0 0 1 => waiting
 
 = first served
 - a first read that is served at once is spent too
-0100000401000101 01000003
-0200030300 0200000001
-04000000014142 04000001
-0200000300 0200010000
-0300010001 030000014142
-070000 0700
-0300010001 0302
+builds 0 4 1 1 1 => built 3
+opens 0 3 3 0 => opened 0 1
+writes 0 0 1 4142 => wrote 1
+opens 0 0 3 0 => opened 1 0
+reads 0 1 1 => got 1 4142
+closes 0 0 => done
+reads 0 1 1 => end-of-file
 
 = other side
 - a read waits while a writer is open, a write while a reader is
-0100000401000101 01000003
-0200000100 0200000000
-0300000001 0301
-0500002B0000 0500
-0200030100 0200010001
-0300000001 0301
-04000100014141 04000001
-060000 060000014141
-04000100014242 04000001
-04000100014343 04000001
-04000100014444 0401
+builds 0 4 1 1 1 => built 3
+opens 0 0 1 0 => opened 0 0
+reads 0 0 1 => waiting
+controls 0 0 43 0 => done
+opens 0 3 1 0 => opened 1 1
+reads 0 0 1 => waiting
+writes 0 1 1 4141 => wrote 1
+collects 0 0 => got 1 4141
+writes 0 1 1 4242 => wrote 1
+writes 0 1 1 4343 => wrote 1
+writes 0 1 1 4444 => waiting
 
 = readers in order
 - waiting readers are served in the order of coming
-0100000401000401 01000006
-0200000300 0200000000
-0200000300 0200010000
-0300010001 0301
-0300000001 0301
-0200030300 0200020001
-04000200014141 04000001
-04000200014242 04000001
-060000 060000014242
-060001 060000014141
+builds 0 4 1 4 1 => built 6
+opens 0 0 3 0 => opened 0 0
+opens 0 0 3 0 => opened 1 0
+reads 0 1 1 => waiting
+reads 0 0 1 => waiting
+opens 0 3 3 0 => opened 2 1
+writes 0 2 1 4141 => wrote 1
+writes 0 2 1 4242 => wrote 1
+collects 0 0 => got 1 4242
+collects 0 1 => got 1 4141
 
 = served while settling
 - a read that discards two open records waits (1), and is served by the write that then fits; the second writer is served after it
-0100000401000201 01000004
-0200030300 0200000001
-0200030300 0200010002
-04000000014141 0401
-04000100014242 0401
-0200000300 0200020000
-0300020001 0301
-060002 060000014141
-060000 06000001
-060001 06000001
-0300020001 030000014242
+builds 0 4 1 2 1 => built 4
+opens 0 3 3 0 => opened 0 1
+opens 0 3 3 0 => opened 1 2
+writes 0 0 1 4141 => waiting
+writes 0 1 1 4242 => waiting
+opens 0 0 3 0 => opened 2 0
+reads 0 2 1 => waiting
+collects 0 2 => got 1 4141
+collects 0 0 => wrote 1
+collects 0 1 => wrote 1
+reads 0 2 1 => got 1 4242
 
 = one outstanding
 - one outstanding request an accessor, until collected: 33 for read, write and control, and 39 once it is collected
-0100000401000101 01000003
-0200000300 0200000000
-0300000001 0301
-0300000001 0321
-060000 0601
-0200030300 0200010001
-04000100014142 04000001
-0300000001 0321
-050000040001 0521
-060000 060000014142
-060000 0627
-04000000014142 0422
-0300010001 0322
+builds 0 4 1 1 1 => built 3
+opens 0 0 3 0 => opened 0 0
+reads 0 0 1 => waiting
+reads 0 0 1 => refused 33
+collects 0 0 => waiting
+opens 0 3 3 0 => opened 1 1
+writes 0 1 1 4142 => wrote 1
+reads 0 0 1 => refused 33
+controls 0 0 4 1 => refused 33
+collects 0 0 => got 1 4142
+collects 0 0 => refused 39
+writes 0 0 1 4142 => refused 34
+reads 0 1 1 => refused 34
 ";

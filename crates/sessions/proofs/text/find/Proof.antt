@@ -1,8 +1,8 @@
 use borrow.Author.Needs.{needs}
 use Prim.Native.Nat.{_≤_, _-_}
 use lib.ListN.{length}
-use Rattle.sessions.proofs.playing.find.Statement.{statement}
-use Rattle.sessions.proofs.playing.find.Tie as tie
+use Rattle.sessions.proofs.text.find.Statement.{statement}
+use Rattle.sessions.proofs.text.find.Tie as tie
 
 abbrev Inv-loop : tie.InvT-loop
 Inv-loop text from b i₀ i = (from ≤ i) × (i ≤ length text)
