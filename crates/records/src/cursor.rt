@@ -1,8 +1,10 @@
 // The one walk over held records. A cursor is a ring and the place of its oldest record, which stands under the cursor; a step leads to the ring without it.
 // `Stands` (specs/Cursor.antt) is the invariant: `first` begins it, `next` keeps it.
 ghost use mathlib.Core.Path.{_≡_};
-ghost use Prim.Native.Nat.{_≤_, _<_};
+ghost use Prim.Native.Nat.{_+_, _*_, _≤_, _<_};
+ghost use lib.Dec.{eqb};
 ghost use lib.ListN.{length};
+ghost use Rattle.words.specs.Word.{wordAt};
 ghost use Rattle.rules.specs.Limits.{shareBytes};
 ghost use Rattle.shares.specs.Places.{skip};
 ghost use Rattle.ring.specs.Ring.{advanced};
@@ -11,7 +13,10 @@ ghost use Rattle.records.specs.Cursor.{Stands};
 use crate::reading::next;
 use ring::Ring;
 use ring::layout::BLOCK_HEAD;
+use ring::layout::BLOCK_HEAD_WORDS;
 use ring::layout::RECORD_HEAD;
+use ring::layout::RECORD_HEAD_WORDS;
+use ring::layout::USED;
 use ring::layout::block_span;
 
 // The records still to go are those that its ring holds; behind the last there are none.
@@ -37,13 +42,31 @@ fn skip(share: &[u8], e: usize, at: usize, n: u16) -> usize
     p
 }
 
-// The cursor at the ring's oldest record: behind those of its block that are spent.
+// Whether all records put into the block that begins at `at` are of the full size: its words used say so.
+fn full(share: &[u8], at: usize, words: u16) -> bool
+    requires { ⌜ (at + 4 ≤ length (now share)) × (length (now share) ≡ shareBytes) ⌝ }
+    ensures { λ r. ⌜ r ≡ eqb (wordAt (now (share .entry)) (at + 2)) (2 + wordAt (now (share .entry)) at * (words + 3)) ⌝ }
+{
+    let count = words::get(share, at) as u64;
+    let used = words::get(share, at + USED) as u64;
+    used == BLOCK_HEAD_WORDS as u64 + count * (words as u64 + RECORD_HEAD_WORDS as u64)
+}
+
+// The cursor at the ring's oldest record: behind those of its block that are spent. Where all are of the full size, as most often, it counts to its place and
+// steps over none of them (`stands-full`, proofs/cursor/Laws.antt).
 pub fn first(share: &[u8], ring: Ring, words: u16) -> Cursor
     requires { ⌜ Held words ring (now share) ⌝ }
     ensures ring { λ r. ⌜ r .ring ≡ ring ⌝ }
     ensures stands { λ r. ⌜ Stands words (now (share .entry)) r ⌝ }
 {
     let block = block_span(ring, words, ring.block);
+    if full(share, block.at, words) {
+        let each = RECORD_HEAD + 2 * words as usize;
+        return Cursor {
+            ring,
+            at: block.at + BLOCK_HEAD + ring.spent as usize * each,
+        };
+    }
     let at = skip(
         share,
         block.at + block.size,

@@ -22,14 +22,14 @@ use ring::layout::TYPE;
 // The bytes of the type and ID words.
 const HEADER: u16 = 2 * HEADER_WORDS;
 
-// The cursor at the oldest data record, or behind the last record.
-fn discarded(share: &[u8], ring: Ring, words: u16) -> Cursor
-    requires { ⌜ Held words ring (now share) ⌝ }
-    ensures ring { λ r. ⌜ ((s : Store) → Stores words ring (now (share .entry)) s → r .ring ≡ ringOf (geo words ring) (ahead (geo words ring) false s)) ⌝ }
+// From a cursor on the cursor at the oldest data record, or behind the last record.
+fn discarded(share: &[u8], from: Cursor, words: u16) -> Cursor
+    requires { ⌜ Stands words (now share) «from» ⌝ }
+    ensures ring { λ r. ⌜ ((s : Store) → Stores words («from» .ring) (now (share .entry)) s → r .ring ≡ ringOf (geo words («from» .ring)) (ahead (geo words («from» .ring)) false s)) ⌝ }
     ensures stands { λ r. ⌜ Stands words (now (share .entry)) r ⌝ }
-    ensures oldest { λ r. ⌜ oldestOf (geo words ring) (now (share .entry)) (ring .block) (ring .spent) (ring .held) ≡ shown r ⌝ }
+    ensures oldest { λ r. ⌜ oldestOf (geo words («from» .ring)) (now (share .entry)) («from» .ring .block) («from» .ring .spent) («from» .ring .held) ≡ shown r ⌝ }
 {
-    let mut cursor = first(share, ring, words);
+    let mut cursor = from;
     while cursor.ring.held > 0 {
         if words::get(share, cursor.at + TYPE) == DATA {
             return cursor;
@@ -45,11 +45,11 @@ pub fn found(share: &[u8], ring: Ring, words: u16, typed: bool) -> Cursor
     ensures ring { λ r. ⌜ ((s : Store) → Stores words ring (now (share .entry)) s → r .ring ≡ ringOf (geo words ring) (ahead (geo words ring) typed s)) ⌝ }
     ensures stands { λ r. ⌜ Stands words (now (share .entry)) r ⌝ }
 {
+    let head = first(share, ring, words);
     if typed {
-        first(share, ring, words)
-    } else {
-        discarded(share, ring, words)
+        return head;
     }
+    discarded(share, head, words)
 }
 
 // The oldest data record of those that the ring holds.
@@ -58,7 +58,7 @@ pub fn oldest(share: &[u8], ring: Ring, words: u16) -> Found
     ensures place { λ r. ⌜ r ≡ oldestOf (geo words ring) (now (share .entry)) (ring .block) (ring .spent) (ring .held) ⌝ }
     ensures readable { λ r. ⌜ ((p : ℕ) → r ≡ Found.At p → Readable (now (share .entry)) p) ⌝ }
 {
-    let cursor = discarded(share, ring, words);
+    let cursor = discarded(share, first(share, ring, words), words);
     if cursor.ring.held > 0 {
         return Found::At(cursor.at);
     }

@@ -3,20 +3,23 @@ use Prim.Native.Nat.{ℕ, suc, _+_, _*_, _/_, _%_, _≤_, _<_}
 use mathlib.Core.Path.{_≡_, refl, sym, ap, _∙_}
 use mathlib.Core.List.{List, [], _∷_, _++_}
 use native.Mathlib.Omega.{arith}
-use native.Mathlib.Nat.{add-zero, mod-lt, mod-eq-of-lt, div-eq-of-lt, div-add-mod'}
+use native.Mathlib.Nat.{add-zero, add-mul, mod-lt, mod-eq-of-lt, div-eq-of-lt, div-add-mod'}
 use lib.Dec.{leb}
-use lib.ListN.{length, getD, take, drop, length-take, length-drop}
+use lib.ListN.{length, getD, take, drop, length-append, length-take, length-drop, take-append-drop}
 use lib.Seq.{split-at, length-take-le, getD-take, getD-drop}
 use borrow.Author.Tests.{le-leb}
 use Rattle.words.proofs.Stands.{Stands, left, right}
 use Rattle.rules.specs.State.{Rec, Geo, Store}
 use Rattle.rules.specs.Store.{used, recordBytes, recordWords, blockBytes}
+use Rattle.words.specs.Word.{wordAt}
+use Rattle.shares.specs.Groups.{Small, Shape, Begun}
 use Rattle.shares.specs.Image.{bytesOf, wordsOf, image}
-use Rattle.shares.specs.Holds.{Sized, Holds}
+use Rattle.shares.specs.Holds.{Sized, At, Holds}
 use Rattle.shares.specs.Back.{recAt, next, usedRecs, groupAt}
 use Rattle.shares.specs.Places.{skip, placeIn, placeOf, headAt}
 use Rattle.rules.proofs.Split.{pick-true}
-use Rattle.shares.proofs.Image.{length-recordBytes, recordWords-least, wordsOf-append, apart}
+use Rattle.shares.proofs.Image.{length-recordBytes, recordWords-least, wordsOf-append, apart, image-put, image-used}
+use Rattle.shares.proofs.Groups.{all-take, all-drop, wordsOf-small}
 use Rattle.shares.proofs.Ring.{block-inside, ring-inside, block-fits}
 use Rattle.shares.proofs.Says.{spent-most}
 use Rattle.shares.proofs.Back.{recAt-stands, next-stands}
@@ -104,3 +107,35 @@ unfolding Whole
 headAt-read g s r rest o h e =
     let y = headAt-stands g s r rest o h e in
     recAt-stands (s .share) (headAt g s) r (omega (arith, y .1, h .long, block-inside g o (s .block) (h .block))) (y .0)
+
+-- Records of the full size, one right behind another: their places follow from their number. Words used say that all of a block are so.
+
+full-part : (m : ℕ) (f t : List Rec) → wordsOf (f ++ t) ≡ length (f ++ t) * m → Small m f → Small m t → wordsOf f ≡ length f * m
+full-part m f t e a b =
+    let n : length (f ++ t) * m ≡ (length f + length t) * m = ap (λ (n : ℕ). n * m) (length-append f t) in
+    omega (arith, wordsOf-append f t, wordsOf-small m f a, wordsOf-small m t b, add-mul (length f) (length t) m)
+
+full-at : (g : Geo) (xs : List ℕ) (k i : ℕ) (qs : List (List Rec)) → k < g .blocks → Shape (g .factor) qs → Begun i qs → At g xs k qs
+    → wordAt xs (k * blockBytes g + 2) ≡ 2 + wordAt xs (k * blockBytes g) * (g .words + 3)
+    → placeIn g xs k i ≡ k * blockBytes g + 4 + i * (2 * (g .words + 3))
+unfolding placeIn skip Shape Begun At
+full-at g xs k i [] l c b a e = rw b (omega arith)
+full-at g xs k i (q ∷ qs) l c b a e =
+    let m = g .words + 3 in
+    let p = k * blockBytes g in
+    let f = take i q in
+    let t = drop i q in
+    let z : f ++ t ≡ q = take-append-drop i q in
+    let y : Stands xs p (image (blockBytes g) q) = rw (mod-eq-of-lt l) at (a .1) in
+    let n : length f ≡ i = length-take-le i q (omega arith) in
+    let u : wordsOf q ≡ length q * m = omega (arith, e, image-used xs p (blockBytes g) q y, ap (λ (x : ℕ). x * m) (image-put xs p (blockBytes g) q y)) in
+    let v : wordsOf f ≡ length f * m = full-part m f t (rw z u) (all-take (λ (r : Rec). recordWords r ≤ m) i q (a .0)) (all-drop (λ (r : Rec). recordWords r ≤ m) i q (a .0)) in
+    let w : wordsOf q ≡ wordsOf f + wordsOf t = ap wordsOf (sym z) ∙ wordsOf-append f t in
+    let r = skip-stands xs (p + blockBytes g) f t (p + 4) (omega (arith, block-fits g q (c .1) (a .0))) (rw z (apart xs p (blockBytes g) q y .recs)) in
+    ap (skip xs (p + blockBytes g) (p + 4)) (sym n) ∙ (r .0 ∙ omega (arith, v, ap (λ (x : ℕ). x * m) n))
+
+pub headAt-full : (g : Geo) (s : Store) → Holds g s
+    → wordAt (s .share) (s .block * blockBytes g + 2) ≡ 2 + wordAt (s .share) (s .block * blockBytes g) * (g .words + 3)
+    → headAt g s ≡ s .block * blockBytes g + 4 + s .spent * (2 * (g .words + 3))
+unfolding headAt
+headAt-full g s h e = full-at g (s .share) (s .block) (s .spent) (h .groups) (h .block) (h .shape) (h .begun) (h .at) e

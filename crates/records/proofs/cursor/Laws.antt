@@ -7,6 +7,7 @@ use native.Mathlib.Numerals.{add-one}
 use lib.Dec.{leb}
 use lib.ListN.{length, take, drop}
 use borrow.Author.Tests.{le-leb, lt-leb, leb-false}
+use Rattle.words.specs.Word.{wordAt}
 use Rattle.rules.specs.Limits.{shareBytes}
 use Rattle.rules.specs.State.{Rec, Geo, Store}
 use Rattle.rules.specs.Store.{blockBytes}
@@ -14,7 +15,7 @@ use Rattle.rules.proofs.Split.{by-cases, pick-true, pick-false}
 use Rattle.shares.specs.Back.{recAt, next, ringRecs, readBack}
 use Rattle.shares.specs.Places.{skip, placeIn, headAt}
 use Rattle.shares.proofs.Image.{recordWords-least}
-use Rattle.shares.proofs.Places.{Whole, headAt-stands, headAt-read}
+use Rattle.shares.proofs.Places.{Whole, headAt-stands, headAt-read, headAt-full}
 use Rattle.ring.specs.declared.Ring.{Ring}
 use Rattle.ring.specs.declared.layout.Span.{Span}
 use Rattle.ring.specs.Ring.{geo, spanOf, Ranged, advanced}
@@ -92,6 +93,20 @@ module _ (w : ℕ) (r : Ring) (xs : List ℕ) (h : Held w r xs) where
   head-inside q rest e =
       own w r xs h (λ (t : Ring) (ys : List ℕ). placeIn g ys (t .block) (t .spent) + 6 ≤ t .block * blockBytes g + blockBytes g)
       (omega (arith, headAt-stands g s q rest (h .fitted .sized) (h .holds) e .1, recordWords-least q))
+
+  -- all records of its block being of the full size
+  pub stands-full : (b : Span) → b ≡ spanOf g (r .block) → wordAt xs (b .at + 2) ≡ 2 + wordAt xs (b .at) * (w + 3) → (p : ℕ) → p ≡ b .at + 4 + r .spent * (6 + 2 * w)
+      → Stands w xs (record { ring = r; at = p })
+  unfolding headAt
+  stands-full b e t p f =
+      let at : b .at ≡ r .block * blockBytes g = ap (λ (x : Span). x .at) e in
+      let t′ : wordAt xs (r .block * blockBytes g + 2) ≡ 2 + wordAt xs (r .block * blockBytes g) * (w + 3) = rw at at t in
+      let place : wordAt xs (r .block * blockBytes g + 2) ≡ 2 + wordAt xs (r .block * blockBytes g) * (w + 3) → headPlace w r xs ≡ r .block * blockBytes g + 4 + r .spent * (2 * (w + 3)) =
+      own w r xs h
+      (λ (t : Ring) (ys : List ℕ). wordAt ys (t .block * blockBytes g + 2) ≡ 2 + wordAt ys (t .block * blockBytes g) * (w + 3) → placeIn g ys (t .block) (t .spent) ≡ t .block * blockBytes g + 4 + t .spent * (2 * (w + 3)))
+      (headAt-full g s (h .holds)) in
+      let z : 6 + 2 * w ≡ 2 * (w + 3) = omega arith in
+      record { held = h; at = f ∙ (ap (λ (x : ℕ). x + 4 + r .spent * (6 + 2 * w)) at ∙ (ap (λ (x : ℕ). r .block * blockBytes g + 4 + r .spent * x) z ∙ sym (place t′))) }
 
   module _ (l : 0 < r .held) where
     first : (q : Rec) × (rest : List Rec) × (s .recs ≡ q ∷ rest)

@@ -1,7 +1,11 @@
 -- `cursor::first` meets its contract: an answer to each need, in the order of the code.
-use Rattle.records.proofs.cursor.Laws.{head-made}
+use Rattle.records.proofs.cursor.Laws.{head-made, stands-full}
 use Rattle.ring.proofs.Held.{held-long, held-ranged}
-use mathlib.Core.Path.{refl}
+use Prim.Native.Nat.{_+_, _*_}
+use mathlib.Core.Path.{refl, sym, _∙_}
+use native.Mathlib.Omega.{arith}
+use native.Mathlib.Nat.{mul-le-mul-right}
+use borrow.Author.Tests.{eqb-true}
 use borrow.Author.Needs.{needs}
 use Rattle.records.proofs.cursor.first.Statement.{statement}
 use Rattle.records.proofs.cursor.first.Tie as tie
@@ -10,6 +14,44 @@ block-span-requires : tie.Need-block-span-requires
 block-span-requires c κs =
     let start : tie.Start = search in
     (start .pre .fitted, held-ranged _ _ _ (start .pre) .block)
+
+full-requires : tie.Need-full-requires
+full-requires c κs =
+    let start : tie.Start = search in
+    let long = held-long _ _ _ (start .pre) in
+    (search needs, long)
+
+mul-each : tie.Need-mul-each
+mul-each c = search needs
+
+add-each : tie.Need-add-each
+add-each c = search needs
+
+add-t8 : tie.Need-add-t8
+add-t8 c = search needs
+
+cast-t9 : tie.Need-cast-t9
+cast-t9 c = search needs
+
+mul-t10 : tie.Need-mul-t10
+mul-t10 c =
+    let start : tie.Start = search in
+    let most = mul-le-mul-right {m = start .args .ring .spent} {n = 65535} (6 + 2 * start .args .words) (omega arith) in
+    search needs
+
+add-t11 : tie.Need-add-t11
+add-t11 c =
+    let start : tie.Start = search in
+    let most = mul-le-mul-right {m = start .args .ring .spent} {n = 65535} (6 + 2 * start .args .words) (omega arith) in
+    search needs
+
+returns : tie.Need-returns
+returns c =
+    let start : tie.Start = search in
+    let block : tie.After-block-span = search in
+    let asked : tie.After-full = search in
+    let then : tie.Then1 = search in
+    (refl, stands-full _ _ _ (start .pre) _ (block .block-span .ensures .0) (eqb-true _ _ (sym (asked .full .ensures) ∙ then .if1 .taken)) _ refl)
 
 add-skip : tie.Need-add-skip
 add-skip c = search needs
@@ -23,11 +65,26 @@ skip-requires c κs =
     let long = held-long _ _ _ (start .pre) in
     search needs
 
-returns : tie.Need-returns
-returns c =
+returns-2 : tie.Need-returns-2
+returns-2 c =
     let start : tie.Start = search in
     let block : tie.After-block-span = search in
     (refl, record { held = start .pre; at = head-made _ _ _ _ _ (block .block-span .ensures .0) _ (c .skip .ensures) })
 
 pub first-spec : {M : Type 1} → statement M
-first-spec = tie.close (tie.spec block-span-requires add-skip add-skip-2 skip-requires returns)
+first-spec =
+    tie.close
+    (tie.spec
+    block-span-requires
+    full-requires
+    mul-each
+    add-each
+    add-t8
+    cast-t9
+    mul-t10
+    add-t11
+    returns
+    add-skip
+    add-skip-2
+    skip-requires
+    returns-2)

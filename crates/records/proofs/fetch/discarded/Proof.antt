@@ -12,11 +12,8 @@ Inv-loop share words cursor₀ cursor = Search words (cursor₀ .ring) share cur
 abbrev μ-loop : tie.MeasureT-loop
 μ-loop share words cursor₀ cursor = cursor .ring .held
 
-first-requires : tie.Need-first-requires Inv-loop μ-loop
-first-requires c κs = c .before .pre
-
 loop-holds : tie.Need-loop-holds Inv-loop μ-loop
-loop-holds c = search-start _ _ _ _ refl (c .first .ensures .1)
+loop-holds c = search-start _ _ _ _ refl (c .before .pre)
 
 add-get : tie.Need-add-get Inv-loop μ-loop
 add-get c =
@@ -33,9 +30,8 @@ returns : tie.Need-returns Inv-loop μ-loop
 returns c =
     let b3 = c .before .before .before in
     let b6 = b3 .before .before .before in
-    rw (← b6 .first .ensures .0)
-    (search-stop _ _ _ (b6 .first .ensures .1 .held) _ (b3 .before .before .loop .inv) (b3 .if1 .taken)
-    (sym (c .before .get .ensures) ∙ c .if2 .taken))
+    search-stop _ _ _ (b6 .before .pre .held) _ (b3 .before .before .loop .inv) (b3 .if1 .taken)
+    (sym (c .before .get .ensures) ∙ c .if2 .taken)
 
 next-requires : tie.Need-next-requires Inv-loop μ-loop
 next-requires c κs =
@@ -54,14 +50,14 @@ loop-again : tie.Need-loop-again Inv-loop μ-loop
 loop-again c =
     let b3 = c .before .before .before in
     let b6 = b3 .before .before .before in
-    search-next _ _ _ (b6 .before .first .ensures .1 .held) _ (b6 .loop .inv) (b3 .before .if1 .taken)
+    search-next _ _ _ (b6 .before .before .pre .held) _ (b6 .loop .inv) (b3 .before .if1 .taken)
     (λ z. c .before .if2 .left (c .before .before .get .ensures ∙ z)) _ (c .next .ensures .0)
     (c .next .ensures .1)
 
 returns-2 : tie.Need-returns-2 Inv-loop μ-loop
 returns-2 c =
     let b3 = c .before .before .before in
-    rw (← b3 .first .ensures .0) (search-end _ _ _ (b3 .first .ensures .1 .held) _ (c .before .before .loop .inv) (c .if1 .left))
+    search-end _ _ _ (b3 .before .pre .held) _ (c .before .before .loop .inv) (c .if1 .left)
 
 pub discarded-spec : {M : Type 1} → statement M
 discarded-spec =
@@ -69,7 +65,6 @@ discarded-spec =
     (tie.spec
     Inv-loop
     μ-loop
-    first-requires
     loop-holds
     add-get
     get-requires
