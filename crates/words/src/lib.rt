@@ -34,8 +34,8 @@ pub fn zero(s: &mut [u8], at: usize, n: usize)
     }
 }
 
-// All of `from` is stored from a place on.
-pub fn copy(s: &mut [u8], at: usize, from: &[u8])
+// All of `from` is stored from a place on, byte by byte.
+fn store(s: &mut [u8], at: usize, from: &[u8])
     requires { ⌜ at + length (now from) ≤ length (now s) ⌝ }
     ensures { λ _. ⌜ now (s .exit) ≡ sets (now (s .entry)) at (now (from .entry)) ⌝ }
 {
@@ -44,6 +44,34 @@ pub fn copy(s: &mut [u8], at: usize, from: &[u8])
         s[at + i] = from[i];
         i += 1;
     }
+}
+
+// The bytes that are copied at once.
+const RUN: usize = 16;
+
+// So many bytes by way of a local, which no memory overlaps: LLVM then makes one load and one store of them, where it has to go byte by byte from memory to memory.
+fn store_run(s: &mut [u8], at: usize, from: &[u8])
+    requires { ⌜ (length (now from) ≡ 16) × (at + 16 ≤ length (now s)) ⌝ }
+    ensures { λ _. ⌜ now (s .exit) ≡ sets (now (s .entry)) at (now (from .entry)) ⌝ }
+{
+    let mut run = [0u8; RUN];
+    store(&mut run, 0, from);
+    store(s, at, &run);
+}
+
+// All of `from` is stored from a place on.
+pub fn copy(s: &mut [u8], at: usize, from: &[u8])
+    requires { ⌜ at + length (now from) ≤ length (now s) ⌝ }
+    ensures { λ _. ⌜ now (s .exit) ≡ sets (now (s .entry)) at (now (from .entry)) ⌝ }
+{
+    let n = from.len();
+    let mut i = 0;
+    while n - i >= RUN {
+        let e = i + RUN;
+        store_run(s, at + i, &from[i..e]);
+        i = e;
+    }
+    store(s, at + i, &from[i..]);
 }
 
 // Whether n bytes from a place on are zero: one `or` of them all, with no way out, for LLVM to take many bytes at a time.
