@@ -1,15 +1,12 @@
 -- The settling loop: its turns, its end, and what it counts down.
 use Prim.Native.Nat.{ℕ, _≤_, _<_}
 use mathlib.Core.Path.{_≡_, refl, sym, ap, _∙_, subst}
-use mathlib.Core.Bool.{Bool, true, false, _&&_}
+use mathlib.Core.Bool.{true, false}
 use mathlib.Core.List.{List}
 use native.Mathlib.Omega.{arith}
-use borrow.Author.Tests.{leb-true, le-leb, lt-leb}
-use lib.Dec.{leb}
 use Rattle.rules.specs.Limits.{entries}
 use Rattle.rules.specs.State.{Built}
 use Rattle.rules.specs.Settle.{Turn, serveReader, serveWriter, atHead, turn, settle}
-use Rattle.rules.proofs.Split.{and-left, and-right}
 use Rattle.segment.specs.Layout.{readQueue, writeQueue}
 use Rattle.segment.specs.Table.{nth}
 use Rattle.laws.proofs.Settled.{many, shrunk-turn, reader-head}
@@ -94,22 +91,9 @@ module _ {f : ℕ} {xs₀ blocks₀ buffers₀ : List ℕ} {x₀ : hand.File} {x
         let N = served o c (K .mid o b M) in
         subst (λ (z : Built). Mid Fine f o xs₂ blocks₂ buffers₂ (q .file) z) (sym (settle-rest c (sym (N .moved) ∙ stay)) ∙ K .same o b M) (N .mid)
 
--- e is the head of the read queue
-module _ (xs : List ℕ) (f e : ℕ) (is : e ≡ nth xs (readQueue f)) where
-  abbrev writes : Bool
-  writes = leb entries (nth xs (writeQueue f))
-
-  pub reader-waits : e < entries → leb entries e ≡ leb entries (nth xs (readQueue f)) && leb entries (nth xs (writeQueue f))
-  reader-waits h = lt-leb entries e h ∙ sym (ap (λ (t : Bool). t && writes) (ap (leb entries) (sym is) ∙ lt-leb entries e h))
-
-  pub no-reader : (g : ℕ) → g ≡ nth xs (writeQueue f) → entries ≤ e → leb entries g ≡ leb entries (nth xs (readQueue f)) && leb entries (nth xs (writeQueue f))
-  no-reader g q h = sym (ap (λ (t : Bool). t && writes) (ap (leb entries) (sym is) ∙ le-leb entries e h) ∙ ap (leb entries) (sym q))
-
 -- nobody waits, and the file has settled
-pub nobody-settles : {f : ℕ} {o : Start} {xs blocks buffers : List ℕ} {x : hand.File} {b : Built} → leb entries (nth xs (readQueue f)) && leb entries (nth xs (writeQueue f)) ≡ true
+pub nobody-settles : {f : ℕ} {o : Start} {xs blocks buffers : List ℕ} {x : hand.File} {b : Built} → entries ≤ nth xs (readQueue f) → entries ≤ nth xs (writeQueue f)
     → Mid Fine f o xs blocks buffers x b → Mid Fine f o xs blocks buffers x (settle b)
-nobody-settles {f} {o} {xs} {blocks} {buffers} {x} {b} h M =
-    let r = leb-true entries (nth xs (readQueue f)) (and-left (leb entries (nth xs (readQueue f))) _ h) in
-    let w = leb-true entries (nth xs (writeQueue f)) (and-right (leb entries (nth xs (readQueue f))) _ h) in
+nobody-settles {f} {o} {xs} {blocks} {buffers} {x} {b} r w M =
     at-rest (comes-here f xs blocks buffers x) {r = record { moved = false; file = x }} (λ o b M. reading.turn-nobody M _ refl r) refl
     {q = record { moved = false; file = x }} (λ o b M. writing.turn-nobody M _ refl w) refl o b M

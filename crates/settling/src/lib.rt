@@ -1,13 +1,6 @@
 // "then the file settles: while something can be done, serve the first waiting reader, else the first waiting writer."
 // The file is in hand, and the settled file is handed back or put into its row; the memories are those of a call in its midst.
-ghost use mathlib.Core.Path.{_≡_};
-ghost use mathlib.Core.Bool.{_&&_};
 ghost use Prim.Native.Nat.{_<_};
-ghost use lib.Dec.{leb};
-ghost use lib.ListN.{length};
-ghost use Rattle.segment.specs.Layout.{segmentBytes, readQueue, writeQueue};
-ghost use Rattle.segment.specs.Table.{nth};
-ghost use Rattle.rules.specs.Limits.{entries};
 ghost use Rattle.rules.specs.State.{Built};
 ghost use Rattle.rules.specs.Settle.{settle};
 ghost use Rattle.rules.specs.Reply.{Reply, leaves};
@@ -62,24 +55,28 @@ pub fn settle(
     settled
 }
 
-// Whether no request of file f waits.
-fn nobody_waits(segment: &[u8], f: usize) -> bool
-    requires { ⌜ (length (now segment) ≡ segmentBytes) × (f < 8) ⌝ }
-    ensures { λ r. ⌜ r ≡ (leb entries (nth (now (segment .entry)) (readQueue f)) && leb entries (nth (now (segment .entry)) (writeQueue f))) ⌝ }
+// The file settles, and goes back into its row.
+fn settle_back(segment: &mut [u8], blocks: &mut [u8], buffers: &mut [u8], f: usize, file: File)
+    requires { ⌜ Amid f (now segment) (now blocks) (now buffers) file ⌝ }
+    ensures { λ _. ⌜ ((o : Start) (b : Built) → Mid Fine f o (now (segment .entry)) (now (blocks .entry)) (now (buffers .entry)) file b → Bodies (o .blocks) (o .buffers) (o .desk) → (r : Reply) → Outcome f (o .desk) (o .alloc) (leaves r (settle b)) (o .blocks) (o .buffers) (now (segment .exit)) (now (blocks .exit)) (now (buffers .exit))) ⌝ }
 {
-    layout::ENTRIES <= segment::get(segment, layout::READ_QUEUES + f)
-        && layout::ENTRIES <= segment::get(segment, layout::WRITE_QUEUES + f)
+    let settled = settle(segment, blocks, buffers, f, file);
+    put_file(segment, f, settled);
 }
 
-// What is left of a call that has acted: the file settles, and goes back into its row. Most often nobody waits.
+// What is left of a call that has acted: the file settles, and goes back into its row. Most often nobody waits, and it goes back as it is. `settle_back` is
+// called at two places, so that the compiler leaves it a function, and what it gets ready for the settling loop is not got ready here.
 pub fn rest(segment: &mut [u8], blocks: &mut [u8], buffers: &mut [u8], f: usize, file: File)
     requires { ⌜ Amid f (now segment) (now blocks) (now buffers) file ⌝ }
     ensures { λ _. ⌜ ((o : Start) (b : Built) → Mid Fine f o (now (segment .entry)) (now (blocks .entry)) (now (buffers .entry)) file b → Bodies (o .blocks) (o .buffers) (o .desk) → (r : Reply) → Outcome f (o .desk) (o .alloc) (leaves r (settle b)) (o .blocks) (o .buffers) (now (segment .exit)) (now (blocks .exit)) (now (buffers .exit))) ⌝ }
 {
-    if nobody_waits(segment, f) {
-        put_file(segment, f, file);
+    if segment::get(segment, layout::READ_QUEUES + f) < layout::ENTRIES {
+        settle_back(segment, blocks, buffers, f, file);
         return;
     }
-    let settled = settle(segment, blocks, buffers, f, file);
-    put_file(segment, f, settled);
+    if segment::get(segment, layout::WRITE_QUEUES + f) < layout::ENTRIES {
+        settle_back(segment, blocks, buffers, f, file);
+        return;
+    }
+    put_file(segment, f, file);
 }
