@@ -5,7 +5,7 @@ use mathlib.Core.Bool.{Bool, false}
 use mathlib.Core.List.{List, [], _∷_, _++_, append-nil}
 use mathlib.Core.Option.{some}
 use native.Mathlib.Omega.{arith}
-use lib.ListN.{length, getD, set, length-map, length-append}
+use lib.ListN.{length, getD, length-map, length-append}
 use lib.Seq.{getD-append-seam}
 use Rattle.occurrences.specs.Count.{count}
 use Rattle.occurrences.proofs.Counts.{bit-eq, count-append}
@@ -13,7 +13,7 @@ use Rattle.rules.specs.Limits.{entries}
 use Rattle.rules.specs.State.{reading, Acc, Built, built}
 use Rattle.rules.specs.Requests.{accAt}
 use Rattle.rules.specs.Close.{endReaders}
-use Rattle.rules.specs.Desk.{Desk}
+use Rattle.rules.specs.Desk.{Desk, withFile}
 use Rattle.rules.specs.Allocation.{Alloc, placeOf, heldAt, ownEntry, allotAll}
 use Rattle.segment.specs.Layout.{listCount, segmentBytes, readQueue, fileRows}
 use Rattle.segment.specs.Table.{nth, dataOf}
@@ -64,7 +64,7 @@ module _ {n f : ℕ} {o : Start} {xs blocks buffers : List ℕ} {x : hand.File} 
   t = allotAll f (b .past) (o .alloc)
 
   abbrev d : Desk
-  d = set (o .desk) f (built b)
+  d = withFile (o .desk) f (built b)
 
   low : readQueue f < listCount
   low = below-side false f (W .mid .file)
@@ -183,5 +183,5 @@ walk-begin {f = f} {o = o} {b = b} M = record {
     t : Alloc
     t = allotAll f (b .past) (o .alloc)
 
-    listed : getD (listsOf (set (o .desk) f (built b)) t) (readQueue f) [] ≡ entriesIn f t (b .rq)
+    listed : getD (listsOf (withFile (o .desk) f (built b)) t) (readQueue f) [] ≡ entriesIn f t (b .rq)
     listed = getD-listsOf _ t (readQueue f) (below-side false f (M .file)) ∙ list-side _ t f (M .file) b (mid-file M) false

@@ -6,10 +6,10 @@ use mathlib.Core.List.{List}
 use mathlib.Core.Option.{some}
 use native.Mathlib.Omega.{arith}
 use lib.Dec.{eqb}
-use lib.ListN.{set}
 use Rattle.occurrences.specs.Count.{bit}
 use Rattle.rules.specs.Limits.{places, entries}
 use Rattle.rules.specs.State.{Req, idle, reading, writing, readDone, writeDone, Acc, Built, built}
+use Rattle.rules.specs.Desk.{withFile}
 use Rattle.rules.specs.Requests.{accAt, cancel}
 use Rattle.rules.specs.Memories.{lies}
 use Rattle.rules.specs.Allocation.{placeOf, allotAll}
@@ -84,7 +84,7 @@ module _ {f : ℕ} {o : Start} {xs blocks buffers : List ℕ} {x : hand.File} {b
   unfolding sideOf
   waits-is =
       ap isWaiting (ap (outstandingAt xs f p) side-is
-      ∙ outstanding-boxes (set (o .desk) f (built b)) (allotAll f (b .past) (o .alloc)) (M .segment .boxes) f (M .file) b (mid-file M) (M .good .queues) p a (mid-below M p a e) e (M .good .sides p a e))
+      ∙ outstanding-boxes (withFile (o .desk) f (built b)) (allotAll f (b .past) (o .alloc)) (M .segment .boxes) f (M .file) b (mid-file M) (M .good .queues) p a (mid-below M p a e) e (M .good .sides p a e))
 
   module _ (w : isWaiting (outstandingAt xs f p side) ≡ true) where
     waits : waitsAt (a .writer) (a .req) ≡ 1

@@ -1,7 +1,7 @@
 -- Each event that no desk refuses: it may be done, and what it comes to is the rules' answer.
 use Prim.Native.Nat.{ℕ, _<_}
 use mathlib.Core.Path.{_≡_, refl, ap}
-use mathlib.Core.List.{List, [], map}
+use mathlib.Core.List.{List, []}
 use mathlib.Core.Logic.{inl}
 use mathlib.Core.Option.{some}
 use native.Mathlib.Omega.{arith}
@@ -19,8 +19,7 @@ use Rattle.rules.specs.Frames.{frameOf}
 use Rattle.rules.specs.Calls.{ask}
 use Rattle.rules.specs.Calls as calls
 use Rattle.rules.specs.Counts as counting
-use Rattle.rules.specs.Desk.{Desk, event, asked, frameAsks, time, fileOf, answered, respond}
-use Rattle.rules.specs.Time.{fileTime}
+use Rattle.rules.specs.Desk.{Desk, event, asked, frameAsks, time, fileOf, deskTime, answered, respond}
 use Rattle.rules.specs.Allocation.{Alloc, allocTime}
 use Rattle.memory.specs.Stands.{Stands, buffersAt}
 use Rattle.memory.specs.Fine.{StandsFor}
@@ -130,7 +129,7 @@ module _ (fr : List ℕ) {xs blocks buffers : List ℕ} (never : (d : Desk) (s :
 
   -- time is never refused
   pub act-time : (e : ℕ) → frameOf fr ≡ Event (Time e) → (d : Desk) (s : Alloc) → StandsFor xs blocks buffers d s → (memory xs′ buffers′ : List ℕ)
-      → Stands xs′ blocks buffers′ (map (fileTime e) d) (allocTime e s) → ((g : ℕ) → g < files → fileOf d g ≡ unbuilt → buffersAt g buffers′ ≡ buffersAt g buffers)
+      → Stands xs′ blocks buffers′ (deskTime e d) (allocTime e s) → ((g : ℕ) → g < files → fileOf d g ≡ unbuilt → buffersAt g buffers′ ≡ buffersAt g buffers)
       → Acted d s (event fr) blocks buffers memory xs′ blocks buffers′ memory Passed 0
   unfolding frameAsks asked respond answered
   act-time e said d s S memory xs′ buffers′ T h =

@@ -5,11 +5,11 @@ use mathlib.Core.List.{List, []}
 use mathlib.Core.Logic.{inl, inr}
 use mathlib.Core.Option.{Option}
 use lib.Dec.{eqb}
-use lib.ListN.{length, set}
+use lib.ListN.{length}
 use Rattle.kinds.specs.declared.Answer.{Answer}
 use Rattle.kinds.specs.declared.Control.{Control}
 use Rattle.rules.specs.Limits.{files}
-use Rattle.rules.specs.State.{Hap, Req, idle, reading, writing, readDone, writeDone, Acc, Built, unbuilt, built}
+use Rattle.rules.specs.State.{Hap, Req, idle, reading, writing, readDone, writeDone, Acc, Built, built}
 use Rattle.rules.specs.Store.{fetch}
 use Rattle.rules.specs.Count.{countBytes}
 use Rattle.rules.specs.Requests.{writers}
@@ -19,11 +19,11 @@ use Rattle.rules.specs.Transfer.{mayWait, readOn, collected, collect}
 use Rattle.rules.specs.Calls.{ask}
 use Rattle.rules.specs.Calls as calls
 use Rattle.rules.specs.Counts as counting
-use Rattle.rules.specs.Desk.{Desk, on, fileOf, answered}
+use Rattle.rules.specs.Desk.{Desk, on, fileOf, withFile, answered}
 use Rattle.rules.specs.Allocation.{Alloc, allotAll}
 use Rattle.rules.proofs.Split.{both, opt}
 use Rattle.laws.specs.Runs.{OnFile, Proper}
-use lib.Seq.{set-getD}
+use Rattle.laws.proofs.EightFiles.{file-here}
 use Rattle.memory.specs.Fine.{StandsFor}
 use Rattle.midst.specs.Outcome.{refusalOf, Done}
 use Rattle.midst.proofs.Accepted.{accepted-build, accepted-open, accepted-read, accepted-write, accepted-control, accepted-collect, accepted-close, accepted-counts}
@@ -111,8 +111,8 @@ counts-done {xs} {blocks} {buffers} {d} {s} S f r hf b e q = rw (e, ask) (subst 
     calm : b .past ≡ []
     calm = unfold OnFile in (rw e at (S .agreed .calm f hf))
 
-    file-same : set d f (built (hushed b)) ≡ d
-    file-same = ap (λ (c : Built). set d f (built c)) (hushed-same b calm) ∙ ap (set d f) (sym e) ∙ (unfold fileOf in set-getD d f unbuilt)
+    file-same : withFile d f (built (hushed b)) ≡ d
+    file-same = ap (λ (c : Built). withFile d f (built c)) (hushed-same b calm) ∙ file-here d f (built b) e
 
     same : Done f d s (answering r b) blocks buffers xs blocks buffers r
     same = unfold answering leaves allotAll in record {

@@ -1,9 +1,9 @@
 -- The contracts of the functions that act leave nothing open: two results that meet one are the same, in the answer and in all lent memories.
 use Prim.Native.Nat.{ℕ, _<_}
 use mathlib.Core.Path.{_≡_, refl, sym, ap, _∙_}
-use mathlib.Core.List.{List, map}
+use mathlib.Core.List.{List}
 use native.Mathlib.Decide.{ℕ-discrete}
-use lib.ListN.{length, set}
+use lib.ListN.{length}
 use lib.Seq.{sets}
 use borrow.Author.Tests.{lt-ltb}
 use Rattle.kinds.specs.declared.Answer.{Answer}
@@ -13,8 +13,7 @@ use Rattle.rules.specs.State.{unbuilt}
 use Rattle.rules.specs.Reply.{Reply, answers, shows}
 use Rattle.rules.specs.Calls.{Ask, ask}
 use Rattle.rules.specs.Calls as calls
-use Rattle.rules.specs.Desk.{Desk, on, time, fileOf, answered}
-use Rattle.rules.specs.Time.{fileTime}
+use Rattle.rules.specs.Desk.{Desk, on, time, fileOf, withFile, deskTime, answered}
 use Rattle.rules.specs.Allocation.{Alloc, allotAll, allocTime, allocAsked}
 use Rattle.laws.specs.Runs.{Proper, OnFile}
 use Rattle.laws.specs.Queues.{Agree}
@@ -30,12 +29,12 @@ use Rattle.memory.proofs.Once.{agreed-covers}
 use Rattle.memory.proofs.Determined.{stands-same}
 use Rattle.midst.specs.Outcome.{refusalOf, Outcome, Done, Gave}
 use Rattle.midst.proofs.Accepted.{accepted-file}
-use Rattle.midst.proofs.Alike.{file-set}
 use Rattle.midst.proofs.StaysFine.{answered-fine}
 use Rattle.midst.proofs.StandsBehind.{Built′}
 use Rattle.promises.proofs.Unbuilt.{not-both, time-unbuilt}
 use Rattle.desk.proofs.Known.{built-build, built-open, built-read, built-write, built-control, built-collect, built-close}
 use Rattle.laws.proofs.Isolation.{answered-time}
+use Rattle.laws.proofs.EightFiles.{file-same}
 
 answerOf : Reply → Answer
 answerOf (answers a d) = a
@@ -85,7 +84,7 @@ module _ {xs blocks buffers : List ℕ} {d : Desk} {s : Alloc} (S : StandsFor xs
   low : f < files
   low = accepted-file d f q ok
 
-  desk-is : answered d (on f q) .desk ≡ set d f (ask (fileOf d f) q .file)
+  desk-is : answered d (on f q) .desk ≡ withFile d f (ask (fileOf d f) q .file)
   unfolding answered
   desk-is = rw (lt-ltb f files low, answered)
 
@@ -93,22 +92,22 @@ module _ {xs blocks buffers : List ℕ} {d : Desk} {s : Alloc} (S : StandsFor xs
   unfolding allocAsked
   alloc-is = rw (lt-ltb f files low, allocAsked, happens-here f d q)
 
-  covers : Covers (set d f (ask (fileOf d f) q .file)) (allotAll f (ask (fileOf d f) q .haps) s)
+  covers : Covers (withFile d f (ask (fileOf d f) q .file)) (allotAll f (ask (fileOf d f) q .haps) s)
   unfolding ProperAsked
   covers =
       rw (← desk-is, ← alloc-is)
       (covered (answered d (on f q) .desk) (allocAsked d (on f q) s) (laws.answers d s (on f q) k (S .agreed)) (answered-fine d (on f q) (S .agreed .eight) k (S .fine)))
 
   module _ (x b y x′ b′ y′ : List ℕ) (O : Outcome f d s (ask (fileOf d f) q) blocks buffers x b y) (P : Outcome f d s (ask (fileOf d f) q) blocks buffers x′ b′ y′) where
-    alike : Alike (set d f (ask (fileOf d f) q .file)) b y b′ y′
+    alike : Alike (withFile d f (ask (fileOf d f) q .file)) b y b′ y′
     alike g h u = go (ℕ-discrete g f)
       where
         go : Dec (g ≡ f) → (shareAt g b ≡ shareAt g b′) × (buffersAt g y ≡ buffersAt g y′)
-        go (yes e) = absurd (not-both (fileOf (set d f (ask (fileOf d f) q .file)) g) (B .file) (ap (fileOf (set d f (ask (fileOf d f) q .file))) e ∙ file-set d f (ask (fileOf d f) q .file) (rw (S .agreed .eight) low) ∙ B .is) u)
+        go (yes e) = absurd (not-both (fileOf (withFile d f (ask (fileOf d f) q .file)) g) (B .file) (ap (fileOf (withFile d f (ask (fileOf d f) q .file))) e ∙ file-same d f (ask (fileOf d f) q .file) (S .agreed .eight) low ∙ B .is) u)
         go (no n) = (O .apart .shares g h n ∙ sym (P .apart .shares g h n), O .apart .others g h n ∙ sym (P .apart .others g h n))
 
     pub outcome-same : (x ≡ x′) × (b ≡ b′) × (y ≡ y′)
-    outcome-same = stands-same (set d f (ask (fileOf d f) q .file)) (allotAll f (ask (fileOf d f) q .haps) s) x b y x′ b′ y′ covers (O .stands) (P .stands) alike
+    outcome-same = stands-same (withFile d f (ask (fileOf d f) q .file)) (allotAll f (ask (fileOf d f) q .haps) s) x b y x′ b′ y′ covers (O .stands) (P .stands) alike
 
   -- build, open, write, control and close answer with no data
   pub done-same : (x b y x′ b′ y′ : List ℕ) (a a′ : Answer) → Done f d s (ask (fileOf d f) q) blocks buffers x b y a → Done f d s (ask (fileOf d f) q) blocks buffers x′ b′ y′ a′
@@ -131,12 +130,12 @@ module _ {xs blocks buffers : List ℕ} {d : Desk} {s : Alloc} (S : StandsFor xs
 module _ {xs blocks buffers : List ℕ} {d : Desk} {s : Alloc} (S : StandsFor xs blocks buffers d s) (e : ℕ) where
   abbrev Passes : List ℕ → List ℕ → Type 0
   Passes x y =
-      Stands x blocks y (map (fileTime e) d) (allocTime e s) × ((g : ℕ) → g < files → fileOf d g ≡ unbuilt → buffersAt g y ≡ buffersAt g buffers)
+      Stands x blocks y (deskTime e d) (allocTime e s) × ((g : ℕ) → g < files → fileOf d g ≡ unbuilt → buffersAt g y ≡ buffersAt g buffers)
 
   pub passed-same : (x y x′ y′ : List ℕ) → Passes x y → Passes x′ y′ → (x ≡ x′) × (y ≡ y′)
   unfolding answered allocAsked ProperAsked
   passed-same x y x′ y′ (T, o) (U, p) =
-      let c = covered (map (fileTime e) d) (allocTime e s) (laws.answers d s (time e) tt (S .agreed)) (answered-fine d (time e) (S .agreed .eight) tt (S .fine)) in
-      let r = stands-same (map (fileTime e) d) (allocTime e s) x blocks y x′ blocks y′ c T U
+      let c = covered (deskTime e d) (allocTime e s) (laws.answers d s (time e) tt (S .agreed)) (answered-fine d (time e) (S .agreed .eight) tt (S .fine)) in
+      let r = stands-same (deskTime e d) (allocTime e s) x blocks y x′ blocks y′ c T U
       (λ g h u. (refl, o g h (time-unbuilt e (fileOf d g) (sym (answered-time d g e) ∙ u)) ∙ sym (p g h (time-unbuilt e (fileOf d g) (sym (answered-time d g e) ∙ u))))) in
       (r .0, r .2)

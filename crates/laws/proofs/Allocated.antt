@@ -23,7 +23,8 @@ use Rattle.laws.specs.Entries.{entriesOf, size, Whole, sieve, accsOf, ti
 use Rattle.laws.specs.Midst.{Elsewhere, Matches, Comes}
 use Rattle.laws.proofs.Lists.{getD-replicate-same}
 use Rattle.laws.proofs.Proper.{ProperAsked, asked-proper}
-use Rattle.laws.proofs.Isolation.{ownFile, length-answered, answered-named, answered-other, answered-time, fresh-file}
+use Rattle.laws.proofs.EightFiles.{eight-fresh, fresh-file}
+use Rattle.laws.proofs.Isolation.{ownFile, eight-answered, answered-named, answered-other, answered-time}
 use Rattle.laws.proofs.Counts.{at-or-else, count-upFrom}
 use Rattle.laws.proofs.Outstanding.{outstanding-most, reqs-none}
 use Rattle.laws.proofs.Taken.{taken-replicate}
@@ -52,7 +53,7 @@ AtFile d s f = Agrees f s (accsOf (fileOf d f)) (timersOf (fileOf d f)) × Calm 
 
 asks : (d : Desk) (s : Alloc) (f : ℕ) (q : Ask) → f < files → Proper q → Agreed d s → Agreed (answered d (on f q) .desk) (allotAll f (ask (fileOf d f) q .haps) s)
 asks d s f q h k A = record {
-  eight = length-answered d (on f q) (A .eight);
+  eight = eight-answered d (on f q) (A .eight);
   whole = c .matches .whole;
   clock = c .matches .clock;
   agrees = λ g b. each g b .0;
@@ -76,7 +77,7 @@ asks d s f q h k A = record {
 
 passes : (d : Desk) (s : Alloc) (e : ℕ) → Agreed d s → Agreed (answered d (time e) .desk) (allocTime e s)
 passes d s e A = record {
-  eight = length-answered d (time e) (A .eight);
+  eight = eight-answered d (time e) (A .eight);
   whole = ages 0 (omega arith) e s (fileOf d 0) (stand d s 0 (omega arith) A) .whole;
   clock = ages 0 (omega arith) e s (fileOf d 0) (stand d s 0 (omega arith) A) .clock;
   agrees = λ g b. rw (answered-time d g e) (ages g b e s (fileOf d g) (stand d s g b A) .agrees);
@@ -124,7 +125,7 @@ fresh-agrees f = record {
 
 pub agreed-fresh : Agreed freshDesk freshAlloc
 agreed-fresh = record {
-  eight = unfold freshDesk in refl;
+  eight = eight-fresh;
   whole = fresh-whole;
   clock = unfold freshAlloc in record { sorted = unfold Sorted in tt; within = λ i _. unfold countT placesOf count in refl };
   agrees = λ f h. rw (fresh-file f) (fresh-agrees f);

@@ -4,8 +4,6 @@ use mathlib.Core.Bool.{Bool, true, false}
 use mathlib.Core.List.{List, [], _∷_, _++_, append-assoc, append-nil}
 use Prim.Native.Nat.{ℕ}
 use lib.Dec.{ltb, eqb}
-use lib.ListN.{length, length-set, length-map, List·getD-map}
-use lib.Seq.{getD-set-same, getD-set-other}
 use borrow.Author.Tests.{ltb-true, eqb-true, eqb-false}
 use Rattle.rules.specs.Limits.{files}
 use Rattle.rules.specs.State.{Hap, File, unbuilt}
@@ -14,8 +12,9 @@ use Rattle.rules.specs.Calls.{Ask, ask, refusal}
 use Rattle.rules.specs.Desk.{Call, Asked, on, time, bad, asked, Desk, freshDesk, fileOf, Responded, answered, respond, replies, after, happens, history}
 use Rattle.rules.specs.Time.{fileTime, timeHaps}
 use Rattle.rules.proofs.Split.{both}
+use Rattle.laws.specs.EightFiles.{EightFiles}
 use Rattle.laws.specs.Runs.{Own, call, wait, mine, only, names, theirs, Proper}
-use Rattle.laws.proofs.Lists.{getD-replicate-same}
+use Rattle.laws.proofs.EightFiles.{eight-fresh, fresh-file, eight-put, file-same, file-other, eight-time, file-time}
 use Rattle.laws.proofs.Proper.{ProperAsked, asked-proper}
 
 -- one file by itself
@@ -46,30 +45,30 @@ ownPast f x (o ∷ os) = ownHaps f x o ++ ownPast f (ownFile f x o) os
 
 -- one call, seen from file f
 
-pub length-answered : (d : Desk) (a : Asked) → length d ≡ files → length (answered d a .desk) ≡ files
+pub eight-answered : (d : Desk) (a : Asked) → EightFiles d → EightFiles (answered d a .desk)
 unfolding answered
-length-answered d (on g q) n = both (λ (r : Responded). length (r .desk) ≡ files) (ltb g files) (λ _. length-set d g _ ∙ n) (λ _. n)
-length-answered d (time e) n = length-map d (fileTime e) ∙ n
-length-answered d bad n = n
+eight-answered d (on g q) n = both (λ (r : Responded). EightFiles (r .desk)) (ltb g files) (λ _. eight-put d g _ n) (λ _. n)
+eight-answered d (time e) n = eight-time e d n
+eight-answered d bad n = n
 
 -- a call that names f, one that names another, and time
-pub answered-named : (d : Desk) (f : ℕ) (q : Ask) → length d ≡ files → (fileOf (answered d (on f q) .desk) f ≡ ownFile f (fileOf d f) (call q)) × (answered d (on f q) .reply ∷ [] ≡ ownHears f (fileOf d f) (call q))
-unfolding answered fileOf ownFile ownHears
+pub answered-named : (d : Desk) (f : ℕ) (q : Ask) → EightFiles d → (fileOf (answered d (on f q) .desk) f ≡ ownFile f (fileOf d f) (call q)) × (answered d (on f q) .reply ∷ [] ≡ ownHears f (fileOf d f) (call q))
+unfolding answered ownFile ownHears
 answered-named d f q n = go (ltb f files) refl
   where
     go : (t : Bool) → ltb f files ≡ t → (fileOf (answered d (on f q) .desk) f ≡ ownFile f (fileOf d f) (call q)) × (answered d (on f q) .reply ∷ [] ≡ ownHears f (fileOf d f) (call q))
-    go true e = rw (e, answered, ownFile, ownHears) (getD-set-same d f _ unbuilt (rw n (ltb-true f files e)), refl)
+    go true e = rw (e, answered, ownFile, ownHears) (file-same d f _ n (ltb-true f files e), refl)
     go false e = rw (e, answered, ownFile, ownHears) (refl, refl)
 
 pub answered-other : (d : Desk) (f g : ℕ) (q : Ask) → eqb g f ≡ false → fileOf (answered d (on g q) .desk) f ≡ fileOf d f
-unfolding answered fileOf
-answered-other d f g q h = both (λ (r : Responded). fileOf (r .desk) f ≡ fileOf d f) (ltb g files) (λ _. getD-set-other d g f _ unbuilt (λ e. eqb-false g f h (sym e))) (λ _. refl)
+unfolding answered
+answered-other d f g q h = both (λ (r : Responded). fileOf (r .desk) f ≡ fileOf d f) (ltb g files) (λ _. file-other d g f _ (λ e. eqb-false g f h (sym e))) (λ _. refl)
 
 pub answered-time : (d : Desk) (f e : ℕ) → fileOf (answered d (time e) .desk) f ≡ fileTime e (fileOf d f)
-unfolding answered fileOf fileTime
-answered-time d f e = List·getD-map (fileTime e) d f unbuilt
+unfolding answered
+answered-time d f e = file-time e d f
 
-step-file : (f : ℕ) (d : Desk) (a : Asked) → length d ≡ files → fileOf (answered d a .desk) f ≡ ownAfter f (fileOf d f) (mine f a)
+step-file : (f : ℕ) (d : Desk) (a : Asked) → EightFiles d → fileOf (answered d a .desk) f ≡ ownAfter f (fileOf d f) (mine f a)
 unfolding mine ownAfter
 step-file f d (on g q) n = go (eqb g f) refl
   where
@@ -93,7 +92,7 @@ step-haps f d bad = refl
 unfoldable pub heardOf : Bool → Reply → List Reply → List Reply
 heardOf t r rs = elim t [ true ↦ r ∷ rs | false ↦ rs ]
 
-step-hears : (f : ℕ) (d : Desk) (a : Asked) (rs : List Reply) → length d ≡ files → heardOf (names f a) (answered d a .reply) rs ≡ ownHeard f (fileOf d f) (mine f a) ++ rs
+step-hears : (f : ℕ) (d : Desk) (a : Asked) (rs : List Reply) → EightFiles d → heardOf (names f a) (answered d a .reply) rs ≡ ownHeard f (fileOf d f) (mine f a) ++ rs
 unfolding mine ownHeard ownHears names heardOf
 step-hears f d (on g q) rs n = go (eqb g f) refl
   where
@@ -120,24 +119,24 @@ ownHeard-append f [] ps x = refl
 ownHeard-append f (o ∷ os) ps x = rw (ownHeard-append f os ps (ownFile f x o)) (sym (append-assoc (ownHears f x o) (ownHeard f (ownFile f x o) os) _))
 
 -- a run, seen from f, is f's own run
-pub after-own : (f : ℕ) (cs : List Call) (d : Desk) → length d ≡ files → fileOf (after d cs) f ≡ ownAfter f (fileOf d f) (only f cs)
+pub after-own : (f : ℕ) (cs : List Call) (d : Desk) → EightFiles d → fileOf (after d cs) f ≡ ownAfter f (fileOf d f) (only f cs)
 unfolding after only respond
 after-own f [] d n = unfold ownAfter in refl
 after-own f (c ∷ cs) d n =
-    after-own f cs (answered d (asked c) .desk) (length-answered d (asked c) n) ∙ ap (λ (x : File). ownAfter f x (only f cs)) (step-file f d (asked c) n) ∙ sym (ownAfter-append f (mine f (asked c)) (only f cs) (fileOf d f))
+    after-own f cs (answered d (asked c) .desk) (eight-answered d (asked c) n) ∙ ap (λ (x : File). ownAfter f x (only f cs)) (step-file f d (asked c) n) ∙ sym (ownAfter-append f (mine f (asked c)) (only f cs) (fileOf d f))
 
-pub past-own : (f : ℕ) (cs : List Call) (d : Desk) → length d ≡ files → history f d cs ≡ ownPast f (fileOf d f) (only f cs)
+pub past-own : (f : ℕ) (cs : List Call) (d : Desk) → EightFiles d → history f d cs ≡ ownPast f (fileOf d f) (only f cs)
 unfolding history only respond
 past-own f [] d n = unfold ownPast in refl
 past-own f (c ∷ cs) d n =
-    let ih = past-own f cs (answered d (asked c) .desk) (length-answered d (asked c) n) in
+    let ih = past-own f cs (answered d (asked c) .desk) (eight-answered d (asked c) n) in
     rw (step-haps f d (asked c), ih, step-file f d (asked c) n) (sym (ownPast-append f (mine f (asked c)) (only f cs) (fileOf d f)))
 
-heard-own : (f : ℕ) (cs : List Call) (d : Desk) → length d ≡ files → theirs f cs (replies d cs) ≡ ownHeard f (fileOf d f) (only f cs)
+heard-own : (f : ℕ) (cs : List Call) (d : Desk) → EightFiles d → theirs f cs (replies d cs) ≡ ownHeard f (fileOf d f) (only f cs)
 unfolding theirs replies only respond heardOf
 heard-own f [] d n = unfold ownHeard in refl
 heard-own f (c ∷ cs) d n =
-    let ih = heard-own f cs (answered d (asked c) .desk) (length-answered d (asked c) n) in
+    let ih = heard-own f cs (answered d (asked c) .desk) (eight-answered d (asked c) n) in
     step-hears f d (asked c) _ n ∙ rw (ih, step-file f d (asked c) n) (sym (ownHeard-append f (mine f (asked c)) (only f cs) (fileOf d f)))
 
 -- two runs from a fresh desk that hold the same for f
@@ -147,16 +146,11 @@ pub record Alike (f : ℕ) (r s : List Call) : Type 0 where
   pub tell : history f freshDesk r ≡ history f freshDesk s
 
 pub isolation : (f : ℕ) (r s : List Call) → only f r ≡ only f s → Alike f r s
-unfolding freshDesk
 isolation f r s e = record {
-  hear = cc (heard-own f r freshDesk refl, heard-own f s freshDesk refl);
-  keep = cc (after-own f r freshDesk refl, after-own f s freshDesk refl);
-  tell = cc (past-own f r freshDesk refl, past-own f s freshDesk refl);
+  hear = cc (heard-own f r freshDesk eight-fresh, heard-own f s freshDesk eight-fresh);
+  keep = cc (after-own f r freshDesk eight-fresh, after-own f s freshDesk eight-fresh);
+  tell = cc (past-own f r freshDesk eight-fresh, past-own f s freshDesk eight-fresh);
 }
-
-pub fresh-file : (f : ℕ) → fileOf freshDesk f ≡ unbuilt
-unfolding fileOf freshDesk
-fresh-file f = getD-replicate-same unbuilt files f
 
 -- what holds of an unbuilt file, and is kept by each proper call and by time, holds of each file after any run from a fresh desk
 module _ (P : File → Type 0) (start : P unbuilt) (kept : (x : File) (q : Ask) → Proper q → P x → P (ask x q .file)) (aged : (e : ℕ) (x : File) → P x → P (fileTime e x)) where
@@ -174,4 +168,4 @@ module _ (P : File → Type 0) (start : P unbuilt) (kept : (x : File) (q : Ask) 
   own-run f (c ∷ cs) x h = rw (ownAfter-append f (mine f (asked c)) (only f cs) x) (own-run f cs _ (own-kept f x (asked c) (asked-proper c) h))
 
   pub always : (f : ℕ) (cs : List Call) → P (fileOf (after freshDesk cs) f)
-  always f cs = rw (after-own f cs freshDesk (unfold freshDesk in refl)) (own-run f cs (fileOf freshDesk f) (rw fresh-file start))
+  always f cs = rw (after-own f cs freshDesk eight-fresh) (own-run f cs (fileOf freshDesk f) (rw fresh-file start))

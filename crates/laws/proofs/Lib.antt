@@ -1,5 +1,6 @@
 pub mod Proper
 pub mod Lists
+pub mod EightFiles
 pub mod Isolation
 pub mod Files
 pub mod Accessors

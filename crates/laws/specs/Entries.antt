@@ -11,6 +11,7 @@ use Rattle.rules.specs.Limits.{files, places, entries}
 use Rattle.rules.specs.State.{Req, Acc, Timer, Hap, puts, gone, purges, waits, arms, ends, cancels, collects, File, unbuilt, built}
 use Rattle.rules.specs.Desk.{Desk, fileOf}
 use Rattle.rules.specs.Allocation.{Held, nothing, own, timed, Alloc, placeOf, heldAt, allot}
+use Rattle.laws.specs.EightFiles.{EightFiles}
 use Rattle.laws.specs.Runs.{OnFile}
 use Rattle.laws.specs.Outstanding.{reqAt, awaits, outstanding}
 use Rattle.occurrences.specs.Count.{bit, count}
@@ -68,7 +69,7 @@ Calm x = OnFile (λ b. b .past ≡ []) x
 
 -- desk and allocation
 pub record Agreed (d : Desk) (s : Alloc) : Type 0 where
-  pub eight : length d ≡ files
+  pub eight : EightFiles d
   pub whole : Whole s
   pub clock : Clock (s .clock)
   pub agrees : (f : ℕ) → f < files → Agrees f s (accsOf (fileOf d f)) (timersOf (fileOf d f))

@@ -1,3 +1,4 @@
+pub mod EightFiles
 pub mod Runs
 pub mod Outstanding
 pub mod Changes

@@ -1,8 +1,7 @@
 -- A desk determines the bytes of blocks and buffers, but for those of files that are not built.
 use Prim.Native.Nat.{ℕ, _*_, _<_}
-use mathlib.Core.Path.{_≡_, refl, sym, ap, _∙_}
-use mathlib.Core.List.{List, [], _∷_, _++_}
-use lib.ListN.{length}
+use mathlib.Core.Path.{_≡_, refl, sym, _∙_}
+use mathlib.Core.List.{List}
 use Rattle.words.specs.Word.{zeros}
 use Rattle.rules.specs.Limits.{files, places, shareBytes, bufferBytes}
 use Rattle.rules.specs.State.{File, unbuilt, built}
@@ -10,7 +9,7 @@ use Rattle.rules.specs.Desk.{Desk, fileOf}
 use Rattle.rules.specs.Memories.{shareOf, blocks, buffersOf, buffers}
 use Rattle.memory.specs.Stands.{shareAt, buffersAt, FileBytes, Bodies}
 use Rattle.memory.specs.Covers.{Alike, Blank}
-use Rattle.memory.proofs.Parts.{part, parts, parts-all, parts-same}
+use Rattle.memory.proofs.Parts.{part, parts-all, parts-same}
 
 -- two pairs of memories for one desk
 
@@ -36,21 +35,11 @@ unfolding FileBytes shareOf buffersOf
 file-blank unbuilt s b h u = u refl
 file-blank (built c) s b h u = h
 
-blocks-parts : (d : Desk) → blocks d ≡ parts (length d) (λ f. shareOf (fileOf d f))
-unfolding blocks parts fileOf
-blocks-parts [] = refl
-blocks-parts (x ∷ d) = ap (λ (l : List ℕ). shareOf x ++ l) (blocks-parts d)
-
-buffers-parts : (d : Desk) → buffers d ≡ parts (length d) (λ f. buffersOf (fileOf d f))
-unfolding buffers parts fileOf
-buffers-parts [] = refl
-buffers-parts (x ∷ d) = ap (λ (l : List ℕ). buffersOf x ++ l) (buffers-parts d)
-
-pub bodies-are : (d : Desk) (x b : List ℕ) → length d ≡ files → Bodies x b d → Blank d x b → (x ≡ blocks d) × (b ≡ buffers d)
-unfolding part shareAt buffersAt
-bodies-are d x b e S h = (
-  parts-all shareBytes files x (λ f. shareOf (fileOf d f)) (S .blocks-size) (λ f k. each f k .0) ∙ (rw (← e) (sym (blocks-parts d))),
-  parts-all (places * bufferBytes) files b (λ f. buffersOf (fileOf d f)) (S .buffers-size) (λ f k. each f k .1) ∙ (rw (← e) (sym (buffers-parts d))),
+pub bodies-are : (d : Desk) (x b : List ℕ) → Bodies x b d → Blank d x b → (x ≡ blocks d) × (b ≡ buffers d)
+unfolding part shareAt buffersAt blocks buffers
+bodies-are d x b S h = (
+  parts-all shareBytes files x (λ f. shareOf (fileOf d f)) (S .blocks-size) (λ f k. each f k .0),
+  parts-all (places * bufferBytes) files b (λ f. buffersOf (fileOf d f)) (S .buffers-size) (λ f k. each f k .1),
 )
   where
     each : (f : ℕ) → f < files → (shareAt f x ≡ shareOf (fileOf d f)) × (buffersAt f b ≡ buffersOf (fileOf d f))

@@ -1,7 +1,7 @@
 -- A segment that stands for a desk, as the boxes and rows of `ports`, and back.
-use Prim.Native.Nat.{ℕ, zero, suc, _+_, _≤_, _<_}
+use Prim.Native.Nat.{ℕ, suc, _≤_, _<_}
 use mathlib.Core.Path.{_≡_, refl, ap, _∙_}
-use mathlib.Core.List.{List, [], _∷_, map}
+use mathlib.Core.List.{List, [], _∷_}
 use native.Mathlib.Omega.{arith}
 use native.Mathlib.Decide.{decLt}
 use lib.ListN.{length, getD}
@@ -11,28 +11,12 @@ use Rattle.segment.specs.Layout.{listCount, rowCount}
 use Rattle.ports.specs.Lists.{Boxes}
 use Rattle.rules.specs.Limits.{entries}
 use Rattle.rules.specs.Desk.{Desk}
-use Rattle.rules.specs.Allocation.{Alloc, upFrom}
+use Rattle.rules.specs.Allocation.{Alloc}
+use Rattle.laws.proofs.Lists.{length-up, getD-all}
 use Rattle.memory.specs.Image.{rowOf, listOf, boxOf, listsOf, boxesOf, rowsOf}
 use Rattle.memory.specs.Stands.{Segment}
 use Rattle.words.specs.Word.{Bytes}
 use Rattle.memory.specs.Covers.{Covers, Once}
-
--- a list of values g 0, g 1, ..
-
-module _ {A : Type 0} (g : ℕ → A) where
-  pub length-up : (n k : ℕ) → length (map g (upFrom k n)) ≡ n
-  unfolding upFrom
-  length-up zero k = refl
-  length-up (suc n) k = ap suc (length-up n (suc k))
-
-  pub getD-up : (n k l : ℕ) (a : A) → l < n → getD (map g (upFrom k n)) l a ≡ g (k + l)
-  unfolding upFrom
-  getD-up zero k l a h = absurd (omega arith)
-  getD-up (suc n) k zero a h = let e : k ≡ k + 0 = omega arith in ap g e
-  getD-up (suc n) k (suc l) a h = let e : suc k + l ≡ k + suc l = omega arith in getD-up n (suc k) l a (omega arith) ∙ ap g e
-
-  pub getD-all : (n l : ℕ) (a : A) → l < n → getD (map g (upFrom 0 n)) l a ≡ g l
-  getD-all n l a h = let e : 0 + l ≡ l = omega arith in getD-up n 0 l a h ∙ ap g e
 
 module _ (d : Desk) (s : Alloc) where
   pub getD-listsOf : (l : ℕ) → l < listCount → getD (listsOf d s) l [] ≡ listOf d s l

@@ -7,15 +7,17 @@ use mathlib.Core.Option.{Option, none}
 use native.Mathlib.Omega.{arith}
 use native.Mathlib.Nat.{zero-add, suc-add}
 use native.Mathlib.Decide.{ℕ-discrete, decLt}
-use lib.ListN.{length, getD, set, take, drop, length-drop}
-use lib.Seq.{sets, getD-set-same, getD-set-other, drop-drop, take-nil, take-take, length-take-le}
+use lib.ListN.{length, getD, take, drop, length-drop}
+use lib.Seq.{sets, drop-drop, take-nil, take-take, length-take-le}
 use Rattle.rules.specs.Limits.{files, places, shareBytes, bufferBytes}
-use Rattle.rules.specs.State.{Acc, File, unbuilt}
-use Rattle.rules.specs.Desk.{Desk, fileOf}
-use Rattle.rules.specs.Memories.{buffer, fileBuffers}
+use Rattle.rules.specs.State.{Acc, File}
+use Rattle.rules.specs.Desk.{Desk, fileOf, withFile}
+use Rattle.rules.specs.Memories.{parts, buffer, fileBuffers}
+use Rattle.laws.specs.EightFiles.{EightFiles}
+use Rattle.laws.proofs.EightFiles.{file-other, file-same}
 use Rattle.memory.specs.Stands.{shareAt, buffersAt, bufferAt, FileBytes, Bodies}
 use Rattle.words.specs.Word.{Bytes}
-use Rattle.memory.proofs.Parts.{parts, part, parts-all, part-parts, part-sets, part-sets-other}
+use Rattle.memory.proofs.Parts.{part, parts-all, part-parts, part-sets, part-sets-other}
 
 -- stores in the share of file f
 module _ (f a : ℕ) (vs x : List ℕ) (h : a + length vs ≤ shareBytes) where
@@ -88,10 +90,10 @@ bufferAt-is f x l n e q p h =
     ∙ part-parts bufferBytes (length l) (λ i. buffer (getD l i none)) (λ i k. e i (omega arith)) p (omega arith)
 
 -- a change of one file
-pub bodies-file : (d : Desk) (x b x′ b′ : List ℕ) (f : ℕ) (y : File) → Bodies x b d → f < length d → Bytes x′ → Bytes b′ → length x′ ≡ length x → length b′ ≡ length b
+pub bodies-file : (d : Desk) (x b x′ b′ : List ℕ) (f : ℕ) (y : File) → Bodies x b d → EightFiles d → f < files → Bytes x′ → Bytes b′ → length x′ ≡ length x → length b′ ≡ length b
     → ((g : ℕ) → g < files → (g ≡ f → ⊥) → (shareAt g x′ ≡ shareAt g x) × (buffersAt g b′ ≡ buffersAt g b)) → FileBytes y (shareAt f x′) (buffersAt f b′)
-    → Bodies x′ b′ (set d f y)
-bodies-file d x b x′ b′ f y S h bx bb ex eb other here = record {
+    → Bodies x′ b′ (withFile d f y)
+bodies-file d x b x′ b′ f y S n h bx bb ex eb other here = record {
   blocks-bytes = bx;
   buffers-bytes = bb;
   blocks-size = ex ∙ S .blocks-size;
@@ -99,6 +101,6 @@ bodies-file d x b x′ b′ f y S h bx bb ex eb other here = record {
   each = λ g k. go g k (ℕ-discrete g f);
 }
   where
-    go : (g : ℕ) → g < files → Dec (g ≡ f) → FileBytes (fileOf (set d f y) g) (shareAt g x′) (buffersAt g b′)
-    go g k (yes u) = rw u (unfold fileOf in rw (getD-set-same d f y unbuilt h) here)
-    go g k (no u) = let (p, q) = other g k u in rw (p, q) (unfold fileOf in rw (getD-set-other d f g y unbuilt u) (S .each g k))
+    go : (g : ℕ) → g < files → Dec (g ≡ f) → FileBytes (fileOf (withFile d f y) g) (shareAt g x′) (buffersAt g b′)
+    go g k (yes u) = rw (u, file-same d f y n h) here
+    go g k (no u) = let (p, q) = other g k u in rw (p, q, file-other d f g y u) (S .each g k)

@@ -19,11 +19,11 @@ use Rattle.segment.specs.Table.{nth, row, dataOf}
 use Rattle.segment.proofs.Apart.{words-file, words-place}
 use Rattle.ports.specs.Lists.{Chain}
 use Rattle.rules.specs.Limits.{files, places, entries, shareBytes, bufferBytes}
-use Rattle.rules.specs.State.{unbuilt}
-use Rattle.rules.specs.Desk.{fileOf, freshDesk}
+use Rattle.rules.specs.Desk.{freshDesk}
 use Rattle.rules.specs.Allocation.{upFrom, freshAlloc, queueOf, portOf, timerList}
 use Rattle.memory.specs.Image.{accOf, placeAcc, fileWords, placeWords, rowOf, rqOf, wqOf, listOf, queueWords, portWords, boxOf}
 use Rattle.laws.specs.Outstanding.{reqOf}
+use Rattle.laws.proofs.EightFiles.{fresh-file}
 use Rattle.memory.specs.Stands.{Segment, shareAt, buffersAt, FileBytes, Bodies, Stands}
 use Rattle.memory.specs.Covers.{Covers, Blank}
 use Rattle.memory.specs.Fresh.{table, freshLink, freshWord, freshSegment, freshBlocks, freshBuffers}
@@ -124,15 +124,6 @@ up-data zero e q = refl
 up-data (suc n) e q = ap₂ {C = List (List ℕ)} (λ x l. x ∷ l) (fresh-data e (omega arith)) (up-data n (suc e) (omega arith))
 
 -- the fresh desk: no file built
-
-fresh-file : (f : ℕ) → fileOf freshDesk f ≡ unbuilt
-unfolding fileOf freshDesk
-fresh-file f = go files f
-  where
-    go : (n g : ℕ) → getD (replicate n unbuilt) g unbuilt ≡ unbuilt
-    go zero g = refl
-    go (suc n) zero = refl
-    go (suc n) (suc g) = go n g
 
 fresh-acc : (i : ℕ) → placeAcc freshDesk i ≡ none
 unfolding placeAcc accOf

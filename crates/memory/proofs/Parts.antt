@@ -7,11 +7,7 @@ use native.Mathlib.Omega.{arith}
 use native.Mathlib.Nat.{add-suc, mul-suc, mul-zero}
 use lib.ListN.{length, set, take, drop, length-drop, take-append-drop}
 use lib.Seq.{sets, drop-drop, take-at, drop-at, length-take-le, take-set-le, take-set-lt, drop-set-lt, drop-set-add}
-
--- g 0, g 1, .., one behind another
-unfoldable pub parts : ℕ → (ℕ → List ℕ) → List ℕ
-parts zero g = []
-parts (suc m) g = g 0 ++ parts m (λ f. g (suc f))
+use Rattle.rules.specs.Memories.{parts}
 
 -- a run of stores behind the first k, before them, within them
 

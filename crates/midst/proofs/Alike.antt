@@ -1,39 +1,21 @@
 -- Two files with the same queues and the same requests: a desk with the one and a desk with the other have the same lists of entries, with the same
 -- contents.
-use Prim.Native.Nat.{ℕ, zero, suc, _-_, _/_, _%_, _<_}
+use Prim.Native.Nat.{ℕ, _-_, _/_, _%_}
 use mathlib.Core.Path.{_≡_, refl, sym, ap, _∙_}
-use mathlib.Core.List.{List, [], _∷_, map}
-use lib.ListN.{length, set}
-use lib.Seq.{getD-set-same, getD-set-other}
+use mathlib.Core.List.{List, map}
 use Rattle.segment.specs.Layout.{readQueues, writeQueues, replyPorts, listCount}
 use Rattle.ports.proofs.Maps.{map-all}
 use Rattle.rules.specs.State.{File, unbuilt, built}
-use Rattle.rules.specs.Desk.{Desk, fileOf}
+use Rattle.rules.specs.Desk.{Desk, fileOf, withFile}
 use Rattle.rules.specs.Allocation.{Alloc, upFrom, placeOf, heldAt, ownEntry, queueOf, portOf}
 use Rattle.memory.specs.Image.{accOf, placeAcc, reqWords, rqOf, wqOf, atList, listOf, queueWords, portWords, boxOf, listsOf, boxesOf}
 use Rattle.laws.specs.Outstanding.{reqOf}
+use Rattle.laws.proofs.EightFiles.{files-same}
 
 pub record Alike (x y : File) : Type 0 where
   pub reads : rqOf x ≡ rqOf y
   pub writes : wqOf x ≡ wqOf y
   pub reqs : (p : ℕ) → reqOf (accOf x p) ≡ reqOf (accOf y p)
-
--- what is the same of file f is the same of every file
-pub files-same : {A : Type 0} (k : File → A) (d : Desk) (f : ℕ) (x y : File) → k x ≡ k y → (g : ℕ) → k (fileOf (set d f x) g) ≡ k (fileOf (set d f y) g)
-unfolding fileOf
-files-same k [] f x y e g = refl
-files-same k (z ∷ d) zero x y e zero = e
-files-same k (z ∷ d) zero x y e (suc g) = refl
-files-same k (z ∷ d) (suc f) x y e zero = refl
-files-same k (z ∷ d) (suc f) x y e (suc g) = files-same k d f x y e g
-
-pub file-set : (d : Desk) (f : ℕ) (x : File) → f < length d → fileOf (set d f x) f ≡ x
-unfolding fileOf
-file-set d f x h = getD-set-same d f x unbuilt h
-
-pub file-other : (d : Desk) (f g : ℕ) (x : File) → (g ≡ f → ⊥) → fileOf (set d f x) g ≡ fileOf d g
-unfolding fileOf
-file-other d f g x n = getD-set-other d f g x unbuilt n
 
 -- the queues as lists of places
 
@@ -54,10 +36,10 @@ at-same free r r′ w w′ p p′ timers a b c l = rw (a (l - readQueues), b (l 
 
 module _ (d : Desk) (f : ℕ) (x y : File) (E : Alike x y) where
   abbrev dx : Desk
-  dx = set d f x
+  dx = withFile d f x
 
   abbrev dy : Desk
-  dy = set d f y
+  dy = withFile d f y
 
   file-reads : (g : ℕ) → rqOf (fileOf dx g) ≡ rqOf (fileOf dy g)
   file-reads g = files-same rqOf d f x y (E .reads) g

@@ -5,7 +5,7 @@ use mathlib.Core.List.{List, []}
 use native.Mathlib.Omega.{arith}
 use native.Mathlib.Decide.{ℕ-discrete}
 use lib.ListN.{length, getD, set}
-use lib.Seq.{set-getD, getD-set-same, getD-set-other}
+use lib.Seq.{getD-set-same, getD-set-other}
 use Rattle.segment.specs.Layout.{rowCount, fileRow, placeRow, segmentBytes, fileWidth, placeWidth, fileRowAt, placeRowAt}
 use Rattle.segment.proofs.Apart.{row-file, words-place}
 use Rattle.segment.specs.Table.{row, fill}
@@ -16,14 +16,16 @@ use Rattle.rules.specs.State.{Hap, Built, File, unbuilt, built}
 use Rattle.rules.specs.Requests.{accAt}
 use Rattle.rules.specs.Reply.{hushed}
 use Rattle.rules.specs.Memories.{fileBuffers}
-use Rattle.rules.specs.Desk.{Desk, fileOf}
+use Rattle.rules.specs.Desk.{Desk, fileOf, withFile}
 use Rattle.rules.specs.Allocation.{Alloc, placeOf, allotAll}
 use Rattle.laws.specs.Runs.{OnFile}
 use Rattle.laws.specs.Queues.{Agree}
 use Rattle.laws.specs.Entries.{accsOf, timersOf, Calm, Fed}
 use Rattle.laws.specs.Midst.{Matches}
 use Rattle.laws.specs.Midst as laws
+use Rattle.laws.specs.EightFiles.{EightFiles}
 use Rattle.laws.proofs.Happenings.{matches-now}
+use Rattle.laws.proofs.EightFiles.{file-here, file-other, file-same, files-same}
 use Rattle.memory.specs.Image.{accOf, placeAcc, fileWords, rowOf, rqOf, wqOf, listsOf, boxesOf, rowsOf}
 use Rattle.memory.specs.Image as image
 use Rattle.memory.specs.Stands.{Segment, FileBytes, Bodies, Stands, shareAt, buffersAt}
@@ -38,7 +40,7 @@ use Rattle.midst.specs.declared.File as hand
 use Rattle.midst.specs.File.{fileOfRow, fileRowWords, inHand}
 use Rattle.midst.specs.Seg.{Seg}
 use Rattle.midst.specs.Mid.{Start, Mid}
-use Rattle.midst.proofs.Alike.{Alike, files-same, file-set, file-other, lists-alike, boxes-alike}
+use Rattle.midst.proofs.Alike.{Alike, lists-alike, boxes-alike}
 use Rattle.midst.proofs.Rows.{place-below}
 
 -- it begins
@@ -47,10 +49,6 @@ pub fine-agree : (x : File) → OnFile Fine x → OnFile Agree x
 unfolding OnFile
 fine-agree unbuilt h = tt
 fine-agree (built b) h = h .queues
-
-pub file-here : (d : Desk) (f : ℕ) (x : File) → fileOf d f ≡ x → set d f x ≡ d
-unfolding fileOf
-file-here d f x e = rw (← e) (set-getD d f unbuilt)
 
 -- nothing has happened yet
 begin-seg : (xs : List ℕ) (d d′ : Desk) (s : Alloc) (f : ℕ) (hs : List Hap) → d′ ≡ d → hs ≡ [] → Seg xs d s (fileRow f) → Seg xs d′ (allotAll f hs s) (fileRow f)
@@ -106,15 +104,15 @@ module _ {I : Built → Type 0} {f : ℕ} {o : Start} {xs blocks buffers : List 
   pub mid-lengths : length xs ≡ segmentBytes
   mid-lengths = M .segment .boxes .lists .size
 
-  pub mid-file : fileOf (set (o .desk) f (built b)) f ≡ built b
-  mid-file = file-set (o .desk) f (built b) (omega (arith, M .file, M .eight))
+  pub mid-file : fileOf (withFile (o .desk) f (built b)) f ≡ built b
+  mid-file = file-same (o .desk) f (built b) (M .eight) (M .file)
 
   pub mid-row : (p : ℕ) → p < places → row xs (placeRowAt (placeOf f p)) placeWidth ≡ image.placeWords (accAt b p)
   unfolding accOf
   mid-row p k =
       sym (words-place xs (placeOf f p)) ∙ M .segment .boxes .rows (placeRow (placeOf f p)) (place-below f p (M .file) k)
       ∙ M .segment .same (placeRow (placeOf f p)) (place-below f p (M .file) k) (λ e. unfold placeOf in omega (arith, e, M .file))
-      ∙ rowOf-acc (set (o .desk) f (built b)) f p k ∙ ap (λ z. image.placeWords (accOf z p)) mid-file
+      ∙ rowOf-acc (withFile (o .desk) f (built b)) f p k ∙ ap (λ z. image.placeWords (accOf z p)) mid-file
 
   pub mid-open : (p : ℕ) → p < places → placeWords (placeAt xs (placeOf f p)) ≡ image.placeWords (accAt b p)
   mid-open p k = row-words xs (placeOf f p) ∙ mid-row p k
@@ -143,44 +141,44 @@ unfolding fileRowWords fileWords hushed
 hand-words x b e = rw e
 
 -- all rows but that of file f
-pub rows-same : (d : Desk) (f : ℕ) (x y : File) → ((p : ℕ) → accOf x p ≡ accOf y p) → (i : ℕ) → i < rowCount → (i ≡ fileRow f → ⊥) → rowOf (set d f x) i ≡ rowOf (set d f y) i
+pub rows-same : (d : Desk) (f : ℕ) (x y : File) → ((p : ℕ) → accOf x p ≡ accOf y p) → (i : ℕ) → i < rowCount → (i ≡ fileRow f → ⊥) → rowOf (withFile d f x) i ≡ rowOf (withFile d f y) i
 rows-same d f x y e =
-    each-row (λ i. (i ≡ fileRow f → ⊥) → rowOf (set d f x) i ≡ rowOf (set d f y) i)
-    (λ g h n. rowOf-file (set d f x) g h ∙ ap fileWords (file-other d f g x n ∙ sym (file-other d f g y n)) ∙ sym (rowOf-file (set d f y) g h))
-    (λ i h n. rowOf-place (set d f x) i ∙ ap image.placeWords (accs i) ∙ sym (rowOf-place (set d f y) i))
+    each-row (λ i. (i ≡ fileRow f → ⊥) → rowOf (withFile d f x) i ≡ rowOf (withFile d f y) i)
+    (λ g h n. rowOf-file (withFile d f x) g h ∙ ap fileWords (file-other d f g x n ∙ sym (file-other d f g y n)) ∙ sym (rowOf-file (withFile d f y) g h))
+    (λ i h n. rowOf-place (withFile d f x) i ∙ ap image.placeWords (accs i) ∙ sym (rowOf-place (withFile d f y) i))
   where
-    accs : (i : ℕ) → placeAcc (set d f x) i ≡ placeAcc (set d f y) i
+    accs : (i : ℕ) → placeAcc (withFile d f x) i ≡ placeAcc (withFile d f y) i
     accs i = unfold placeAcc in files-same (λ z. accOf z (i % places)) d f x y (e (i % places)) (i / places)
 
 -- the row of file f is written, the file being y in place of x, which has the same queues and accessors
-pub seg-end : (xs : List ℕ) (d : Desk) (f : ℕ) (x y : File) (t : Alloc) (words : List ℕ) → f < files → length d ≡ files → Alike x y → ((p : ℕ) → accOf x p ≡ accOf y p)
-    → Seg xs (set d f x) t (fileRow f) → length words ≡ fileWidth → words ≡ fileWords y → Bytes (fill xs (fileRowAt f) words)
-    → Segment (fill xs (fileRowAt f) words) (set d f y) t
+pub seg-end : (xs : List ℕ) (d : Desk) (f : ℕ) (x y : File) (t : Alloc) (words : List ℕ) → f < files → EightFiles d → Alike x y → ((p : ℕ) → accOf x p ≡ accOf y p)
+    → Seg xs (withFile d f x) t (fileRow f) → length words ≡ fileWidth → words ≡ fileWords y → Bytes (fill xs (fileRowAt f) words)
+    → Segment (fill xs (fileRowAt f) words) (withFile d f y) t
 seg-end xs d f x y t words hf eight E accs S n e bytes =
-    boxes-segment (set d f y) t (fill xs (fileRowAt f) words) [] (listsOf (set d f x) t) (boxesOf (set d f x) t) (set (S .rows) f words) bytes
+    boxes-segment (withFile d f y) t (fill xs (fileRowAt f) words) [] (listsOf (withFile d f x) t) (boxesOf (withFile d f x) t) (set (S .rows) f words) bytes
     (rw (row-file f hf .0) at (fill-boxes (S .boxes) (fileRow f) words (omega (arith, hf)) (n ∙ sym (row-file f hf .1))))
-    (λ l h. ap (λ ls. getD ls l []) (lists-alike d f _ _ E t) ∙ getD-listsOf (set d f y) t l h)
-    (λ l h. ap (λ ms. getD ms l []) (boxes-alike d f _ _ E t) ∙ getD-boxesOf (set d f y) t l h)
+    (λ l h. ap (λ ls. getD ls l []) (lists-alike d f _ _ E t) ∙ getD-listsOf (withFile d f y) t l h)
+    (λ l h. ap (λ ms. getD ms l []) (boxes-alike d f _ _ E t) ∙ getD-boxesOf (withFile d f y) t l h)
     (λ i h. go i h (ℕ-discrete i f))
   where
-    go : (i : ℕ) → i < rowCount → Dec (i ≡ f) → getD (set (S .rows) f words) i [] ≡ rowOf (set d f y) i
+    go : (i : ℕ) → i < rowCount → Dec (i ≡ f) → getD (set (S .rows) f words) i [] ≡ rowOf (withFile d f y) i
     go i h (yes u) =
         rw u (getD-set-same (S .rows) f words [] (omega (arith, hf, S .boxes .rowed)) ∙ e
-        ∙ sym (rowOf-file (set d f y) f hf ∙ ap fileWords (file-set d f y (omega (arith, hf, eight)))))
+        ∙ sym (rowOf-file (withFile d f y) f hf ∙ ap fileWords (file-same d f y eight hf)))
     go i h (no u) = getD-set-other (S .rows) f i words [] u ∙ S .same i h u ∙ rows-same d f x y accs i h u
 
 module _ {I : Built → Type 0} {f : ℕ} {o : Start} {xs blocks buffers : List ℕ} {x : hand.File} {b : Built} (M : Mid I f o xs blocks buffers x b) where
   end-segment : Bytes (fill xs (fileRowAt f) (fileRowWords x))
-      → Segment (fill xs (fileRowAt f) (fileRowWords x)) (set (o .desk) f (built (hushed b))) (allotAll f (b .past) (o .alloc))
+      → Segment (fill xs (fileRowAt f) (fileRowWords x)) (withFile (o .desk) f (built (hushed b))) (allotAll f (b .past) (o .alloc))
   end-segment bytes =
       seg-end xs (o .desk) f (built b) (built (hushed b)) (allotAll f (b .past) (o .alloc)) (fileRowWords x) (M .file) (M .eight) (hushed-alike b) (hushed-acc b) (M .segment)
       (unfold fileRowWords in refl) (hand-words x b (M .row)) bytes
 
   pub mid-end : Bodies (o .blocks) (o .buffers) (o .desk) → Bytes (fill xs (fileRowAt f) (fileRowWords x)) → Bytes blocks → Bytes buffers
-      → Stands (fill xs (fileRowAt f) (fileRowWords x)) blocks buffers (set (o .desk) f (built (hushed b))) (allotAll f (b .past) (o .alloc))
+      → Stands (fill xs (fileRowAt f) (fileRowWords x)) blocks buffers (withFile (o .desk) f (built (hushed b))) (allotAll f (b .past) (o .alloc))
   mid-end B bytes blocks-bytes buffers-bytes = record {
     segment = end-segment bytes;
-    bodies = bodies-file (o .desk) (o .blocks) (o .buffers) blocks buffers f (built (hushed b)) B (omega (arith, M .file, M .eight)) blocks-bytes buffers-bytes
+    bodies = bodies-file (o .desk) (o .blocks) (o .buffers) blocks buffers f (built (hushed b)) B (M .eight) (M .file) blocks-bytes buffers-bytes
         (M .blocks-size ∙ sym (B .blocks-size)) (M .buffers-size ∙ sym (B .buffers-size))
         (λ g h n. (M .apart .shares g h n, M .apart .others g h n)) (hushed-bytes b _ _ (M .share) (M .buffer));
   }

@@ -5,7 +5,7 @@ use mathlib.Core.Bool.{Bool}
 use mathlib.Core.List.{List, []}
 use mathlib.Core.Option.{none, some}
 use native.Mathlib.Omega.{arith}
-use lib.ListN.{length, getD, set}
+use lib.ListN.{length, getD}
 use lib.Seq.{sets}
 use Rattle.words.specs.Word.{zeros}
 use Rattle.segment.specs.Layout.{fileRow}
@@ -13,7 +13,7 @@ use Rattle.rules.specs.Limits.{files, places, bufferBytes, mostWords}
 use Rattle.rules.specs.State.{Req, idle, Acc, Built, built}
 use Rattle.rules.specs.Requests.{accAt, alter, withReq, withAccs, withQueues, withTimers, alterAcc, say, requeue, leave, finish, cancel, wait, freed}
 use Rattle.rules.specs.Memories.{lies, buffer, fileBuffers}
-use Rattle.rules.specs.Desk.{Desk, fileOf}
+use Rattle.rules.specs.Desk.{Desk, fileOf, withFile}
 use Rattle.rules.specs.Allocation.{Alloc, placeOf, allotAll}
 use Rattle.laws.specs.Queues.{Agree}
 use Rattle.laws.specs.Bounds.{Bounds}
@@ -95,7 +95,7 @@ module _ {I : Built → Type 0} {f : ℕ} {o : Start} {xs blocks buffers : List 
 
   module _ {J : Built → Type 0} (q : Req) (c : Built) (A : Asks p q b c) (fits : length (lies q) ≤ bufferBytes) (good : J c) (allots : laws.Mid f (o .alloc) c) where
     -- the two ways of the buffers
-    pub mid-req : (xs′ buffers′ : List ℕ) → Seg xs′ (set (o .desk) f (built c)) (allotAll f (c .past) (o .alloc)) (fileRow f) → Laid f p (a .req) q buffers buffers′
+    pub mid-req : (xs′ buffers′ : List ℕ) → Seg xs′ (withFile (o .desk) f (built c)) (allotAll f (c .past) (o .alloc)) (fileRow f) → Laid f p (a .req) q buffers buffers′
         → Mid J f o xs′ blocks buffers′ x c
     mid-req xs′ buffers′ S L = record {
       file = M .file;

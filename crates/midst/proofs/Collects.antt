@@ -4,12 +4,12 @@ use mathlib.Core.Path.{_≡_, refl, sym, ap, _∙_}
 use mathlib.Core.Bool.{Bool, true, false}
 use mathlib.Core.List.{List, [], _∷_, map}
 use native.Mathlib.Omega.{arith}
-use lib.ListN.{set, replicate}
+use lib.ListN.{replicate}
 use Rattle.occurrences.proofs.Counts.{count-head}
 use Rattle.rules.specs.Limits.{entries}
 use Rattle.rules.specs.State.{idle, Acc, Built, built}
 use Rattle.rules.specs.Requests.{alter, withReq, without}
-use Rattle.rules.specs.Desk.{Desk}
+use Rattle.rules.specs.Desk.{Desk, withFile}
 use Rattle.rules.specs.Allocation.{own, Alloc, placeOf, heldAt, endsAt, goesAt, ownEntry, portOf, timerList}
 use Rattle.laws.specs.Outstanding.{uncollected}
 use Rattle.laws.specs.Counts.{countT}
@@ -57,7 +57,7 @@ module _ {f p : ℕ} {d : Desk} {b : Built} {a : Acc} {t : Alloc} (P : Placed f 
 
   module _ (c : Built) (accs : c .accs ≡ alter (withReq idle) (b .accs) p) (rq : c .rq ≡ b .rq) (wq : c .wq ≡ b .wq)
       (row : (fileRow f ≡ k → ⊥) → fileWords (built c) ≡ fileWords (built b)) where
-    pub seg-collect : (nth xs (replyPort (placeOf f p)) < entries) × Seg (collected xs (placeOf f p)) (set d f (built c)) (goesAt (placeOf f p) t) k
+    pub seg-collect : (nth xs (replyPort (placeOf f p)) < entries) × Seg (collected xs (placeOf f p)) (withFile d f (built c)) (goesAt (placeOf f p) t) k
     unfolding collected
     seg-collect =
         let w = taken-off in (

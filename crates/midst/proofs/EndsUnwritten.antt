@@ -7,7 +7,7 @@ use mathlib.Core.Logic.{inl}
 use mathlib.Core.Option.{some}
 use native.Mathlib.Omega.{arith}
 use native.Mathlib.Decide.{ℕ-discrete}
-use lib.ListN.{length, getD, set, length-set}
+use lib.ListN.{getD}
 use lib.Seq.{set-getD}
 use Rattle.words.specs.Word.{wordAt, Bytes}
 use Rattle.segment.specs.Layout.{rowCount, fileWidth, fileRowAt, placeRowAt}
@@ -19,8 +19,11 @@ use Rattle.rules.specs.Limits.{files}
 use Rattle.rules.specs.State.{idle, Acc, Built, built}
 use Rattle.rules.specs.Requests.{accAt, withAccs, withQueues, withTimers, alterAcc, say, requeue, leave, cancel}
 use Rattle.rules.specs.Reply.{hushed}
+use Rattle.rules.specs.Desk.{withFile}
 use Rattle.rules.specs.Allocation.{placeOf, allotAll}
+use Rattle.laws.specs.EightFiles.{EightFiles}
 use Rattle.laws.proofs.Outstanding.{outstanding-most}
+use Rattle.laws.proofs.EightFiles.{eight-put, file-same}
 use Rattle.memory.specs.Image.{fileWords, rowOf}
 use Rattle.memory.specs.Stands.{Bodies, Stands}
 use Rattle.memory.proofs.Image.{rowOf-file}
@@ -28,7 +31,6 @@ use Rattle.midst.specs.declared.File as hand
 use Rattle.midst.specs.File.{fileRowWords, inHand}
 use Rattle.midst.specs.Seg.{Seg, queueAt}
 use Rattle.midst.specs.Mid.{Start, Mid}
-use Rattle.midst.proofs.Alike.{file-set}
 use Rattle.midst.proofs.Begins.{mid-file, mid-end}
 use Rattle.midst.proofs.Changes.{Knows}
 use Rattle.midst.proofs.Terms.{waitsAt, waits-awaits}
@@ -64,13 +66,13 @@ hand-words x b e = rw e
 
 module _ {I : Built → Type 0} {f : ℕ} {o : Start} {xs blocks buffers : List ℕ} {x : hand.File} {b : Built} (M : Mid I f o xs blocks buffers x b) (e : Rowed xs f b) where
   -- no row is in hand
-  whole : Seg xs (set (o .desk) f (built b)) (allotAll f (b .past) (o .alloc)) rowCount
+  whole : Seg xs (withFile (o .desk) f (built b)) (allotAll f (b .past) (o .alloc)) rowCount
   whole = record { rows = M .segment .rows; boxes = M .segment .boxes; same = λ i h _. go i h (ℕ-discrete i f) }
     where
-      go : (i : ℕ) → i < rowCount → Dec (i ≡ f) → getD (M .segment .rows) i [] ≡ rowOf (set (o .desk) f (built b)) i
+      go : (i : ℕ) → i < rowCount → Dec (i ≡ f) → getD (M .segment .rows) i [] ≡ rowOf (withFile (o .desk) f (built b)) i
       go i h (yes z) =
           rw z (sym (M .segment .boxes .rows f (omega (arith, M .file))) ∙ words-file xs f (M .file) ∙ e
-          ∙ sym (rowOf-file (set (o .desk) f (built b)) f (M .file) ∙ ap fileWords (mid-file M)))
+          ∙ sym (rowOf-file (withFile (o .desk) f (built b)) f (M .file) ∙ ap fileWords (mid-file M)))
       go i h (no n) = M .segment .same i h n
 
   -- a waiting request is cancelled
@@ -78,20 +80,20 @@ module _ {I : Built → Type 0} {f : ℕ} {o : Start} {xs blocks buffers : List 
       → Rowed (cancelled xs (queueAt side f) (placeOf f p)) f (cancel p b)
   unfolding cancel leave say withTimers requeue alterAcc withAccs withQueues fileWords
   rowed-cancel K p a k side w =
-      let n : length (set (o .desk) f (built b)) ≡ files = length-set (o .desk) f (built b) ∙ M .eight in
-      let P : Placed f p (set (o .desk) f (built b)) b a (allotAll f (b .past) (o .alloc)) =
+      let n : EightFiles (withFile (o .desk) f (built b)) = eight-put (o .desk) f (built b) (M .eight) in
+      let P : Placed f p (withFile (o .desk) f (built b)) b a (allotAll f (b .past) (o .alloc)) =
       placed-of f p _ b a _ (M .file) n (mid-file M) (K .agree b (M .good)) k (M .allots .matches .whole .long) (M .allots .matches .agrees)
       (omega (arith, waits-awaits side (a .req), outstanding-most (a .req)))
       in
       let S = seg-cancel P side w whole idle (cancel p b) refl refl refl (λ _. refl) refl .1 in
       sym (words-file (cancelled xs (queueAt side f) (placeOf f p)) f (M .file)) ∙ S .boxes .rows f (omega (arith, M .file)) ∙ S .same f (omega (arith, M .file)) (λ z. omega (arith, M .file)) ∙ rowOf-file _ f (M .file)
-      ∙ ap fileWords (file-set (set (o .desk) f (built b)) f (built (cancel p b)) (omega (arith, M .file, n)))
+      ∙ ap fileWords (file-same (withFile (o .desk) f (built b)) f (built (cancel p b)) n (M .file))
 
   pub mid-stay : Bodies (o .blocks) (o .buffers) (o .desk) → Bytes xs → Bytes blocks → Bytes buffers
-      → Stands xs blocks buffers (set (o .desk) f (built (hushed b))) (allotAll f (b .past) (o .alloc))
+      → Stands xs blocks buffers (withFile (o .desk) f (built (hushed b))) (allotAll f (b .past) (o .alloc))
   mid-stay B bytes blocks-bytes buffers-bytes =
       let same : fill xs (fileRowAt f) (fileRowWords x) ≡ xs =
       ap (fill xs (fileRowAt f)) (hand-words x b (M .row) ∙ sym e) ∙ fill-back xs (fileRowAt f) fileWidth bytes
       in
-      subst (λ (ys : List ℕ). Stands ys blocks buffers (set (o .desk) f (built (hushed b))) (allotAll f (b .past) (o .alloc))) same
+      subst (λ (ys : List ℕ). Stands ys blocks buffers (withFile (o .desk) f (built (hushed b))) (allotAll f (b .past) (o .alloc))) same
       (mid-end M B (subst Bytes (sym same) bytes) blocks-bytes buffers-bytes)

@@ -6,12 +6,12 @@ use mathlib.Core.Bool.{Bool, true, false, not}
 use mathlib.Core.List.{List, [], _∷_, _++_, map}
 use native.Mathlib.Omega.{arith}
 use lib.Dec.{eqb}
-use lib.ListN.{length, getD, set, take, replicate, length-map}
+use lib.ListN.{length, getD, take, replicate, length-map}
 use Rattle.occurrences.specs.Count.{count}
 use Rattle.rules.specs.Limits.{entries}
 use Rattle.rules.specs.State.{Req, idle, Acc, Built, built}
 use Rattle.rules.specs.Requests.{accAt, alter, withReq, without}
-use Rattle.rules.specs.Desk.{Desk}
+use Rattle.rules.specs.Desk.{Desk, withFile}
 use Rattle.rules.specs.Allocation.{own, Alloc, placeOf, heldAt, endsAt, goesAt, ownEntry, portOf, timerList}
 use Rattle.laws.specs.Outstanding.{uncollected, reqOf}
 use Rattle.segment.specs.Layout.{listCount, freeList, replyPort, dataWords, fileRow, readQueues, replyPorts}
@@ -155,7 +155,7 @@ module _ {f p : ℕ} {d : Desk} {b : Built} {a : Acc} {t : Alloc} (P : Placed f 
         → (timerList (endsAt i t) ≡ timerList v) × (endsAt i t .clock ≡ v .clock)
         → (ls (replyPort i) ≡ portOf q i v) × (ms (replyPort i) ≡ portWords i q)
         → ((j : ℕ) → (j ≡ freeList → ⊥) → (j ≡ replyPort i → ⊥) → (ls j ≡ lists (endsAt i t) j) × (ms j ≡ datas (endsAt i t) j))
-        → Seg s (set d f (built c)) v k
+        → Seg s (withFile d f (built c)) v k
     leaves v held ls ms B free timers port same =
         seg-shift C S ls ms B row (row-now P q c v accs held) free
         (let z = same layout.timerList (λ x. omega arith) (λ x. omega (arith, hi P)) in
@@ -193,7 +193,7 @@ module _ {f p : ℕ} {d : Desk} {b : Built} {a : Acc} {t : Alloc} (P : Placed f 
 
     -- it completes as q
     pub seg-complete : uncollected q ≡ 1 → (entryOf xs (queueAt writer f) (placeOf f p) < entries)
-        × Seg (completed xs (slotOf xs (queueAt writer f) (placeOf f p)) (placeOf f p) (reqWords (placeOf f p) q)) (set d f (built c)) (endsAt (placeOf f p) t) k
+        × Seg (completed xs (slotOf xs (queueAt writer f) (placeOf f p)) (placeOf f p) (reqWords (placeOf f p) q)) (withFile d f (built c)) (endsAt (placeOf f p) t) k
     unfolding completed entryOf out ownEntry
     seg-complete z =
         let v : Alloc = endsAt i t in
@@ -216,7 +216,7 @@ module _ {f p : ℕ} {d : Desk} {b : Built} {a : Acc} {t : Alloc} (P : Placed f 
 
     -- it is cancelled
     pub seg-cancel : q ≡ idle → (entryOf xs (queueAt writer f) (placeOf f p) < entries)
-        × Seg (cancelled xs (queueAt writer f) (placeOf f p)) (set d f (built c)) (goesAt (placeOf f p) t) k
+        × Seg (cancelled xs (queueAt writer f) (placeOf f p)) (withFile d f (built c)) (goesAt (placeOf f p) t) k
     unfolding cancelled uncollected
     seg-cancel z =
         let v : Alloc = goesAt i t in

@@ -5,13 +5,13 @@ use mathlib.Core.Bool.{Bool}
 use mathlib.Core.List.{List, [], _∷_}
 use mathlib.Core.Option.{Option, none, some}
 use native.Mathlib.Omega.{arith}
-use lib.ListN.{length, getD, set}
+use lib.ListN.{length, getD}
 use Rattle.occurrences.specs.Count.{count}
 use Rattle.occurrences.proofs.Counts.{count-head}
 use Rattle.rules.specs.Limits.{entries}
 use Rattle.rules.specs.State.{Req, idle, reading, writing, readDone, writeDone, Acc, Built, built}
 use Rattle.rules.specs.Requests.{accAt}
-use Rattle.rules.specs.Desk.{Desk}
+use Rattle.rules.specs.Desk.{Desk, withFile}
 use Rattle.rules.specs.Allocation.{Alloc, placeOf, allotAll}
 use Rattle.laws.specs.Outstanding.{reqAt, waitsRead, waitsWrite, reqOf}
 use Rattle.laws.specs.Outstanding as laws
@@ -75,7 +75,7 @@ writes-at b p rest A e = go (getD (b .accs) p none) refl
 -- what the head and its entry say
 module _ {I : Built → Type 0} {f : ℕ} {o : Start} {xs blocks buffers : List ℕ} {x : hand.File} {b : Built} (M : Mid I f o xs blocks buffers x b) (w : Bool) where
   abbrev d : Desk
-  d = set (o .desk) f (built b)
+  d = withFile (o .desk) f (built b)
 
   abbrev t : Alloc
   t = allotAll f (b .past) (o .alloc)

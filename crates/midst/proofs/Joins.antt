@@ -23,7 +23,7 @@ use Rattle.requests.specs.Moves.{timer, armed, queued}
 use Rattle.rules.specs.Limits.{entries}
 use Rattle.rules.specs.State.{Req, idle, reading, writing, readDone, writeDone, Timer, Built, built}
 use Rattle.rules.specs.Requests.{accAt, armIn}
-use Rattle.rules.specs.Desk.{Desk}
+use Rattle.rules.specs.Desk.{Desk, withFile}
 use Rattle.rules.specs.Allocation.{own, timed, Alloc, placeOf, heldAt, noEntry, front, holds, withClock, takeOwn, takeTimer, ownEntry, timerEntry}
 use Rattle.rules.specs.Allocation as rules
 use Rattle.laws.specs.Counts.{countT}
@@ -105,7 +105,7 @@ module _ {f p : ℕ} {d : Desk} {t : Alloc} {b c : Built} (C : Change f p d t (t
   u = takeOwn i t
 
   abbrev e : Desk
-  e = set d f (built c)
+  e = withFile d f (built c)
 
   queue-list : entriesIn f t (sideQueue w b) ++ front t ∷ [] ≡ listOf e u (queueAt w f)
   unfolding ownEntry
@@ -174,7 +174,7 @@ module _ {f p : ℕ} (n : ℕ) {d : Desk} {t : Alloc} {b c : Built} (C : Change 
   v = armsAt j n t
 
   abbrev g : Desk
-  g = set d f (built c)
+  g = withFile d f (built c)
 
   abbrev new : Timer
   new = record { place = j; left = n }

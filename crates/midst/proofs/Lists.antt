@@ -13,23 +13,16 @@ use Rattle.ports.specs.Lists.{Boxes}
 use Rattle.rules.specs.Limits.{files, places}
 use Rattle.rules.specs.State.{Req, idle, reading, writing, readDone, writeDone, Built, File, unbuilt, built}
 use Rattle.rules.specs.Requests.{accAt}
-use Rattle.rules.specs.Desk.{Desk, fileOf}
+use Rattle.rules.specs.Desk.{Desk, fileOf, withFile}
 use Rattle.rules.specs.Allocation.{Alloc, placeOf, heldAt, ownEntry, queueOf, portOf}
 use Rattle.laws.specs.Outstanding.{uncollected, reqOf}
 use Rattle.memory.specs.Image.{accOf, reqWords, rowOf, rqOf, wqOf, listOf, queueWords, portWords, boxOf, listsOf, boxesOf}
 use Rattle.memory.proofs.Image.{listOf-read, listOf-write, boxOf-read, boxOf-write}
-use Rattle.memory.proofs.Boxes.{length-up, getD-listsOf, getD-boxesOf}
+use Rattle.memory.proofs.Boxes.{getD-listsOf, getD-boxesOf}
+use Rattle.laws.specs.EightFiles.{EightFiles}
+use Rattle.laws.proofs.EightFiles.{file-other, file-same}
+use Rattle.laws.proofs.Lists.{length-up}
 use Rattle.midst.specs.Seg.{Seg, queueAt, sideQueue}
-
--- the file of a desk whose file f is set
-
-pub file-same : (d : Desk) (f : ℕ) (y : File) → length d ≡ files → f < files → fileOf (set d f y) f ≡ y
-unfolding fileOf
-file-same d f y n h = getD-set-same d f y unbuilt (rw n h)
-
-pub file-other : (d : Desk) (f g : ℕ) (y : File) → (g ≡ f → ⊥) → fileOf (set d f y) g ≡ fileOf d g
-unfolding fileOf
-file-other d f g y k = getD-set-other d f g y unbuilt k
 
 -- list l and its contents, of lists ls and contents ms, are those of a desk and an allocation
 abbrev pub At : List (List ℕ) → List (List (List ℕ)) → Desk → Alloc → ℕ → Type 0

@@ -6,7 +6,7 @@ use mathlib.Core.Option.{Option, none}
 use mathlib.Core.Logic.{_⊎_, inl, inr}
 use native.Mathlib.Omega.{arith}
 use native.Mathlib.Decide.{decLt}
-use lib.ListN.{length, getD, set, replicate}
+use lib.ListN.{length, getD, replicate}
 use lib.Seq.{sets, length-sets}
 use Rattle.words.specs.Word.{zeros, part, Bytes}
 use Rattle.words.proofs.Runs.{length-zeros}
@@ -19,17 +19,18 @@ use Rattle.rules.specs.Requests.{accAt}
 use Rattle.rules.specs.Reply.{Out, hushed}
 use Rattle.rules.specs.Memories.{buffer, fileBuffers}
 use Rattle.rules.specs.Open.{newFile}
-use Rattle.rules.specs.Desk.{Desk, fileOf}
+use Rattle.rules.specs.Desk.{Desk, fileOf, withFile}
 use Rattle.rules.specs.Allocation.{Alloc, allotAll}
 use Rattle.memory.specs.Image.{accOf, fileWords, rqOf, wqOf}
 use Rattle.laws.specs.Outstanding.{reqOf}
+use Rattle.laws.proofs.EightFiles.{file-here}
 use Rattle.memory.specs.Stands.{Segment, shareAt, buffersAt, FileBytes}
 use Rattle.memory.specs.Fine.{StandsFor}
 use Rattle.memory.proofs.Frames.{bodies-file, fileBytes}
 use Rattle.midst.specs.Seg.{Seg}
 use Rattle.midst.specs.Outcome.{Outcome}
 use Rattle.midst.proofs.Alike.{Alike}
-use Rattle.midst.proofs.Begins.{file-here, stands-seg, seg-end}
+use Rattle.midst.proofs.Begins.{stands-seg, seg-end}
 
 -- a file with no accessor has none of all that an unbuilt file has none of
 
@@ -68,10 +69,10 @@ module _ {xs blocks buffers : List ℕ} {d : Desk} {s : Alloc} (S : StandsFor xs
   abbrev new : File
   new = built (hushed (newFile g t))
 
-  new-segment : Segment xs′ (set d f new) s
+  new-segment : Segment xs′ (withFile d f new) s
   unfolding fileWords hushed newFile
   new-segment =
-      subst (λ (ys : List ℕ). Segment ys (set d f new) s) (sym wrote)
+      subst (λ (ys : List ℕ). Segment ys (withFile d f new) s) (sym wrote)
       (seg-end xs d f unbuilt new s _ hf (S .agreed .eight) (new-alike g t) (new-acc g t) (subst (λ (e : Desk). Seg xs e s (fileRow f)) (sym (file-here d f unbuilt u)) (stands-seg S f))
       refl refl (subst Bytes wrote xs-bytes))
 
@@ -95,7 +96,7 @@ module _ {xs blocks buffers : List ℕ} {d : Desk} {s : Alloc} (S : StandsFor xs
   made x e a = record {
     stands = rw (e, a) record {
       segment = new-segment;
-      bodies = bodies-file d blocks buffers blocks′ buffers′ f new (S .stands .bodies) (omega (arith, hf, S .agreed .eight)) blocks-bytes buffers-bytes
+      bodies = bodies-file d blocks buffers blocks′ buffers′ f new (S .stands .bodies) (S .agreed .eight) hf blocks-bytes buffers-bytes
           (ap length laid ∙ length-sets blocks (shareBytes * f) (t .share)) (ap length blank ∙ length-sets buffers (fileBytes * f) (zeros fileBytes)) (λ h k n. (shares h n, others h n)) own;
     };
     apart = record { shares = λ h k n. shares h n; others = λ h k n. others h n };

@@ -14,24 +14,26 @@ use Rattle.ports.proofs.Maps.{map-in}
 use Rattle.rules.specs.Limits.{files, places}
 use Rattle.rules.specs.State.{Req, idle, reading, writing, readDone, writeDone, Acc, Timer, Built, File, unbuilt, built}
 use Rattle.rules.specs.Requests.{accAt}
-use Rattle.rules.specs.Desk.{Desk, fileOf}
+use Rattle.rules.specs.Desk.{Desk, fileOf, withFile}
 use Rattle.rules.specs.Allocation.{Alloc, placeOf, heldAt, ownEntry, timerEntry, queueOf, portOf}
 use Rattle.rules.specs.Allocation as rules
 use Rattle.laws.specs.Counts.{placesOf, countT}
 use Rattle.laws.specs.Outstanding.{uncollected, reqOf}
+use Rattle.laws.specs.EightFiles.{EightFiles}
 use Rattle.laws.proofs.Counts.{at-or-else}
+use Rattle.laws.proofs.EightFiles.{file-other, file-same}
 use Rattle.memory.specs.Image.{accOf, placeAcc, reqWords, timerWords, fileWords, placeWords, rowOf, rqOf, wqOf, listOf, queueWords, portWords, boxOf, listsOf, boxesOf}
 use Rattle.memory.proofs.Image.{placeAcc-of, rowOf-file, rowOf-place, each-row, listOf-read, listOf-write, listOf-port, listOf-timers, boxOf-read, boxOf-write, boxOf-port, boxOf-timers, each-list}
 use Rattle.memory.proofs.Boxes.{getD-listsOf, getD-boxesOf}
 use Rattle.memory.proofs.Held.{map-place}
 use Rattle.midst.specs.Seg.{queueAt, sideQueue}
-use Rattle.midst.proofs.Lists.{file-same, file-other, At, entriesIn, wordsIn, list-side, box-side, Low, place-under, port-none}
+use Rattle.midst.proofs.Lists.{At, entriesIn, wordsIn, list-side, box-side, Low, place-under, port-none}
 
 -- file f of the desk goes from b to c, and the allocation from t to u, at place p alone
 pub record Change (f p : ℕ) (d : Desk) (t u : Alloc) (b c : Built) : Type 0 where
   pub file : f < files
   pub place : p < places
-  pub eight : length d ≡ files
+  pub eight : EightFiles d
   pub was : fileOf d f ≡ built b
   pub accs : (x : ℕ) → (p ≡ x → ⊥) → accAt c x ≡ accAt b x
   pub held : (j : ℕ) → (j ≡ placeOf f p → ⊥) → heldAt u j ≡ heldAt t j
@@ -73,7 +75,7 @@ timers-held t u ts h =
 module _ {f p : ℕ} {d : Desk} {t u : Alloc} {b c : Built} (C : Change f p d t u b c) where
   -- the desk behind it
   abbrev then : Desk
-  then = set d f (built c)
+  then = withFile d f (built c)
 
   pub is-now : fileOf then f ≡ built c
   is-now = file-same d f (built c) (C .eight) (C .file)

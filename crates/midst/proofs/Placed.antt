@@ -18,6 +18,7 @@ use Rattle.laws.specs.Outstanding as laws
 use Rattle.laws.specs.Counts.{countT}
 use Rattle.laws.specs.Entries.{size, Agrees}
 use Rattle.laws.specs.Queues.{Agree}
+use Rattle.laws.specs.EightFiles.{EightFiles}
 use Rattle.laws.proofs.Accessors.{getD-alter-same, getD-alter-other}
 use Rattle.laws.proofs.Happenings.{open-below}
 use Rattle.laws.proofs.Sieve.{countT-sieve}
@@ -36,7 +37,7 @@ use Rattle.midst.proofs.Terms.{waitsAt, place-other}
 pub record Placed (f p : ℕ) (d : Desk) (b : Built) (a : Acc) (t : Alloc) : Type 0 where
   pub file : f < files
   pub place : p < places
-  pub eight : length d ≡ files
+  pub eight : EightFiles d
   pub was : fileOf d f ≡ built b
   pub queues : Agree b
   pub opens : accAt b p ≡ some a
@@ -44,7 +45,7 @@ pub record Placed (f p : ℕ) (d : Desk) (b : Built) (a : Acc) (t : Alloc) : Typ
   pub holds : size (heldAt t (placeOf f p)) ≡ suc (countT (placeOf f p) (t .clock))
 
 -- where desk and allocation agree, an accessor with a request outstanding
-pub placed-of : (f p : ℕ) (d : Desk) (b : Built) (a : Acc) (t : Alloc) → f < files → length d ≡ files → fileOf d f ≡ built b → Agree b → accAt b p ≡ some a
+pub placed-of : (f p : ℕ) (d : Desk) (b : Built) (a : Acc) (t : Alloc) → f < files → EightFiles d → fileOf d f ≡ built b → Agree b → accAt b p ≡ some a
     → length (t .held) ≡ files * places → Agrees f t (b .accs) (b .timers) → outstanding (a .req) ≡ 1 → Placed f p d b a t
 unfolding accAt laws.reqOf
 placed-of f p d b a t hf eight was queues opens long A n =

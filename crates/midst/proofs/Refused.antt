@@ -7,8 +7,6 @@ use Prim.Native.Nat.{ℕ, zero, suc, _≤_, _<_}
 use native.Mathlib.Omega.{arith}
 use native.Mathlib.Decide.{decLt}
 use lib.Dec.{ltb, eqb}
-use lib.ListN.{length, set, List·getD-eq-default}
-use lib.Seq.{set-getD}
 use borrow.Author.Tests.{ltb-true, lt-ltb, eq-eqb}
 use Rattle.kinds.specs.declared.Control.{Control}
 use Rattle.kinds.specs.declared.Control.the-variants.{Timeout, Verify, Abort, Extended, Typed, Keep}
@@ -23,14 +21,16 @@ use Rattle.rules.specs.Controls.{abort}
 use Rattle.rules.specs.Counts.{counts}
 use Rattle.rules.specs.Calls.{Ask, refusal, ask, askBuilt, askUnbuilt}
 use Rattle.rules.specs.Calls as calls
-use Rattle.rules.specs.Desk.{Desk, on, fileOf, Responded, answered, happens}
+use Rattle.rules.specs.Desk.{Desk, on, fileOf, withFile, Responded, answered, happens}
 use Rattle.rules.specs.Allocation.{Alloc, allotAll, allocAsked}
 use Rattle.rules.proofs.Split.{by-cases, both, opt, pick-true, pick-false}
 use Rattle.laws.specs.Runs.{OnFile}
 use Rattle.laws.specs.Outstanding.{reqOf, reqAt, waitsRead, waitsWrite, awaits, uncollected}
 use Rattle.laws.specs.Entries.{Calm}
 use Rattle.laws.specs.Bounds.{leastRefusal, Bounded}
+use Rattle.laws.specs.EightFiles.{EightFiles}
 use Rattle.laws.proofs.Files.{on-file}
+use Rattle.laws.proofs.EightFiles.{file-here, file-none}
 use Rattle.memory.specs.Fine.{Fine, StandsFor}
 use Rattle.midst.specs.Outcome.{statusOf, replyStatus, refusalOf}
 use Rattle.midst.specs.Accepted.{OpenKnown, CloseKnown, ControlKnown, Known, KnownNew, Verdict, refuses, accepts, endOf, Ended, Refused}
@@ -157,7 +157,7 @@ stays (built b) q c z n = go (judged b q)
     go (accepts k) = absurd (n (known-passes q b (askBuilt b q) z k))
 
 -- a call of one of the eight files
-answered-on : (d : Desk) (f : ℕ) (q : Ask) → ltb f files ≡ true → answered d (on f q) ≡ record { reply = ask (fileOf d f) q .reply; desk = set d f (ask (fileOf d f) q .file) }
+answered-on : (d : Desk) (f : ℕ) (q : Ask) → ltb f files ≡ true → answered d (on f q) ≡ record { reply = ask (fileOf d f) q .reply; desk = withFile d f (ask (fileOf d f) q .file) }
 unfolding answered
 answered-on d f q t = pick-true (ltb f files) _ _ t
 
@@ -176,7 +176,7 @@ refused-still d s f q c z n = by-cases (ltb f files) within beyond
         let e = answered-on d f q t in
         let k = stays (fileOf d f) q (c f (ltb-true f files t)) z (λ (h : Passes (ask (fileOf d f) q)). n (ap (λ (r : Responded). refusalOf (r .reply)) e ∙ (unfold Passes in h))) in
         record {
-          desk = ap (λ (r : Responded). r .desk) e ∙ ap (λ (x : File). set d f x) (k .0) ∙ (unfold fileOf in set-getD d f unbuilt);
+          desk = ap (λ (r : Responded). r .desk) e ∙ file-here d f _ (sym (k .0));
           alloc = rw (t, happens-on d f q, k .1);
           reply = rw e (k .2);
         }
@@ -192,13 +192,13 @@ refused-still d s f q c z n = by-cases (ltb f files) within beyond
 
 -- of a desk that memories stand for
 
-desk-ended : (d : Desk) → length d ≡ files → ((g : ℕ) → g < files → OnFile Fine (fileOf d g)) → (f : ℕ) → OnFile Ended (fileOf d f)
-unfolding fileOf OnFile
+desk-ended : (d : Desk) → EightFiles d → ((g : ℕ) → g < files → OnFile Fine (fileOf d g)) → (f : ℕ) → OnFile Ended (fileOf d f)
+unfolding OnFile
 desk-ended d l h f = go (decLt f files)
   where
     go : Dec (f < files) → OnFile Ended (fileOf d f)
     go (yes k) = on-file Fine Ended fine-ended (fileOf d f) (h f k)
-    go (no k) = let e : length d ≤ f = omega arith in rw (List·getD-eq-default d unbuilt e) tt
+    go (no k) = let e : files ≤ f = omega arith in rw (file-none d f l e) tt
 
 pub stands-refused : {xs blocks buffers : List ℕ} {d : Desk} {s : Alloc} (f : ℕ) (q : Ask) → StandsFor xs blocks buffers d s
     → (refusalOf (answered d (on f q) .reply) ≡ 0 → ⊥) → Refused d s f q

@@ -5,8 +5,8 @@ use mathlib.Core.Bool.{Bool, true, false}
 use mathlib.Core.List.{List, _∷_, _++_}
 use mathlib.Core.Option.{some}
 use native.Mathlib.Omega.{arith}
-use lib.ListN.{length, set, length-set}
-use lib.Seq.{sets, set-set}
+use lib.ListN.{length}
+use lib.Seq.{sets}
 use Rattle.occurrences.specs.Count.{count}
 use Rattle.ports.proofs.Chains.{slotAt}
 use Rattle.segment.specs.Layout.{freeList, replyPort, fileRow}
@@ -16,7 +16,7 @@ use Rattle.rules.specs.Limits.{files, entries, bufferBytes}
 use Rattle.rules.specs.State.{Req, idle, reading, writing, Acc, ends, cancels, collects, Built, built}
 use Rattle.rules.specs.Requests.{accAt, withAccs, withQueues, withTimers, alterAcc, say, requeue, leave, finish, cancel, wait, freed}
 use Rattle.rules.specs.Memories.{lies}
-use Rattle.rules.specs.Desk.{Desk}
+use Rattle.rules.specs.Desk.{Desk, withFile}
 use Rattle.rules.specs.Allocation.{Alloc, placeOf, endsAt, goesAt, allot, allotAll}
 use Rattle.laws.specs.Outstanding.{reqOf, reqAt, waitsRead, waitsWrite, uncollected, awaits, outstanding}
 use Rattle.laws.specs.Changes.{Ends, readEnds, writeEnds}
@@ -27,6 +27,7 @@ use Rattle.laws.proofs.Bounds.{bounds-at}
 use Rattle.laws.proofs.Outstanding.{outstanding-most}
 use Rattle.laws.proofs.Sieve.{countT-sieve}
 use Rattle.laws.proofs.Midst.{mid-wait, mid-walks}
+use Rattle.laws.proofs.EightFiles.{eight-put, put-twice}
 use Rattle.buffers.specs.Buffer.{filled}
 use Rattle.memory.specs.Image.{reqWords, fileWords}
 use Rattle.midst.specs.declared.File as hand
@@ -52,8 +53,8 @@ side-waits : (w : Bool) (q : Req) → waitsAt w q ≡ 1 → awaits q ≡ 1
 side-waits w q h = omega (arith, waits-awaits w q, outstanding-most q)
 
 -- a segment of a desk whose file f was set before
-reset : (xs : List ℕ) (d : Desk) (f : ℕ) (b c : Built) (t u : Alloc) (k : ℕ) → u ≡ t → Seg xs (set (set d f (built b)) f (built c)) t k → Seg xs (set d f (built c)) u k
-reset xs d f b c t u k e S = rw e (rw set-set at S)
+reset : (xs : List ℕ) (d : Desk) (f : ℕ) (b c : Built) (t u : Alloc) (k : ℕ) → u ≡ t → Seg xs (withFile (withFile d f (built b)) f (built c)) t k → Seg xs (withFile d f (built c)) u k
+reset xs d f b c t u k e S = rw e (rw put-twice at S)
 
 wait-mid : (f : ℕ) → f < files → (s : Alloc) (side : Bool) (p n : ℕ) (q : Req) (a : Acc) (b : Built) → accAt b p ≡ some a → a .req ≡ idle → awaits q ≡ 1 → laws.Mid f s b
     → laws.Mid f s (wait side p n q b)
@@ -73,7 +74,7 @@ module _ {I : Built → Type 0} {f : ℕ} {o : Start} {xs blocks buffers : List 
 
   module _ (R : Rest f o) (side : Bool) (n : ℕ) (q : Req) (still : a .req ≡ idle) (waits : awaits q ≡ 1) where
     seg-waits : (nth xs freeList < entries) × (nth (queued xs (queueAt side f) (reqWords i q)) freeList < entries)
-        × Seg (waiting xs (queueAt side f) (reqWords i q) i n) (set (o .desk) f (built (wait side p n q b))) (allotAll f (wait side p n q b .past) (o .alloc)) (fileRow f)
+        × Seg (waiting xs (queueAt side f) (reqWords i q) i n) (withFile (o .desk) f (built (wait side p n q b))) (allotAll f (wait side p n q b .past) (o .alloc)) (fileRow f)
     seg-waits =
         seg-wait f (M .file) (o .alloc) (o .desk) (M .eight) R b (M .allots) (K .agree b (M .good)) p n a e still side q (omega (arith, outstanding-most q)) (M .segment)
 
@@ -108,11 +109,11 @@ module _ {I : Built → Type 0} {f : ℕ} {o : Start} {xs blocks buffers : List 
   unfolding accAt reqOf
   asked = ap reqOf e
 
-  placed : outstanding (a .req) ≡ 1 → Placed f p (set (o .desk) f (built b)) b a t
+  placed : outstanding (a .req) ≡ 1 → Placed f p (withFile (o .desk) f (built b)) b a t
   placed h = record {
     file = M .file;
     place = mid-below M p a e;
-    eight = length-set (o .desk) f (built b) ∙ M .eight;
+    eight = eight-put (o .desk) f (built b) (M .eight);
     was = mid-file M;
     queues = K .agree b (M .good);
     opens = e;
@@ -129,7 +130,7 @@ module _ {I : Built → Type 0} {f : ℕ} {o : Start} {xs blocks buffers : List 
     stands-out : outstanding (a .req) ≡ 1
     stands-out = omega (arith, side-waits side (a .req) asks, outstanding-most (a .req))
 
-    complete : Seg (completed xs (slotOf xs (queueAt side f) i) i (reqWords i q)) (set (set (o .desk) f (built b)) f (built (finish p st q b))) (endsAt i t) (fileRow f)
+    complete : Seg (completed xs (slotOf xs (queueAt side f) i) i (reqWords i q)) (withFile (withFile (o .desk) f (built b)) f (built (finish p st q b))) (endsAt i t) (fileRow f)
     unfolding finish leave say withTimers requeue alterAcc withAccs withQueues
     complete =
         seg-complete (placed stands-out) side asks (M .segment) q (finish p st q b) refl refl refl
@@ -152,7 +153,7 @@ module _ {I : Built → Type 0} {f : ℕ} {o : Start} {xs blocks buffers : List 
 
   module _ (side : Bool) (waits : waitsAt side (a .req) ≡ 1) where
     gone : (entryOf xs (queueAt side f) i < entries)
-        × Seg (cancelled xs (queueAt side f) i) (set (set (o .desk) f (built b)) f (built (cancel p b))) (goesAt i t) (fileRow f)
+        × Seg (cancelled xs (queueAt side f) i) (withFile (withFile (o .desk) f (built b)) f (built (cancel p b))) (goesAt i t) (fileRow f)
     unfolding cancel leave say withTimers requeue alterAcc withAccs withQueues
     gone =
         seg-cancel (placed (omega (arith, side-waits side (a .req) waits, outstanding-most (a .req)))) side waits (M .segment) idle (cancel p b) refl refl refl
@@ -176,7 +177,7 @@ module _ {I : Built → Type 0} {f : ℕ} {o : Start} {xs blocks buffers : List 
 
   module _ (done : uncollected (a .req) ≡ 1) where
     taken : (nth xs (replyPort i) < entries)
-        × Seg (collected xs i) (set (set (o .desk) f (built b)) f (built (freed p b))) (goesAt i t) (fileRow f)
+        × Seg (collected xs i) (withFile (withFile (o .desk) f (built b)) f (built (freed p b))) (goesAt i t) (fileRow f)
     unfolding freed say alterAcc withAccs
     taken =
         let h : outstanding (a .req) ≡ 1 = omega (arith, outstanding-most (a .req)) in
@@ -191,8 +192,8 @@ module _ {I : Built → Type 0} {f : ℕ} {o : Start} {xs blocks buffers : List 
     freed-all = allot-snoc f (b .past) (collects p) (o .alloc)
 
     -- the segment with all rows, where the file's own stands as it is
-    pub step-free-rows : {k : ℕ} → Seg xs (set (o .desk) f (built b)) (allotAll f (b .past) (o .alloc)) k
-        → Seg (collected xs (placeOf f p)) (set (o .desk) f (built (freed p b))) (allotAll f (freed p b .past) (o .alloc)) k
+    pub step-free-rows : {k : ℕ} → Seg xs (withFile (o .desk) f (built b)) (allotAll f (b .past) (o .alloc)) k
+        → Seg (collected xs (placeOf f p)) (withFile (o .desk) f (built (freed p b))) (allotAll f (freed p b .past) (o .alloc)) k
     unfolding freed say alterAcc withAccs fileWords
     step-free-rows {k} S =
         let h : outstanding (a .req) ≡ 1 = omega (arith, outstanding-most (a .req)) in

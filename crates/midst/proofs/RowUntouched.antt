@@ -4,15 +4,17 @@ use mathlib.Core.Path.{_≡_, sym, ap, _∙_}
 use mathlib.Core.List.{List, []}
 use native.Mathlib.Omega.{arith}
 use native.Mathlib.Decide.{ℕ-discrete}
-use lib.ListN.{length, getD, set}
+use lib.ListN.{getD}
 use Rattle.segment.specs.Layout.{rowCount, fileRow}
 use Rattle.rules.specs.Limits.{files}
 use Rattle.rules.specs.State.{Hap, Built, File, built}
 use Rattle.rules.specs.Reply.{hushed}
-use Rattle.rules.specs.Desk.{Desk, fileOf}
+use Rattle.rules.specs.Desk.{Desk, fileOf, withFile}
 use Rattle.rules.specs.Allocation.{Alloc, allotAll}
 use Rattle.laws.specs.Runs.{OnFile}
 use Rattle.laws.specs.Entries.{Calm}
+use Rattle.laws.specs.EightFiles.{EightFiles}
+use Rattle.laws.proofs.EightFiles.{file-here, file-same}
 use Rattle.memory.specs.Image.{fileWords, rowOf, listsOf, boxesOf, rowsOf}
 use Rattle.memory.specs.Stands.{Bodies, Stands}
 use Rattle.words.specs.Word.{Bytes}
@@ -24,12 +26,12 @@ use Rattle.memory.proofs.Frames.{bodies-file}
 use Rattle.midst.specs.declared.File as hand
 use Rattle.midst.specs.Seg.{Seg}
 use Rattle.midst.specs.Mid.{Start, Mid}
-use Rattle.midst.proofs.Alike.{file-set, lists-alike, boxes-alike}
-use Rattle.midst.proofs.Begins.{fine-agree, file-here, hushed-alike, hushed-acc, hushed-bytes, rows-same}
+use Rattle.midst.proofs.Alike.{lists-alike, boxes-alike}
+use Rattle.midst.proofs.Begins.{fine-agree, hushed-alike, hushed-acc, hushed-bytes, rows-same}
 
 -- it begins
 pub seg-stands : {xs blocks buffers : List ℕ} {d : Desk} {s : Alloc} → StandsFor xs blocks buffers d s → (f : ℕ) (b : Built) → f < files → fileOf d f ≡ built b
-    → Seg xs (set d f (built b)) (allotAll f (b .past) s) rowCount
+    → Seg xs (withFile d f (built b)) (allotAll f (b .past) s) rowCount
 unfolding allotAll OnFile
 seg-stands {xs} {d = d} {s = s} S f b h e =
     let calm : Calm (built b) = rw e at (S .agreed .calm f h) in
@@ -40,40 +42,37 @@ seg-stands {xs} {d = d} {s = s} S f b h e =
     }
 
 -- the row of file f, of a desk whose file f is b, is that of one where nothing is left to tell
-row-hushed : (d : Desk) (f : ℕ) (b : Built) → f < files → f < length d → rowOf (set d f (built b)) (fileRow f) ≡ rowOf (set d f (built (hushed b))) (fileRow f)
+row-hushed : (d : Desk) (f : ℕ) (b : Built) → f < files → EightFiles d → rowOf (withFile d f (built b)) (fileRow f) ≡ rowOf (withFile d f (built (hushed b))) (fileRow f)
 unfolding fileWords hushed
 row-hushed d f b h k =
-    rowOf-file (set d f (built b)) f h ∙ ap fileWords (file-set d f (built b) k)
-    ∙ sym (rowOf-file (set d f (built (hushed b))) f h ∙ ap fileWords (file-set d f (built (hushed b)) k))
+    rowOf-file (withFile d f (built b)) f h ∙ ap fileWords (file-same d f (built b) k h)
+    ∙ sym (rowOf-file (withFile d f (built (hushed b))) f h ∙ ap fileWords (file-same d f (built (hushed b)) k h))
 
 -- it ends
 pub mid-stays : {I : Built → Type 0} {f : ℕ} {o : Start} {xs blocks buffers : List ℕ} {x : hand.File} {b : Built} → Mid I f o xs blocks buffers x b
-    → Seg xs (set (o .desk) f (built b)) (allotAll f (b .past) (o .alloc)) rowCount → Bodies (o .blocks) (o .buffers) (o .desk) → Bytes xs → Bytes blocks → Bytes buffers
-    → Stands xs blocks buffers (set (o .desk) f (built (hushed b))) (allotAll f (b .past) (o .alloc))
+    → Seg xs (withFile (o .desk) f (built b)) (allotAll f (b .past) (o .alloc)) rowCount → Bodies (o .blocks) (o .buffers) (o .desk) → Bytes xs → Bytes blocks → Bytes buffers
+    → Stands xs blocks buffers (withFile (o .desk) f (built (hushed b))) (allotAll f (b .past) (o .alloc))
 mid-stays {I} {f} {o} {xs} {blocks} {buffers} {x} {b} M S B bytes blocks-bytes buffers-bytes = record {
   segment = boxes-segment d t xs [] (listsOf d₀ t) (boxesOf d₀ t) (S .rows) bytes (S .boxes)
       (λ l h. ap (λ ls. getD ls l []) (lists-alike (o .desk) f _ _ (hushed-alike b) t) ∙ getD-listsOf d t l h)
       (λ l h. ap (λ ms. getD ms l []) (boxes-alike (o .desk) f _ _ (hushed-alike b) t) ∙ getD-boxesOf d t l h)
       (λ i h. S .same i h (λ e. omega arith) ∙ go i h (ℕ-discrete i f));
-  bodies = bodies-file (o .desk) (o .blocks) (o .buffers) blocks buffers f (built (hushed b)) B small blocks-bytes buffers-bytes
+  bodies = bodies-file (o .desk) (o .blocks) (o .buffers) blocks buffers f (built (hushed b)) B (M .eight) (M .file) blocks-bytes buffers-bytes
       (M .blocks-size ∙ sym (B .blocks-size)) (M .buffers-size ∙ sym (B .buffers-size))
       (λ g h n. (M .apart .shares g h n, M .apart .others g h n)) (hushed-bytes b _ _ (M .share) (M .buffer));
 }
   where
     d : Desk
-    d = set (o .desk) f (built (hushed b))
+    d = withFile (o .desk) f (built (hushed b))
 
     d₀ : Desk
-    d₀ = set (o .desk) f (built b)
+    d₀ = withFile (o .desk) f (built b)
 
     t : Alloc
     t = allotAll f (b .past) (o .alloc)
 
-    small : f < length (o .desk)
-    small = omega (arith, M .file, M .eight)
-
     go : (i : ℕ) → i < rowCount → Dec (i ≡ f) → rowOf d₀ i ≡ rowOf d i
-    go i h (yes e) = rw e (row-hushed (o .desk) f b (M .file) small)
+    go i h (yes e) = rw e (row-hushed (o .desk) f b (M .file) (M .eight))
     go i h (no n) = rows-same (o .desk) f (built b) (built (hushed b)) (hushed-acc b) i h n
 
 -- nothing was done
@@ -82,7 +81,7 @@ unfolding hushed
 hushed-past b e = ap (λ (hs : List Hap). record { geo = b .geo; store = b .store; accs = b .accs; rq = b .rq; wq = b .wq; timers = b .timers; past = hs }) (sym e)
 
 pub stands-still : {xs blocks buffers : List ℕ} {d : Desk} {s : Alloc} → StandsFor xs blocks buffers d s → (f : ℕ) (b : Built) → f < files → fileOf d f ≡ built b
-    → Stands xs blocks buffers (set d f (built (hushed b))) (allotAll f (b .past) s)
+    → Stands xs blocks buffers (withFile d f (built (hushed b))) (allotAll f (b .past) s)
 unfolding allotAll OnFile
 stands-still {xs} {blocks} {buffers} {d} {s} S f b h e =
     let calm : Calm (built b) = rw e at (S .agreed .calm f h) in

@@ -20,14 +20,16 @@ use Rattle.rules.specs.Requests.{accAt, withAccs, alterAcc}
 use Rattle.rules.specs.Memories.{lies}
 use Rattle.rules.specs.Open.{firstFree, enter}
 use Rattle.rules.specs.Close.{vacate}
-use Rattle.rules.specs.Desk.{Desk, fileOf}
+use Rattle.rules.specs.Desk.{Desk, fileOf, withFile}
 use Rattle.rules.specs.Allocation.{Alloc, placeOf, allotAll}
 use Rattle.laws.specs.Changes.{Mild}
 use Rattle.laws.specs.Midst as laws
 use Rattle.laws.proofs.Happenings.{open-below, matches-alike}
 use Rattle.laws.proofs.Accessors.{length-alter, getD-alter-same, getD-alter-other, enter-beside, vacate-beside}
+use Rattle.laws.proofs.EightFiles.{file-other, file-same}
 use Rattle.memory.specs.Image.{accOf, placeAcc, fileWords, rowOf, rqOf, wqOf, listsOf, boxesOf}
 use Rattle.laws.specs.Outstanding.{reqOf}
+use Rattle.laws.specs.EightFiles.{EightFiles}
 use Rattle.memory.specs.Image as image
 use Rattle.ring.specs.Ring.{ringOf}
 use Rattle.memory.proofs.Image.{rowOf-file, rowOf-place, rowOf-acc, each-row}
@@ -35,7 +37,7 @@ use Rattle.midst.specs.declared.File as hand
 use Rattle.midst.specs.File.{inHand}
 use Rattle.midst.specs.Seg.{Seg}
 use Rattle.midst.specs.Mid.{Start, Mid}
-use Rattle.midst.proofs.Alike.{Alike, file-set, file-other, lists-alike, boxes-alike}
+use Rattle.midst.proofs.Alike.{Alike, lists-alike, boxes-alike}
 use Rattle.midst.proofs.Fills.{buffers-alike}
 
 -- c is b with another accessor at p, whose request is the same
@@ -88,18 +90,18 @@ seg-row xs d d′ t t′ k i r S e el em h n er es =
     go j g u (no v) = getD-set-other (S .rows) (placeRow i) j r [] v ∙ S .same j g u ∙ es j g u v
 
 -- all rows but those of file f and of its place p
-rows-beside : (d : Desk) (f p : ℕ) (b c : Built) → f < length d → ((y : ℕ) → (y ≡ p → ⊥) → accAt c y ≡ accAt b y)
-    → (i : ℕ) → i < rowCount → (i ≡ fileRow f → ⊥) → (i ≡ placeRow (placeOf f p) → ⊥) → rowOf (set d f (built b)) i ≡ rowOf (set d f (built c)) i
-rows-beside d f p b c h e =
-    each-row (λ i. (i ≡ fileRow f → ⊥) → (i ≡ placeRow (placeOf f p) → ⊥) → rowOf (set d f (built b)) i ≡ rowOf (set d f (built c)) i)
-    (λ g k n _. rowOf-file (set d f (built b)) g k ∙ ap fileWords (file-other d f g _ n ∙ sym (file-other d f g _ n)) ∙ sym (rowOf-file (set d f (built c)) g k))
-    (λ i k n m. rowOf-place (set d f (built b)) i ∙ ap image.placeWords (accs i m) ∙ sym (rowOf-place (set d f (built c)) i))
+rows-beside : (d : Desk) (f p : ℕ) (b c : Built) → EightFiles d → f < files → ((y : ℕ) → (y ≡ p → ⊥) → accAt c y ≡ accAt b y)
+    → (i : ℕ) → i < rowCount → (i ≡ fileRow f → ⊥) → (i ≡ placeRow (placeOf f p) → ⊥) → rowOf (withFile d f (built b)) i ≡ rowOf (withFile d f (built c)) i
+rows-beside d f p b c n h e =
+    each-row (λ i. (i ≡ fileRow f → ⊥) → (i ≡ placeRow (placeOf f p) → ⊥) → rowOf (withFile d f (built b)) i ≡ rowOf (withFile d f (built c)) i)
+    (λ g k n _. rowOf-file (withFile d f (built b)) g k ∙ ap fileWords (file-other d f g _ n ∙ sym (file-other d f g _ n)) ∙ sym (rowOf-file (withFile d f (built c)) g k))
+    (λ i k n m. rowOf-place (withFile d f (built b)) i ∙ ap image.placeWords (accs i m) ∙ sym (rowOf-place (withFile d f (built c)) i))
   where
-    accs : (i : ℕ) → (placeRow i ≡ placeRow (placeOf f p) → ⊥) → placeAcc (set d f (built b)) i ≡ placeAcc (set d f (built c)) i
+    accs : (i : ℕ) → (placeRow i ≡ placeRow (placeOf f p) → ⊥) → placeAcc (withFile d f (built b)) i ≡ placeAcc (withFile d f (built c)) i
     accs i m = unfold placeAcc in go (ℕ-discrete (i / places) f)
       where
-        go : Dec (i / places ≡ f) → accOf (fileOf (set d f (built b)) (i / places)) (i % places) ≡ accOf (fileOf (set d f (built c)) (i / places)) (i % places)
-        go (yes u) = rw (u, file-set d f (built b) h, file-set d f (built c) h) (unfold accOf in sym (e (i % places) (λ v. m (unfold placeOf in omega arith))))
+        go : Dec (i / places ≡ f) → accOf (fileOf (withFile d f (built b)) (i / places)) (i % places) ≡ accOf (fileOf (withFile d f (built c)) (i / places)) (i % places)
+        go (yes u) = rw (u, file-same d f (built b) n h, file-same d f (built c) n h) (unfold accOf in sym (e (i % places) (λ v. m (unfold placeOf in omega arith))))
         go (no u) = rw (file-other d f (i / places) (built b) u, file-other d f (i / places) (built c) u)
 
 pub place-below : (f p : ℕ) → f < files → p < places → placeRow (placeOf f p) < rowCount
@@ -115,12 +117,12 @@ module _ {I J : Built → Type 0} {f : ℕ} {o : Start} {xs blocks buffers : Lis
     eight = M .eight;
     good = good;
     allots = beside-mid B f (o .alloc) (M .allots);
-    segment = seg-row xs (set (o .desk) f (built b)) (set (o .desk) f (built c)) (allotAll f (b .past) (o .alloc)) _ (fileRow f) (placeOf f p) (placeWords r) (M .segment)
+    segment = seg-row xs (withFile (o .desk) f (built b)) (withFile (o .desk) f (built c)) (allotAll f (b .past) (o .alloc)) _ (fileRow f) (placeOf f p) (placeWords r) (M .segment)
         (ap (λ hs. allotAll f hs (o .alloc)) (B .past))
         (lists-alike (o .desk) f _ _ (beside-alike B) _) (boxes-alike (o .desk) f _ _ (beside-alike B) _)
         (place-below f p (M .file) hp) (length-placeWords r)
-        (e ∙ sym (rowOf-acc (set (o .desk) f (built c)) f p hp ∙ ap (λ z. image.placeWords (accOf z p)) (file-set (o .desk) f (built c) small)))
-        (rows-beside (o .desk) f p b c small (B .others));
+        (e ∙ sym (rowOf-acc (withFile (o .desk) f (built c)) f p hp ∙ ap (λ z. image.placeWords (accOf z p)) (file-same (o .desk) f (built c) (M .eight) (M .file))))
+        (rows-beside (o .desk) f p b c (M .eight) (M .file) (B .others));
     row = M .row ∙ beside-hand B;
     share = M .share ∙ ap (λ s. s .share) (sym (B .store));
     buffer = M .buffer ∙ sym (buffers-alike (b .accs) (c .accs) (B .many) (λ y. ap lies (beside-reqs B y)));
@@ -128,9 +130,6 @@ module _ {I J : Built → Type 0} {f : ℕ} {o : Start} {xs blocks buffers : Lis
     buffers-size = M .buffers-size;
     apart = M .apart;
   }
-    where
-      small : f < length (o .desk)
-      small = omega (arith, M .file, M .eight)
 
   -- the accessor at p, changed beside its request
   pub mid-mild : (p : ℕ) (g : Acc → Acc) (a : Acc) (r : PlaceRow) → Mild g → accAt b p ≡ some a → J (alterAcc p g b) → placeWords r ≡ image.placeWords (some (g a))

@@ -7,12 +7,11 @@ use mathlib.Core.List.{List, [], map}
 use mathlib.Core.Option.{Option}
 use native.Mathlib.Omega.{arith}
 use native.Mathlib.Decide.{ℕ-discrete}
-use lib.ListN.{length, set}
 use Rattle.occurrences.specs.Count.{count}
 use Rattle.rules.specs.Limits.{files, places}
 use Rattle.rules.specs.State.{Req, idle, reading, writing, readDone, writeDone, Acc, Built, File, unbuilt, built}
 use Rattle.rules.specs.Requests.{accAt}
-use Rattle.rules.specs.Desk.{Desk, fileOf}
+use Rattle.rules.specs.Desk.{Desk, fileOf, withFile}
 use Rattle.rules.specs.Allocation.{Alloc, placeOf, heldAt, ownEntry, queueOf, portOf, timerList}
 use Rattle.segment.specs.Layout.{readQueues, replyPorts, listCount, rowCount, freeList, replyPort, fileRow}
 use Rattle.segment.specs.Layout as layout
@@ -21,10 +20,12 @@ use Rattle.ports.proofs.Lists.{once-two}
 use Rattle.ports.proofs.Maps.{map-in}
 use Rattle.memory.specs.Image.{accOf, placeAcc, timerWords, fileWords, placeWords, rowOf, rqOf, wqOf, listOf, queueWords, portWords, boxOf, listsOf, boxesOf}
 use Rattle.laws.specs.Outstanding.{reqOf}
+use Rattle.laws.specs.EightFiles.{EightFiles}
+use Rattle.laws.proofs.EightFiles.{file-other, file-same}
 use Rattle.memory.proofs.Image.{placeAcc-of, rowOf-file, rowOf-place, each-row, listOf-free, listOf-read, listOf-write, listOf-port, listOf-timers, boxOf-free, boxOf-read, boxOf-write, boxOf-port, boxOf-timers, each-list}
 use Rattle.memory.proofs.Boxes.{getD-listsOf}
 use Rattle.midst.specs.Seg.{Seg, queueAt, sideQueue}
-use Rattle.midst.proofs.Lists.{file-same, file-other, boxes-are, entriesIn, wordsIn, below-side, list-side, box-side, place-under}
+use Rattle.midst.proofs.Lists.{boxes-are, entriesIn, wordsIn, below-side, list-side, box-side, place-under}
 use Rattle.midst.proofs.Cuts.{count-made}
 use Rattle.midst.proofs.Boxed.{Boxed}
 use Rattle.midst.proofs.Goes.{blank}
@@ -56,7 +57,7 @@ queue-files false false f g h k n e = n (omega arith)
 pub record Shift (f p : ℕ) (d : Desk) (t u : Alloc) (b c : Built) : Type 0 where
   pub file : f < files
   pub place : p < places
-  pub eight : length d ≡ files
+  pub eight : EightFiles d
   pub was : fileOf d f ≡ built b
   pub accs : (x : ℕ) → (p ≡ x → ⊥) → accAt c x ≡ accAt b x
   pub held : (j : ℕ) → (j ≡ placeOf f p → ⊥) → heldAt u j ≡ heldAt t j
@@ -101,7 +102,7 @@ pub record Off (f i l : ℕ) : Type 0 where
 
 module _ {f p : ℕ} {d : Desk} {t u : Alloc} {b c : Built} (C : Shift f p d t u b c) where
   abbrev next : Desk
-  next = set d f (built c)
+  next = withFile d f (built c)
 
   abbrev i : ℕ
   i = placeOf f p

@@ -1,16 +1,15 @@
 -- The memories behind an accepted call of a file, behind a passage of time, and behind a refused call are those of the rules' desk.
-use Prim.Native.Nat.{ℕ, zero, suc, _<_}
+use Prim.Native.Nat.{ℕ, _<_}
 use mathlib.Core.Path.{_≡_, refl, sym, ap, _∙_}
 use mathlib.Core.Bool.{Bool, true, false, true≢false}
-use mathlib.Core.List.{List, [], _∷_, map}
+use mathlib.Core.List.{List}
 use native.Mathlib.Decide.{ℕ-discrete}
-use lib.ListN.{set}
 use borrow.Author.Tests.{lt-ltb}
 use Rattle.rules.specs.Limits.{files}
 use Rattle.rules.specs.State.{Built, File, unbuilt, built}
 use Rattle.rules.specs.Reply.{answers, Out, hushed, leaves}
 use Rattle.rules.specs.Calls.{Ask, askBuilt, ask}
-use Rattle.rules.specs.Desk.{Desk, Call, on, time, asked, fileOf, Responded, answered, respond}
+use Rattle.rules.specs.Desk.{Desk, Call, on, time, asked, fileOf, withFile, deskTime, Responded, answered, respond}
 use Rattle.rules.specs.Time.{fileTime}
 use Rattle.rules.specs.Allocation.{Alloc, allotAll, allocTime, allocAsked}
 use Rattle.laws.specs.Runs.{Proper}
@@ -20,10 +19,10 @@ use Rattle.laws.proofs.Lift.{Any, any}
 use Rattle.laws.proofs.Calls.{walked}
 use Rattle.laws.proofs.Allocated.{happens-here}
 use Rattle.laws.proofs.Allocated as laws
+use Rattle.laws.proofs.EightFiles.{file-same, file-time}
 use Rattle.memory.specs.Stands.{Stands, shareAt, buffersAt}
 use Rattle.memory.specs.Fine.{StandsFor}
 use Rattle.midst.specs.Outcome.{Outcome, Stays}
-use Rattle.midst.proofs.Alike.{file-set}
 use Rattle.midst.proofs.StaysFine.{answered-fine}
 
 -- what is built stays built
@@ -61,7 +60,7 @@ is-built (built b) = true
 -- a call of file f
 
 module _ (d : Desk) (s : Alloc) (c : Call) (f : ℕ) (q : Ask) (is : asked c ≡ on f q) (hf : f < files) where
-  pub respond-is : respond d c ≡ record { reply = ask (fileOf d f) q .reply; desk = set d f (ask (fileOf d f) q .file) }
+  pub respond-is : respond d c ≡ record { reply = ask (fileOf d f) q .reply; desk = withFile d f (ask (fileOf d f) q .file) }
   unfolding respond answered
   respond-is = rw (is, lt-ltb f files hf, answered) refl
 
@@ -75,12 +74,6 @@ stays-unbuilt : (e : ℕ) (x : File) → fileTime e x ≡ unbuilt → x ≡ unbu
 unfolding fileTime
 stays-unbuilt e unbuilt h = refl
 stays-unbuilt e (built b) h = absurd (true≢false (unfold is-built in ap is-built h))
-
-file-time : (e : ℕ) (d : Desk) (g : ℕ) → fileOf (map (fileTime e) d) g ≡ fileTime e (fileOf d g)
-unfolding fileOf
-file-time e [] g = unfold fileTime in refl
-file-time e (x ∷ d) zero = refl
-file-time e (x ∷ d) (suc g) = file-time e d g
 
 -- whatever the rules' desk and allocation are
 module _ {xs blocks buffers : List ℕ} {d : Desk} {s : Alloc} (S : StandsFor xs blocks buffers d s) (c : Call) where
@@ -98,23 +91,23 @@ module _ {xs blocks buffers : List ℕ} {d : Desk} {s : Alloc} (S : StandsFor xs
         → Stays d s c blocks buffers xs′ blocks′ buffers′
     unfolding is-built
     outcome-stays {xs′} {blocks′} {buffers′} B O =
-        let e : respond d c .desk ≡ set d f (ask (fileOf d f) q .file) = ap (λ (r : Responded). r .desk) (respond-is d s c f q is hf) in
+        let e : respond d c .desk ≡ withFile d f (ask (fileOf d f) q .file) = ap (λ (r : Responded). r .desk) (respond-is d s c f q is hf) in
         record {
           stands = stands-for xs′ blocks′ buffers′ (rw (e, alloc-is d s c f q is hf) (O .stands));
           rest = λ g h u. apart g h (sym (ap (λ (z : Desk). fileOf z g) e) ∙ u) (ℕ-discrete g f);
         }
       where
-        apart : (g : ℕ) → g < files → fileOf (set d f (ask (fileOf d f) q .file)) g ≡ unbuilt → Dec (g ≡ f)
+        apart : (g : ℕ) → g < files → fileOf (withFile d f (ask (fileOf d f) q .file)) g ≡ unbuilt → Dec (g ≡ f)
             → (shareAt g blocks′ ≡ shareAt g blocks) × (buffersAt g buffers′ ≡ buffersAt g buffers)
-        apart g h u (yes k) = absurd (true≢false (ap is-built (sym (B .is) ∙ sym (file-set d f (ask (fileOf d f) q .file) (rw (S .agreed .eight) hf)) ∙ ap (fileOf (set d f (ask (fileOf d f) q .file))) (sym k) ∙ u)))
+        apart g h u (yes k) = absurd (true≢false (ap is-built (sym (B .is) ∙ sym (file-same d f (ask (fileOf d f) q .file) (S .agreed .eight) hf) ∙ ap (fileOf (withFile d f (ask (fileOf d f) q .file))) (sym k) ∙ u)))
         apart g h u (no k) = (O .apart .shares g h k, O .apart .others g h k)
 
   -- time
-  pub time-stays : (e : ℕ) → asked c ≡ time e → (xs′ buffers′ : List ℕ) → Stands xs′ blocks buffers′ (map (fileTime e) d) (allocTime e s)
+  pub time-stays : (e : ℕ) → asked c ≡ time e → (xs′ buffers′ : List ℕ) → Stands xs′ blocks buffers′ (deskTime e d) (allocTime e s)
       → ((g : ℕ) → g < files → fileOf d g ≡ unbuilt → buffersAt g buffers′ ≡ buffersAt g buffers) → Stays d s c blocks buffers xs′ blocks buffers′
   unfolding is-built
   time-stays e is xs′ buffers′ T h =
-      let desk-is : respond d c .desk ≡ map (fileTime e) d = unfold respond answered in rw (is, answered) refl in
+      let desk-is : respond d c .desk ≡ deskTime e d = unfold respond answered in rw (is, answered) refl in
       let alloc-is : allocAsked d (asked c) s ≡ allocTime e s = unfold allocAsked in rw (is, allocAsked) refl in
       record {
         stands = stands-for xs′ blocks buffers′ (rw (desk-is, alloc-is) T);

@@ -1,7 +1,6 @@
 -- A call leaves every file fine.
 use Prim.Native.Nat.{ℕ, _<_}
 use mathlib.Core.Path.{_≡_, _∙_}
-use lib.ListN.{length}
 use native.Mathlib.Decide.{ℕ-discrete}
 use borrow.Author.Tests.{lt-ltb, ne-eqb}
 use Rattle.rules.specs.Limits.{files}
@@ -12,6 +11,7 @@ use Rattle.rules.specs.Calls.{Ask, ask}
 use Rattle.rules.specs.Desk.{Desk, Asked, on, time, bad, fileOf, answered}
 use Rattle.laws.specs.Runs.{OnFile, Proper}
 use Rattle.laws.specs.Changes.{Starts}
+use Rattle.laws.specs.EightFiles.{EightFiles}
 use Rattle.laws.proofs.Files.{on-file}
 use Rattle.laws.proofs.Lift.{Any, any, any-start, asks, lasts}
 use Rattle.laws.proofs.Proper.{ProperAsked}
@@ -47,7 +47,7 @@ lasts-fine e x h =
     (lasts Fine Any Owed fine-walks fine-lapse (any Fine) fine-starts any-start both e x (more x h))
 
 -- of every file
-pub answered-fine : (d : Desk) (a : Asked) → length d ≡ files → ProperAsked a → ((f : ℕ) → f < files → OnFile Fine (fileOf d f))
+pub answered-fine : (d : Desk) (a : Asked) → EightFiles d → ProperAsked a → ((f : ℕ) → f < files → OnFile Fine (fileOf d f))
     → (f : ℕ) → f < files → OnFile Fine (fileOf (answered d a .desk) f)
 unfolding ProperAsked
 answered-fine d (on g q) n k h f l = go (ℕ-discrete g f)

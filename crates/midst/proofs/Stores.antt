@@ -4,14 +4,14 @@ use mathlib.Core.Path.{_≡_, refl, sym, ap, _∙_, subst}
 use mathlib.Core.Bool.{Bool}
 use mathlib.Core.List.{List, [], _∷_, _++_, map}
 use native.Mathlib.Omega.{arith}
-use lib.ListN.{length, set}
+use lib.ListN.{length}
 use lib.Seq.{sets, length-sets}
 use Rattle.rules.specs.Limits.{shareBytes}
 use Rattle.rules.specs.State.{Rec, Store, Hap, puts, gone, Built, built}
 use Rattle.rules.specs.Store.{put, fetch}
 use Rattle.rules.specs.Requests.{withStore, say, putRec, behind, accAt}
 use Rattle.rules.specs.Memories.{fileBuffers}
-use Rattle.rules.specs.Desk.{Desk}
+use Rattle.rules.specs.Desk.{Desk, withFile}
 use Rattle.segment.specs.Layout.{fileRow}
 use Rattle.rules.specs.Allocation.{Alloc, allot, allotAll}
 use Rattle.shares.specs.Holds.{Holds}
@@ -50,7 +50,7 @@ alike : (b c : Built) → Storing b c → Alike (built b) (built c)
 unfolding accOf accAt rqOf wqOf
 alike b c S = record { reads = sym (S .reads); writes = sym (S .writes); reqs = λ p. rw (S .accs) }
 
-seg-storing : (xs : List ℕ) (d : Desk) (f : ℕ) (b c : Built) (t u : Alloc) → Storing b c → u ≡ t → Seg xs (set d f (built b)) t (fileRow f) → Seg xs (set d f (built c)) u (fileRow f)
+seg-storing : (xs : List ℕ) (d : Desk) (f : ℕ) (b c : Built) (t u : Alloc) → Storing b c → u ≡ t → Seg xs (withFile d f (built b)) t (fileRow f) → Seg xs (withFile d f (built c)) u (fileRow f)
 unfolding accOf accAt
 seg-storing xs d f b c t u S e G =
     rw e record {

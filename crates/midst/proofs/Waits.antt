@@ -6,8 +6,7 @@ use mathlib.Core.List.{List, [], _∷_, _++_}
 use mathlib.Core.Option.{some}
 use native.Mathlib.Omega.{arith}
 use lib.Dec.{eqb}
-use lib.ListN.{length, set, length-set, length-drop}
-use lib.Seq.{set-set}
+use lib.ListN.{length, length-drop}
 use Rattle.occurrences.specs.Count.{count}
 use Rattle.segment.specs.Layout.{freeList, fileRow}
 use Rattle.segment.specs.Table.{nth}
@@ -15,7 +14,7 @@ use Rattle.requests.specs.Moves.{armed, queued, waiting}
 use Rattle.rules.specs.Limits.{files, places, entries}
 use Rattle.rules.specs.State.{Req, idle, Acc, Hap, waits, arms, Built, built}
 use Rattle.rules.specs.Requests.{accAt, withReq, withAccs, withQueues, withTimers, alterAcc, say, armIn, requeue, arm, wait}
-use Rattle.rules.specs.Desk.{Desk, fileOf}
+use Rattle.rules.specs.Desk.{Desk, fileOf, withFile}
 use Rattle.rules.specs.Allocation.{nothing, own, timed, Alloc, placeOf, heldAt, front, holds, takeOwn, allot, allotAll}
 use Rattle.rules.proofs.Split.{by-cases, pick-true, pick-false}
 use Rattle.laws.specs.Counts.{countT}
@@ -23,14 +22,16 @@ use Rattle.laws.specs.Outstanding.{waitsRead, waitsWrite, uncollected, reqOf}
 use Rattle.laws.specs.Outstanding as laws
 use Rattle.laws.specs.Queues.{Agree}
 use Rattle.laws.specs.Midst.{Steps, Mid}
+use Rattle.laws.specs.EightFiles.{EightFiles}
 use Rattle.laws.proofs.Accessors.{getD-alter-same, getD-alter-other}
 use Rattle.laws.proofs.Sieve.{countT-sieve}
 use Rattle.laws.proofs.Outstanding.{outstanding-idle}
 use Rattle.laws.proofs.Allots.{steps-takeOwn, heldAt-takeOwn, steps-takeTimer, heldAt-takeTimer, heldAt-withClock}
 use Rattle.laws.proofs.Happenings.{open-below, idle-holds}
+use Rattle.laws.proofs.EightFiles.{eight-put, file-other, file-same, put-twice}
 use Rattle.memory.specs.Image.{reqWords, placeWords}
 use Rattle.midst.specs.Seg.{Seg, queueAt, sideQueue}
-use Rattle.midst.proofs.Lists.{Low, file-same, file-other, place-under}
+use Rattle.midst.proofs.Lists.{Low, place-under}
 use Rattle.midst.proofs.OnePlace.{Change}
 use Rattle.midst.proofs.Joins.{armsAt, seg-free, seg-queue, seg-arm}
 
@@ -76,7 +77,7 @@ unfolding waitsRead waitsWrite
 out-of true p b A e = A p .writes ∙ ap waitsWrite e
 out-of false p b A e = A p .reads ∙ ap waitsRead e
 
-module _ (f : ℕ) (hf : f < files) (s : Alloc) (d : Desk) (eight : length d ≡ files) (low : (g : ℕ) → g < files → (g ≡ f → ⊥) → Low (fileOf d g)) (b : Built)
+module _ (f : ℕ) (hf : f < files) (s : Alloc) (d : Desk) (eight : EightFiles d) (low : (g : ℕ) → g < files → (g ≡ f → ⊥) → Low (fileOf d g)) (b : Built)
     (M : Mid f s b) (A : Agree b) (p n : ℕ) (a : Acc) (e : accAt b p ≡ some a) (still : a .req ≡ idle) (w : Bool) (q : Req) (z : uncollected q ≡ 0) where
   abbrev i : ℕ
   i = placeOf f p
@@ -138,27 +139,27 @@ module _ (f : ℕ) (hf : f < files) (s : Alloc) (d : Desk) (eight : length d ≡
   acc-row = ap placeWords acc-now ∙ sym (ap placeWords e)
 
   -- the desk with the file y
-  low-with : (y : Built) (g : ℕ) → g < files → (g ≡ f → ⊥) → Low (fileOf (set d f (built y)) g)
+  low-with : (y : Built) (g : ℕ) → g < files → (g ≡ f → ⊥) → Low (fileOf (withFile d f (built y)) g)
   low-with y g h k = subst Low (sym (file-other d f g (built y) k)) (low g h k)
 
-  queue-change : Change f p (set d f (built b)) t₀ t₁ b b₁
+  queue-change : Change f p (withFile d f (built b)) t₀ t₁ b b₁
   unfolding accAt begins say requeue alterAcc withAccs withQueues
   queue-change = record {
     file = hf;
     place = hp;
-    eight = length-set d f (built b) ∙ eight;
+    eight = eight-put d f (built b) eight;
     was = file-same d f (built b) eight hf;
     accs = getD-alter-other (withReq q) (b .accs) p;
     held = own-step .others;
     low = low-with b;
   }
 
-  arm-change : Change f p (set d f (built b₁)) t₁ t₂ b₁ b₂
+  arm-change : Change f p (withFile d f (built b₁)) t₁ t₂ b₁ b₂
   unfolding accAt arms-too say withTimers
   arm-change = record {
     file = hf;
     place = hp;
-    eight = length-set d f (built b₁) ∙ eight;
+    eight = eight-put d f (built b₁) eight;
     was = file-same d f (built b₁) eight hf;
     accs = λ x k. refl;
     held = λ x k. heldAt-withClock _ _ x ∙ steps-takeTimer i t₁ (own-step .whole) hi (front t₀) owned room .others x k;
@@ -192,26 +193,26 @@ module _ (f : ℕ) (hf : f < files) (s : Alloc) (d : Desk) (eight : length d ≡
   unfolding arms-too say withTimers allot
   allot-armed = allot-snoc f (b₁ .past) (arms p n) s ∙ ap (armsAt i n) allot-queued
 
-  module _ {xs : List ℕ} (S : Seg xs (set d f (built b)) t₀ (fileRow f)) where
-    has-queued : Seg (queued xs l m) (set d f (built b₁)) t₁ (fileRow f)
+  module _ {xs : List ℕ} (S : Seg xs (withFile d f (built b)) t₀ (fileRow f)) where
+    has-queued : Seg (queued xs l m) (withFile d f (built b₁)) t₁ (fileRow f)
     unfolding reqOf withReq uncollected
     has-queued =
-        rw set-set at
+        rw put-twice at
         (seg-queue queue-change w q (joins w p q b) (stays w p q b) (ap reqOf acc-now) (ap uncollected (ap reqOf e ∙ still)) z (out-of w p b A req-was) (out-of (not w) p b A req-was)
         (before .2) owned (fileRow f) (omega (arith, before .1)) (λ k. absurd (k refl)) acc-row S)
 
-    has-armed : Seg (armed (queued xs l m) i n) (set d f (built b₂)) t₂ (fileRow f)
+    has-armed : Seg (armed (queued xs l m) i n) (withFile d f (built b₂)) t₂ (fileRow f)
     has-armed =
-        rw set-set at
+        rw put-twice at
         (seg-arm n arm-change armed-queues armed-req armed-clock (front t₀) owned armed-holds (fileRow f) room (λ k. absurd (k refl)) armed-row has-queued)
 
     -- with the file, the allocation and the bytes known
-    known : (c : Built) (u : Alloc) (ys : List ℕ) → wait w p n q b ≡ c → allotAll f (c .past) s ≡ u → waiting xs l m i n ≡ ys → Seg ys (set d f (built c)) u (fileRow f)
-        → Seg (waiting xs l m i n) (set d f (built (wait w p n q b))) (allotAll f (wait w p n q b .past) s) (fileRow f)
+    known : (c : Built) (u : Alloc) (ys : List ℕ) → wait w p n q b ≡ c → allotAll f (c .past) s ≡ u → waiting xs l m i n ≡ ys → Seg ys (withFile d f (built c)) u (fileRow f)
+        → Seg (waiting xs l m i n) (withFile d f (built (wait w p n q b))) (allotAll f (wait w p n q b .past) s) (fileRow f)
     known c u ys x y v T = rw (x, y, v) T
 
     pub seg-wait : (nth xs freeList < entries) × (nth (queued xs l m) freeList < entries)
-        × Seg (waiting xs l m i n) (set d f (built (wait w p n q b))) (allotAll f (wait w p n q b .past) s) (fileRow f)
+        × Seg (waiting xs l m i n) (withFile d f (built (wait w p n q b))) (allotAll f (wait w p n q b .past) s) (fileRow f)
     unfolding waiting
     seg-wait = (
       seg-free S (omega (arith, before .1)),

@@ -4,14 +4,14 @@ use mathlib.Core.Path.{_≡_}
 use mathlib.Core.Bool.{cond}
 use mathlib.Core.List.{List, []}
 use lib.Dec.{ltb}
-use lib.ListN.{length, set}
+use lib.ListN.{length}
 use lib.Seq.{sets}
 use Rattle.kinds.specs.declared.Answer.{Answer}
 use Rattle.kinds.specs.declared.Answer.the-variants.{Built, Opened, Read, Written, Controlled, Collected, Closed, Passed, Counted, Status}
 use Rattle.rules.specs.Reply.{Reply, answers, shows, Out}
 use Rattle.rules.specs.Calls.{Ask}
 use Rattle.rules.specs.Limits.{bufferBytes, answerHead}
-use Rattle.rules.specs.Desk.{Desk, Call, asked, replyBytes, on, answered, respond}
+use Rattle.rules.specs.Desk.{Desk, Call, asked, replyBytes, on, answered, respond, withFile}
 use Rattle.rules.specs.Allocation.{Alloc, allotAll, allocAsked}
 use Rattle.laws.specs.Bounds.{leastRefusal}
 use Rattle.memory.specs.Stands.{Stands}
@@ -51,7 +51,7 @@ pub record Told (r : Reply) (memory memory′ : List ℕ) (n : ℕ) : Type 0 whe
 
 -- the memories, of which the two were `blocks` and `buffers` before a call of file f, stand for the desk and the allocation behind x
 pub record Outcome (f : ℕ) (d : Desk) (s : Alloc) (x : Out) (blocks buffers xs′ blocks′ buffers′ : List ℕ) : Type 0 where
-  pub stands : Stands xs′ blocks′ buffers′ (set d f (x .file)) (allotAll f (x .haps) s)
+  pub stands : Stands xs′ blocks′ buffers′ (withFile d f (x .file)) (allotAll f (x .haps) s)
   pub apart : Apart f blocks buffers blocks′ buffers′
 
 -- a call of file f that comes to x and is answered a, with no data behind it

@@ -5,7 +5,7 @@ use mathlib.Core.Bool.{Bool, true, false}
 use mathlib.Core.List.{List, []}
 use mathlib.Core.Option.{Option, none, some}
 use lib.Dec.{ltb, leb, eqb}
-use lib.ListN.{length, set}
+use lib.ListN.{length}
 use borrow.Author.Tests.{ltb-true}
 use Rattle.rules.specs.Limits.{files}
 use Rattle.rules.specs.State.{Req, idle, reading, writing, readDone, writeDone, Built, File, unbuilt, built}
@@ -17,14 +17,14 @@ use Rattle.rules.specs.Sheet.{sheet}
 use Rattle.rules.specs.Sheet as sheets
 use Rattle.rules.specs.Calls.{Ask, askBuilt, askUnbuilt, ask, onAcc}
 use Rattle.rules.specs.Calls as calls
-use Rattle.rules.specs.Desk.{Desk, Call, asked, on, answered, respond, fileOf}
+use Rattle.rules.specs.Desk.{Desk, Call, asked, on, answered, respond, fileOf, withFile}
 use Rattle.rules.specs.Desk as rules
 use Rattle.rules.specs.Allocation.{Alloc, allotAll, allocAsked}
 use Rattle.rules.proofs.Split.{both, opt}
 use Rattle.laws.specs.Runs.{OnFile}
 use Rattle.laws.specs.Entries.{Calm, Agreed}
 use Rattle.laws.proofs.Allocated.{happens-here}
-use Rattle.midst.proofs.Begins.{file-here}
+use Rattle.laws.proofs.EightFiles.{file-here}
 use Rattle.midst.proofs.StandsBehind.{still-stays}
 use Rattle.promises.specs.Promise.{Memories, Standing, Seen, stands, Behind, lent}
 use Rattle.midst.proofs.RowUntouched.{hushed-past}
@@ -76,7 +76,7 @@ module _ (d : Desk) (s : Alloc) (A : Agreed d s) (f : ℕ) (q : Ask) (I : Idle q
   desk-still = go (ltb f files) refl
     where
       go : (t : Bool) → ltb f files ≡ t → answered d (on f q) .desk ≡ d
-      go true e = unfold answered in rw (e, answered) (ap (λ (x : File). set d f x) (I (fileOf d f) (A .calm f (ltb-true f files e)) .0) ∙ file-here d f (fileOf d f) refl)
+      go true e = unfold answered in rw (e, answered) (ap (λ (x : File). withFile d f x) (I (fileOf d f) (A .calm f (ltb-true f files e)) .0) ∙ file-here d f (fileOf d f) refl)
       go false e = unfold answered in rw (e, answered) refl
 
   pub alloc-still : allocAsked d (on f q) s ≡ s

@@ -3,7 +3,6 @@ use Prim.Native.Nat.{ℕ, _<_}
 use mathlib.Core.Path.{_≡_, refl, sym, ap, _∙_}
 use mathlib.Core.Bool.{true≢false}
 use lib.Dec.{eqb}
-use lib.ListN.{length}
 use borrow.Author.Tests.{lt-ltb, eqb-true}
 use Rattle.rules.specs.Limits.{files}
 use Rattle.rules.specs.State.{Built, File, unbuilt, built}
@@ -12,6 +11,7 @@ use Rattle.rules.specs.Desk.{Desk, Call, Asked, on, time, bad, asked, answered,
 use Rattle.rules.specs.Time.{fileTime}
 use Rattle.rules.proofs.Split.{by-cases, pick-true}
 use Rattle.laws.specs.Runs.{call, Proper}
+use Rattle.laws.specs.EightFiles.{EightFiles}
 use Rattle.laws.proofs.Proper.{ProperAsked, asked-proper}
 use Rattle.laws.proofs.Isolation.{ownFile, answered-named, answered-other, answered-time}
 use Rattle.midst.proofs.StandsBehind.{stays-built, is-built}
@@ -29,7 +29,7 @@ unfolding fileTime
 time-unbuilt e unbuilt h = refl
 time-unbuilt e (built b) h = absurd (not-both (fileTime e (built b)) _ refl h)
 
-was-unbuilt : (d : Desk) (a : Asked) → ProperAsked a → (f : ℕ) → f < files → length d ≡ files → fileOf (answered d a .desk) f ≡ unbuilt → fileOf d f ≡ unbuilt
+was-unbuilt : (d : Desk) (a : Asked) → ProperAsked a → (f : ℕ) → f < files → EightFiles d → fileOf (answered d a .desk) f ≡ unbuilt → fileOf d f ≡ unbuilt
 unfolding ProperAsked
 was-unbuilt d (on g q) k f h n u =
     by-cases (eqb g f)
@@ -42,6 +42,6 @@ was-unbuilt d (on g q) k f h n u =
 was-unbuilt d (time e) k f h n u = time-unbuilt e (fileOf d f) (sym (answered-time d f e) ∙ u)
 was-unbuilt d bad k f h n u = unfold answered in u
 
-pub unbuilt-before : (d : Desk) (c : Call) (f : ℕ) → f < files → length d ≡ files → fileOf (respond d c .desk) f ≡ unbuilt → fileOf d f ≡ unbuilt
+pub unbuilt-before : (d : Desk) (c : Call) (f : ℕ) → f < files → EightFiles d → fileOf (respond d c .desk) f ≡ unbuilt → fileOf d f ≡ unbuilt
 unfolding respond
 unbuilt-before d c f h n u = was-unbuilt d (asked c) (asked-proper c) f h n u

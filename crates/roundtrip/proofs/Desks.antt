@@ -3,16 +3,16 @@ use Prim.Native.Nat.{ℕ, _<_, _≤_}
 use mathlib.Core.Path.{_≡_, ap, _∙_}
 use mathlib.Core.List.{List, []}
 use lib.Dec.{ltb}
-use lib.ListN.{length, set}
-use lib.Seq.{getD-set-same}
 use borrow.Author.Tests.{lt-ltb}
 use Rattle.rules.specs.Limits.{files}
 use Rattle.rules.specs.State.{File, Built, unbuilt, built}
 use Rattle.rules.specs.Reply.{Reply, shows}
 use Rattle.rules.specs.Calls.{Ask, ask}
 use Rattle.rules.specs.Calls as calls
-use Rattle.rules.specs.Desk.{Desk, on, fileOf, Responded, answered, asked, respond}
+use Rattle.rules.specs.Desk.{Desk, on, fileOf, withFile, Responded, answered, asked, respond}
 use Rattle.rules.specs.Allocation.{Alloc}
+use Rattle.laws.specs.EightFiles.{EightFiles}
+use Rattle.laws.proofs.EightFiles.{file-same}
 use Rattle.rules.proofs.Split.{pick-true}
 use Rattle.memory.specs.Fine.{StandsFor}
 use Rattle.roundtrip.specs.Trip.{Trip, DeskTrip, sheetRoom}
@@ -20,18 +20,17 @@ use Rattle.roundtrip.proofs.Stands.{stands-trip}
 
 -- what is asked of a file that is there
 module _ (d : Desk) (f : ℕ) (l : f < files) (x : File) (e : fileOf d f ≡ x) where
-  on-file : (q : Ask) → answered d (on f q) ≡ record { reply = ask x q .reply; desk = set d f (ask x q .file) }
+  on-file : (q : Ask) → answered d (on f q) ≡ record { reply = ask x q .reply; desk = withFile d f (ask x q .file) }
   unfolding answered
-  on-file q = pick-true (ltb f files) _ _ (lt-ltb f files l) ∙ ap (λ (y : File). record { reply = ask y q .reply; desk = set d f (ask y q .file) }) e
+  on-file q = pick-true (ltb f files) _ _ (lt-ltb f files l) ∙ ap (λ (y : File). record { reply = ask y q .reply; desk = withFile d f (ask y q .file) }) e
 
   pub on-reply : (q : Ask) (r : Reply) → ask x q .reply ≡ r → answered d (on f q) .reply ≡ r
   on-reply q r h = ap (λ (a : Responded). a .reply) (on-file q) ∙ h
 
-  on-left : (q : Ask) (y : File) → length d ≡ files → ask x q .file ≡ y → fileOf (answered d (on f q) .desk) f ≡ y
-  unfolding fileOf
-  on-left q y n h = ap (λ (a : Responded). fileOf (a .desk) f) (on-file q) ∙ (getD-set-same d f (ask x q .file) unbuilt (rw n l) ∙ h)
+  on-left : (q : Ask) (y : File) → EightFiles d → ask x q .file ≡ y → fileOf (answered d (on f q) .desk) f ≡ y
+  on-left q y n h = ap (λ (a : Responded). fileOf (a .desk) f) (on-file q) ∙ (file-same d f (ask x q .file) n l ∙ h)
 
-pub desks : (d : Desk) (f : ℕ) (b : Built) (c : Desk) (g n : ℕ) → f < files → fileOf d f ≡ built b → length c ≡ files → g < files → fileOf c g ≡ unbuilt → Trip b n → DeskTrip d f b c g n
+pub desks : (d : Desk) (f : ℕ) (b : Built) (c : Desk) (g n : ℕ) → f < files → fileOf d f ≡ built b → EightFiles c → g < files → fileOf c g ≡ unbuilt → Trip b n → DeskTrip d f b c g n
 unfolding respond asked
 desks d f b c g n lf ef m lg eg t =
     let e = on-left c g lg unbuilt eg (calls.load (t .text)) (built (t .back)) m (t .leaves) in
@@ -48,6 +47,6 @@ desks d f b c g n lf ef m lg eg t =
 
 -- from a desk that memories stand for
 pub stands-desks : (xs blocks buffers : List ℕ) (d : Desk) (s : Alloc) (f : ℕ) (b : Built) → StandsFor xs blocks buffers d s → f < files → fileOf d f ≡ built b
-    → (c : Desk) (g n : ℕ) → length c ≡ files → g < files → fileOf c g ≡ unbuilt → sheetRoom ≤ n
+    → (c : Desk) (g n : ℕ) → EightFiles c → g < files → fileOf c g ≡ unbuilt → sheetRoom ≤ n
     → DeskTrip d f b c g n
 stands-desks xs blocks buffers d s f b h lf ef c g n m lg eg r = desks d f b c g n lf ef m lg eg (stands-trip xs blocks buffers d s f b h lf ef n r)

@@ -25,23 +25,24 @@ use Rattle.rules.specs.Sheet as sheet-
 
 unfoldable pub All : ℕ
 unfolding word-.zeros word-.quiet word-.Bytes desk-.frameAsks desk-.asked desk-.freshDesk desk-.fileOf
-    desk-.answered desk-.respond desk-.replies desk-.after desk-.happens desk-.history desk-.replyBytes
-    desk-.inputLines desk-.answerLines desk-.program memories-.shareOf memories-.blocks memories-.lies
-    memories-.buffer memories-.fileBuffers memories-.buffersOf memories-.buffers allocation-.placeOf
-    allocation-.upFrom allocation-.freshAlloc allocation-.heldAt allocation-.front allocation-.holds
-    allocation-.withClock allocation-.takeOwn allocation-.takeTimer allocation-.freeTimer allocation-.freeOwn
-    allocation-.endsAt allocation-.goesAt allocation-.allot allocation-.allotAll allocation-.endAll
-    allocation-.allocTime allocation-.allocAsked allocation-.allocAfter allocation-.ownEntry
-    allocation-.timerEntry allocation-.queueOf allocation-.portOf allocation-.timerList geometry-.dividedUp
-    geometry-.dataBlocks geometry-.capacity geometry-.blockSize geometry-.within geometry-.inRange
-    geometry-.fitsShare store-.used store-.emptyStore store-.pad store-.recordBytes store-.recordWords
-    store-.blockBytes store-.zeroed store-.added store-.tail store-.readied store-.inscribed store-.put
-    store-.putAll store-.advance store-.advanceBy store-.dropped store-.discard store-.purge store-.headOf
-    store-.takeHead store-.fetch requests-.countAcc requests-.isWriter requests-.isReader requests-.anyAcc
-    requests-.writers requests-.readers requests-.opened requests-.accAt requests-.capacityOf requests-.fits
-    requests-.withStore requests-.withAccs requests-.withQueues requests-.withTimers requests-.say
-    requests-.alter requests-.alterAcc requests-.putRec requests-.behind requests-.isIdle requests-.withReq
-    requests-.begun requests-.without requests-.withoutTimer requests-.armIn requests-.requeue requests-.leave
+    desk-.withFile desk-.deskTime desk-.answered desk-.respond desk-.replies desk-.after desk-.happens
+    desk-.history desk-.replyBytes desk-.inputLines desk-.answerLines desk-.program memories-.shareOf
+    memories-.parts memories-.blocks memories-.lies memories-.buffer memories-.fileBuffers memories-.buffersOf
+    memories-.buffers allocation-.placeOf allocation-.upFrom allocation-.freshAlloc allocation-.heldAt
+    allocation-.front allocation-.holds allocation-.withClock allocation-.takeOwn allocation-.takeTimer
+    allocation-.freeTimer allocation-.freeOwn allocation-.endsAt allocation-.goesAt allocation-.allot
+    allocation-.allotAll allocation-.endAll allocation-.allocTime allocation-.allocAsked
+    allocation-.allocAfter allocation-.ownEntry allocation-.timerEntry allocation-.queueOf allocation-.portOf
+    allocation-.timerList geometry-.dividedUp geometry-.dataBlocks geometry-.capacity geometry-.blockSize
+    geometry-.within geometry-.inRange geometry-.fitsShare store-.used store-.emptyStore store-.pad
+    store-.recordBytes store-.recordWords store-.blockBytes store-.zeroed store-.added store-.tail
+    store-.readied store-.inscribed store-.put store-.putAll store-.advance store-.advanceBy store-.dropped
+    store-.discard store-.purge store-.headOf store-.takeHead store-.fetch requests-.countAcc
+    requests-.isWriter requests-.isReader requests-.anyAcc requests-.writers requests-.readers
+    requests-.opened requests-.accAt requests-.capacityOf requests-.fits requests-.withStore
+    requests-.withAccs requests-.withQueues requests-.withTimers requests-.say requests-.alter
+    requests-.alterAcc requests-.putRec requests-.behind requests-.isIdle requests-.withReq requests-.begun
+    requests-.without requests-.withoutTimer requests-.armIn requests-.requeue requests-.leave
     requests-.finish requests-.cancel requests-.failReq requests-.fail requests-.arm requests-.wait
     requests-.freed settle-.handed settle-.readResult settle-.dataRec settle-.still settle-.onward
     settle-.serveReader settle-.serveWriter settle-.atHead settle-.turn settle-.settleFor settle-.settle

@@ -56,15 +56,23 @@ asked (look f p) = on f (calls.look p)
 asked (save f n) = on f (calls.save n)
 asked (load f t) = on f (calls.load t)
 
-abbrev pub Desk : Type 0
-Desk = List File
+-- "Eight files, 0 to 7": seen and changed by `fileOf`, `withFile` and `deskTime` alone, so that what the desk has beside them is one change
+pub record Desk : Type 0 where
+  pub files : List File
 
 -- "One call makes a fresh desk: no file built"
 unfoldable pub freshDesk : Desk
-freshDesk = replicate files unbuilt
+freshDesk = record { files = replicate files unbuilt }
 
 unfoldable pub fileOf : Desk → ℕ → File
-fileOf d f = getD d f unbuilt
+fileOf d f = getD (d .files) f unbuilt
+
+unfoldable pub withFile : Desk → ℕ → File → Desk
+withFile d f x = record { files = set (d .files) f x }
+
+-- time passes in every file
+unfoldable pub deskTime : ℕ → Desk → Desk
+deskTime e d = record { files = map (fileTime e) (d .files) }
 
 pub record Responded : Type 0 where
   pub reply : Reply
@@ -74,10 +82,10 @@ pub record Responded : Type 0 where
 unfoldable pub answered : Desk → Asked → Responded
 answered d (on f q) =
     elim (ltb f files) [
-      | true ↦ let o : Out = ask (fileOf d f) q in record { reply = o .reply; desk = set d f (o .file) }
+      | true ↦ let o : Out = ask (fileOf d f) q in record { reply = o .reply; desk = withFile d f (o .file) }
       | false ↦ record { reply = refusal q 31; desk = d }
     ]
-answered d (time e) = record { reply = answers Passed []; desk = map (fileTime e) d }
+answered d (time e) = record { reply = answers Passed []; desk = deskTime e d }
 answered d bad = record { reply = answers (Status 0 30) []; desk = d }
 
 unfoldable pub respond : Desk → Call → Responded

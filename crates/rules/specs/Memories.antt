@@ -1,21 +1,25 @@
 -- The exact bytes of blocks and record buffers.
 use mathlib.Core.List.{List, [], _∷_, _++_}
 use mathlib.Core.Option.{Option, none, some}
-use Prim.Native.Nat.{ℕ, _-_, _*_}
+use Prim.Native.Nat.{ℕ, zero, suc, _-_, _*_}
 use lib.ListN.{length}
 use Rattle.words.specs.Word.{zeros}
-use Rattle.rules.specs.Limits.{places, shareBytes, bufferBytes}
+use Rattle.rules.specs.Limits.{files, places, shareBytes, bufferBytes}
 use Rattle.rules.specs.State.{Req, idle, reading, writing, readDone, writeDone, Acc, File, unbuilt, built}
-use Rattle.rules.specs.Desk.{Desk}
+use Rattle.rules.specs.Desk.{Desk, fileOf}
 
 -- "blocks (eight shares of 4,096 bytes)": a file's share, from 4,096 × file on
 unfoldable pub shareOf : File → List ℕ
 shareOf unbuilt = zeros shareBytes
 shareOf (built b) = b .store .share
 
+-- g 0, g 1, .., one behind another
+unfoldable pub parts : ℕ → (ℕ → List ℕ) → List ℕ
+parts zero g = []
+parts (suc m) g = g 0 ++ parts m (λ f. g (suc f))
+
 unfoldable pub blocks : Desk → List ℕ
-blocks [] = []
-blocks (x ∷ d) = shareOf x ++ blocks d
+blocks d = parts files (λ f. shareOf (fileOf d f))
 
 -- "A completed read's record, or a waiting write's data, lies at the start of the accessor's buffer, which is otherwise zero."
 unfoldable pub lies : Req → List ℕ
@@ -39,5 +43,4 @@ buffersOf unbuilt = zeros (places * bufferBytes)
 buffersOf (built b) = fileBuffers (b .accs)
 
 unfoldable pub buffers : Desk → List ℕ
-buffers [] = []
-buffers (x ∷ d) = buffersOf x ++ buffers d
+buffers d = parts files (λ f. buffersOf (fileOf d f))

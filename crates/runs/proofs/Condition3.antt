@@ -1,6 +1,6 @@
 -- Condition 3, over all runs: by condition 2 what the host finds is what the rules say, and on the rules a file depends on its own calls and on time alone.
 use Prim.Native.Nat.{ℕ, _<_}
-use mathlib.Core.Path.{_≡_, refl, sym, ap, ap₂, _∙_}
+use mathlib.Core.Path.{_≡_, sym, ap, ap₂, _∙_}
 use mathlib.Core.Bool.{true}
 use mathlib.Core.List.{List, [], _∷_}
 use native.Mathlib.Omega.{arith}
@@ -11,7 +11,8 @@ use Rattle.rules.specs.Allocation.{Alloc}
 use Rattle.rules.specs.Desk.{Desk, Call, bad, asked, respond, fileOf, freshDesk, replies, after}
 use Rattle.rules.specs.Desk as rules
 use Rattle.laws.specs.Runs.{only, theirs, OnFile}
-use Rattle.laws.proofs.Isolation.{isolation, fresh-file}
+use Rattle.laws.proofs.Isolation.{isolation}
+use Rattle.laws.proofs.EightFiles.{eight-fresh, fresh-file}
 use Rattle.promises.specs.Promise.{Memories, HostCall, fresh, event, Given, Standing, stands, replyOf, answered, said, sized, Promise}
 use Rattle.promises.proofs.Events.{lent-right}
 use Rattle.promises.proofs.Room.{event-fits}
@@ -33,8 +34,8 @@ fine-fresh g h = rw (fresh-file g) tt
 
 module _ (f : ℕ) (m n : Memories) (xs : List HostCall) (gs : List Given) (z : sized m ≡ true) (u : unmade xs ≡ true) (R : Run m (fresh ∷ xs) gs n) where
   found-ours : finds f (fresh ∷ xs) gs ≡ foundAll f (ours f xs) (theirs f (stretch xs) (replies freshDesk (stretch xs)))
-  unfolding finds heard meant sortOf namesFile freshDesk
-  found-ours = ap (finds f (fresh ∷ xs)) (condition-2 m n xs gs z R .given) ∙ finds-ours f xs freshDesk refl fine-fresh u
+  unfolding finds heard meant sortOf namesFile
+  found-ours = ap (finds f (fresh ∷ xs)) (condition-2 m n xs gs z R .given) ∙ finds-ours f xs freshDesk eight-fresh fine-fresh u
 
   file-ours : f < files → fileIn f n ≡ imageOf f (fileOf (after freshDesk (stretch xs)) f)
   file-ours h = file-is n _ _ (condition-2 m n xs gs z R .memories) f h ∙ ap (λ (cs : List Call). imageOf f (fileOf (after freshDesk cs) f)) (since-all xs [] u)

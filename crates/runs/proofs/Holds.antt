@@ -16,7 +16,7 @@ holds-same m n d s H K =
     standing-same d s m n (H .stands) (K .stands) (λ f h u. (H .blank f h u .0 ∙ sym (K .blank f h u .0), H .blank f h u .1 ∙ sym (K .blank f h u .1)))
 
 pub holds-bodies : (m : Memories) (d : Desk) (s : Alloc) → Holds m d s → (m .blocks ≡ bytes.blocks d) × (m .buffers ≡ bytes.buffers d)
-holds-bodies m d s H = bodies-are d (m .blocks) (m .buffers) (H .stands .agreed .eight) (H .stands .stands .bodies) (H .blank)
+holds-bodies m d s H = bodies-are d (m .blocks) (m .buffers) (H .stands .stands .bodies) (H .blank)
 
 pub holds-fresh : Holds freshMemories freshDesk freshAlloc
 unfolding freshMemories after allocAfter

@@ -4,12 +4,12 @@ use mathlib.Core.Path.{_≡_, refl, sym, ap, ap₂, _∙_}
 use mathlib.Core.Bool.{Bool, true, false}
 use mathlib.Core.List.{List, [], _∷_}
 use native.Mathlib.Omega.{arith}
-use lib.ListN.{length, getD, set, length-map}
+use lib.ListN.{length, getD, length-map}
 use borrow.Author.Tests.{lt-ltb}
 use Rattle.rules.specs.Limits.{entries}
 use Rattle.rules.specs.State.{Built, built}
 use Rattle.rules.specs.Settle.{Turn, still, turn, settleFor, settle}
-use Rattle.rules.specs.Desk.{Desk}
+use Rattle.rules.specs.Desk.{Desk, withFile}
 use Rattle.rules.specs.Allocation.{Alloc, allotAll}
 use Rattle.rules.proofs.Split.{pick-true, pick-false}
 use Rattle.laws.proofs.Settled.{many, shrunk-turn, idle-turn, settle-more}
@@ -64,7 +64,7 @@ chain-span s p (x ∷ xs) (suc n) c h = rw (c .0, lt-ltb x entries (c .1)) (ap s
 module _ {I : Built → Type 0} {f : ℕ} {o : Start} {xs blocks buffers : List ℕ} {x : hand.File} {b : Built} (M : Mid I f o xs blocks buffers x b) where
   queue-span : (w : Bool) → span xs (queueAt w f) entries ≡ length (sideQueue w b)
   queue-span w =
-      let d : Desk = set (o .desk) f (built b) in
+      let d : Desk = withFile (o .desk) f (built b) in
       let t : Alloc = allotAll f (b .past) (o .alloc) in
       let h = below-side w f (M .file) in
       let e : getD (listsOf d t) (queueAt w f) [] ≡ entriesIn f t (sideQueue w b) = getD-listsOf d t (queueAt w f) h ∙ list-side d t f (M .file) b (mid-file M) w in

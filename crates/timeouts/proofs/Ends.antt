@@ -12,7 +12,7 @@ use Rattle.rules.specs.Requests.{withAccs, withQueues, withTimers, alterAcc, sa
 use Rattle.rules.specs.Reply.{hushed}
 use Rattle.rules.specs.Time.{due, failAll, minus, lessen, lapse, fileTime}
 use Rattle.rules.specs.Memories.{fileBuffers}
-use Rattle.rules.specs.Desk.{Desk, fileOf}
+use Rattle.rules.specs.Desk.{Desk, fileOf, deskTime}
 use Rattle.rules.specs.Allocation.{Alloc, withClock, endAll, allocTime, portOf}
 use Rattle.laws.specs.Runs.{OnFile}
 use Rattle.laws.specs.Changes.{Finishes}
@@ -20,6 +20,7 @@ use Rattle.laws.specs.Entries.{timersOf}
 use Rattle.laws.specs.Midst.{here}
 use Rattle.laws.proofs.Walk.{fails-all}
 use Rattle.laws.proofs.Sieve.{here-due}
+use Rattle.laws.proofs.EightFiles.{file-time}
 use Rattle.segment.specs.Layout.{listCount, dataWords, rowCount, timerList}
 use Rattle.ports.specs.Lists.{Boxes}
 use Rattle.memory.specs.Image.{accOf, placeAcc, timerWords, fileWords, placeWords, rowOf, listOf, portWords, boxOf, listsOf, boxesOf}
@@ -34,7 +35,7 @@ use Rattle.timeouts.specs.Late.{lessAll}
 use Rattle.timeouts.specs.Stage.{failFile, Quiet}
 use Rattle.timeouts.proofs.Less.{less-walk}
 use Rattle.timeouts.proofs.Firsts.{few-timers}
-use Rattle.timeouts.proofs.Shows.{bare, Shown, shown, shown-words, shown-acc, shown-reads, shown-writes, shown-read-words, shown-write-words, bare-time, queue-clock, port-clock, free-clock, clock-clock, list-clock, file-time}
+use Rattle.timeouts.proofs.Shows.{bare, Shown, shown, shown-words, shown-acc, shown-reads, shown-writes, shown-read-words, shown-write-words, bare-time, queue-clock, port-clock, free-clock, clock-clock, list-clock}
 
 -- failing changes no store
 store-same : (l : List ℕ) (b : Built) → failAll 22 l b .store ≡ b .store
@@ -58,7 +59,7 @@ module _ {n : ℕ} {xs₀ blocks ys₀ : List ℕ} {d : Desk} {s : Alloc} {xs ys
   u = withClock (map (minus n) (t .clock)) t
 
   abbrev then : Desk
-  then = map (fileTime n) d
+  then = deskTime n d
 
   abbrev B : Seg xs (Q .desk) t rowCount
   B = Q .stage .segment

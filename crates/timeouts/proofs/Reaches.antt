@@ -4,14 +4,14 @@ use mathlib.Core.Path.{_≡_, refl, sym, ap, subst, _∙_}
 use mathlib.Core.List.{List, [], _∷_}
 use native.Mathlib.Omega.{arith}
 use native.Mathlib.Decide.{ℕ-discrete, decLt}
-use lib.ListN.{length, set}
+use lib.ListN.{length}
 use Rattle.occurrences.specs.Count.{count}
 use Rattle.occurrences.proofs.Counts.{bit-eq}
 use Rattle.rules.specs.Limits.{files, places, entries}
 use Rattle.rules.specs.State.{Timer, Built, File, unbuilt, built}
 use Rattle.rules.specs.Requests.{fail}
 use Rattle.rules.specs.Time.{due, failAll}
-use Rattle.rules.specs.Desk.{Desk, fileOf}
+use Rattle.rules.specs.Desk.{Desk, fileOf, withFile}
 use Rattle.rules.specs.Allocation.{Alloc, placeOf, endsAt, endAll}
 use Rattle.laws.specs.Runs.{OnFile}
 use Rattle.laws.specs.Outstanding.{reqAt, awaits}
@@ -23,11 +23,11 @@ use Rattle.laws.proofs.Clock.{withoutTimer-in, withoutTimer-absent}
 use Rattle.laws.proofs.Sieve.{here-in, here-out, countT-sieve}
 use Rattle.laws.proofs.Allots.{clock-ends}
 use Rattle.laws.proofs.Happenings.{place-file}
+use Rattle.laws.proofs.EightFiles.{file-other, file-same}
 use Rattle.segment.specs.Layout.{timerList}
 use Rattle.segment.specs.Table.{nth}
 use Rattle.segment.specs.Fields.{entryAt}
 use Rattle.requests.specs.Moves.{entryOf}
-use Rattle.midst.proofs.Alike.{file-set, file-other}
 use Rattle.timeouts.specs.Late.{waitsIn, late, lateBuffers}
 use Rattle.timeouts.specs.Stage.{Steady, Stage, failFile, Reached, Quiet}
 use Rattle.timeouts.proofs.Ripe.{Ripe, ripe}
@@ -137,7 +137,7 @@ module _ {n k : ℕ} {ys₀ : List ℕ} {d : Desk} {s : Alloc} {xs ys : List ℕ
     i = placeOf f p
 
     abbrev then : Desk
-    then = set (R .desk) f (built (fail p 22 b))
+    then = withFile (R .desk) f (built (fail p 22 b))
 
     was-due : due n (now .clock) ≡ i ∷ due n us
     was-due = ap (due n) c ∙ due-first n u us m ∙ ap (λ j. j ∷ due n us) (sym at)
@@ -152,7 +152,7 @@ module _ {n k : ℕ} {ys₀ : List ℕ} {d : Desk} {s : Alloc} {xs ys : List ℕ
         here-p = here-in f i (due n us) (place-file f p hp) ∙ ap (λ x. x ∷ here f (due n us)) (unfold placeOf in omega arith)
 
         go : Dec (g ≡ f) → failFile (here g (due n us)) (fileOf then g) ≡ failFile (here g (i ∷ due n us)) (fileOf (R .desk) g)
-        go (yes z) = rw (z, file-set (R .desk) f (built (fail p 22 b)) (omega (arith, R .stage .eight)), y, here-p) (fails-more p (here f (due n us)) b)
+        go (yes z) = rw (z, file-same (R .desk) f (built (fail p 22 b)) (R .stage .eight) hf, y, here-p) (fails-more p (here f (due n us)) b)
         go (no z) = rw (file-other (R .desk) f g (built (fail p 22 b)) z, here-out g i (due n us) (λ x. z (sym x ∙ place-file f p hp)))
 
     whole-on : endAll (due n (endsAt i now .clock)) (endsAt i now) ≡ endAll (due n (now .clock)) now

@@ -2,12 +2,10 @@
 use Prim.Native.Nat.{ℕ}
 use mathlib.Core.Path.{_≡_, refl, sym, ap, _∙_}
 use mathlib.Core.List.{List, [], _∷_, map}
-use lib.ListN.{List·getD-map}
 use Rattle.rules.specs.State.{Req, idle, reading, writing, readDone, writeDone, Timer, Built, File, unbuilt, built}
 use Rattle.rules.specs.Requests.{accAt, withTimers}
 use Rattle.rules.specs.Reply.{hushed}
 use Rattle.rules.specs.Time.{due, minus, lessen, lapse, fileTime}
-use Rattle.rules.specs.Desk.{Desk, fileOf}
 use Rattle.rules.specs.Allocation.{Alloc, heldAt, withClock, timerEntry, queueOf, portOf}
 use Rattle.rules.specs.Allocation as rules
 use Rattle.laws.specs.Entries.{timersOf}
@@ -98,7 +96,3 @@ timers-clock n t (u ∷ ts) = ap (_∷_ (timerEntry (heldAt t (u .place)))) (tim
 pub list-clock : (n : ℕ) (t : Alloc) → rules.timerList (withClock (map (minus n) (t .clock)) t) ≡ rules.timerList t
 unfolding rules.timerList withClock heldAt
 list-clock n t = timers-clock n t (t .clock)
-
-pub file-time : (n : ℕ) (d : Desk) (f : ℕ) → fileOf (map (fileTime n) d) f ≡ fileTime n (fileOf d f)
-unfolding fileOf fileTime
-file-time n d f = List·getD-map (fileTime n) d f unbuilt

@@ -7,7 +7,7 @@ use mathlib.Core.Option.{none}
 use native.Mathlib.Omega.{arith}
 use native.Mathlib.Decide.{ℕ-discrete}
 use lib.Dec.{eqb}
-use lib.ListN.{length, getD, set, length-set}
+use lib.ListN.{length, getD}
 use lib.Seq.{sets, length-sets}
 use Rattle.words.specs.Word.{zeros}
 use Rattle.words.proofs.Runs.{length-zeros}
@@ -16,7 +16,7 @@ use Rattle.rules.specs.Limits.{files, places, entries, bufferBytes}
 use Rattle.rules.specs.State.{Req, Built, File, built}
 use Rattle.rules.specs.Requests.{accAt, alter, withReq, without, withAccs, withQueues, withTimers, alterAcc, say, requeue, leave, finish, fail}
 use Rattle.rules.specs.Memories.{fileBuffers}
-use Rattle.rules.specs.Desk.{Desk, fileOf}
+use Rattle.rules.specs.Desk.{Desk, fileOf, withFile}
 use Rattle.rules.specs.Allocation.{Alloc, placeOf, endsAt}
 use Rattle.laws.specs.Runs.{OnFile}
 use Rattle.laws.specs.Outstanding.{reqOf, reqAt, outstanding}
@@ -31,6 +31,7 @@ use Rattle.laws.proofs.Outstanding.{outstanding-ends}
 use Rattle.laws.proofs.Sieve.{countT-sieve}
 use Rattle.laws.proofs.Happenings.{place-file}
 use Rattle.laws.proofs.Lapses.{others, fails-one}
+use Rattle.laws.proofs.EightFiles.{eight-put, file-other, file-same}
 use Rattle.segment.specs.Layout.{rowCount, placeRow, readQueue, writeQueue}
 use Rattle.segment.specs.Fields.{placeRowOf, placeAt}
 use Rattle.segment.proofs.Apart.{words-place}
@@ -39,7 +40,6 @@ use Rattle.memory.specs.Image.{accOf, fileWords, placeWords}
 use Rattle.memory.specs.Stands.{buffersAt}
 use Rattle.memory.proofs.Image.{rowOf-acc}
 use Rattle.midst.specs.Seg.{Seg, queueAt}
-use Rattle.midst.proofs.Alike.{file-set, file-other}
 use Rattle.midst.proofs.Fills.{buffers-keep, buffers-apart, buffers-req, zeros-filled}
 use Rattle.midst.proofs.Placed.{Placed}
 use Rattle.midst.proofs.EntryLeaves.{seg-complete}
@@ -90,10 +90,7 @@ module _ {xs ys : List ℕ} {d : Desk} {t : Alloc} (S : Stage xs ys d t) (f p : 
 
   -- the desk behind it
   abbrev then : Desk
-  then = set d f (built (fail p 22 b))
-
-  small : f < length d
-  small = omega (arith, S .eight)
+  then = withFile d f (built (fail p 22 b))
 
   steady : Steady b
   unfolding OnFile
@@ -182,13 +179,13 @@ module _ {xs ys : List ℕ} {d : Desk} {t : Alloc} (S : Stage xs ys d t) (f p : 
   each P h k g l = go (ℕ-discrete g f)
     where
       go : Dec (g ≡ f) → P g (fileOf then g)
-      go (yes z) = rw (z, file-set d f (built (fail p 22 b)) small) h
+      go (yes z) = rw (z, file-same d f (built (fail p 22 b)) (S .eight) hf) h
       go (no n) = rw (file-other d f g (built (fail p 22 b)) n) (k g l n)
 
   pub stage-late : Stage (late xs i) (lateBuffers xs ys i) then (endsAt i t)
   stage-late = record {
     segment = seg-late .1;
-    eight = length-set d f _ ∙ S .eight;
+    eight = eight-put d f _ (S .eight);
     matches = each (λ g y. Matches g (endsAt i t) (endsAt i t) (accsOf y) (timersOf y)) (unfold accsOf timersOf in fails-one f p 22 t b hf hp matches (omega arith))
         (λ g h n. others g i t _ _ (λ z. n (sym z ∙ place-file f p hp)) (S .matches g h));
     steady = each (λ g y. OnFile Steady y) (unfold OnFile in rw (R .fails) (steady-finish p 22 (R .done) (R .acc) (R .acc .req) b (R .at) refl (R .ends) steady))

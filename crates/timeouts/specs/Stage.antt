@@ -16,6 +16,7 @@ use Rattle.laws.specs.Queues.{Agree}
 use Rattle.laws.specs.Sides.{Sides}
 use Rattle.laws.specs.Entries.{accsOf, timersOf}
 use Rattle.laws.specs.Midst.{here, Matches}
+use Rattle.laws.specs.EightFiles.{EightFiles}
 use Rattle.memory.specs.Stands.{buffersAt}
 use Rattle.midst.specs.Seg.{Seg}
 
@@ -29,7 +30,7 @@ pub record Steady (b : Built) : Type 0 where
 -- the segment and the buffers stand for a desk and an allocation that agree
 pub record Stage (xs ys : List ℕ) (d : Desk) (t : Alloc) : Type 0 where
   pub segment : Seg xs d t rowCount
-  pub eight : length d ≡ files
+  pub eight : EightFiles d
   pub matches : (f : ℕ) → f < files → Matches f t t (accsOf (fileOf d f)) (timersOf (fileOf d f))
   pub steady : (f : ℕ) → f < files → OnFile Steady (fileOf d f)
   pub buffers : (f : ℕ) → f < files → OnFile (λ b. buffersAt f ys ≡ fileBuffers (b .accs)) (fileOf d f)

@@ -1,13 +1,12 @@
 // The passing of time: every waiting request whose time is up completes with status 22, the smallest timeout first, equals in arming order, and
 // all other timers lose the seconds.
 ghost use mathlib.Core.Path.{_≡_};
-ghost use mathlib.Core.List.{List, map};
+ghost use mathlib.Core.List.{List};
 ghost use Prim.Native.Nat.{ℕ, _-_, _<_};
 ghost use lib.ListN.{length};
 ghost use Rattle.rules.specs.Limits.{files, entries};
 ghost use Rattle.rules.specs.State.{unbuilt};
-ghost use Rattle.rules.specs.Desk.{Desk, fileOf};
-ghost use Rattle.rules.specs.Time.{fileTime};
+ghost use Rattle.rules.specs.Desk.{Desk, fileOf, deskTime};
 ghost use Rattle.rules.specs.Allocation.{Alloc, allocTime};
 ghost use Rattle.segment.specs.Layout.{timerList, segmentBytes, deskPlaces};
 ghost use Rattle.buffers.specs.Buffer.{buffersBytes};
@@ -125,7 +124,7 @@ fn lessen(segment: &mut [u8], seconds: u16)
 // So many seconds pass.
 pub fn pass_time(segment: &mut [u8], buffers: &mut [u8], seconds: u16)
     requires { ⌜ ((d : Desk) × (s : Alloc) × (blocks : List ℕ) × StandsFor (now segment) blocks (now buffers) d s) ⌝ }
-    ensures stands { λ _. ⌜ ((d : Desk) (s : Alloc) (blocks : List ℕ) → StandsFor (now (segment .entry)) blocks (now (buffers .entry)) d s → Stands (now (segment .exit)) blocks (now (buffers .exit)) (map (fileTime seconds) d) (allocTime seconds s)) ⌝ }
+    ensures stands { λ _. ⌜ ((d : Desk) (s : Alloc) (blocks : List ℕ) → StandsFor (now (segment .entry)) blocks (now (buffers .entry)) d s → Stands (now (segment .exit)) blocks (now (buffers .exit)) (deskTime seconds d) (allocTime seconds s)) ⌝ }
     ensures others { λ _. ⌜ ((d : Desk) (s : Alloc) (blocks : List ℕ) → StandsFor (now (segment .entry)) blocks (now (buffers .entry)) d s → (g : ℕ) → g < files → fileOf d g ≡ unbuilt → buffersAt g (now (buffers .exit)) ≡ buffersAt g (now (buffers .entry))) ⌝ }
 {
     run_due(segment, buffers, seconds);

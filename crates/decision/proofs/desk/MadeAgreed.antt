@@ -23,10 +23,12 @@ use Rattle.laws.specs.Counts.{placesOf, countT}
 use Rattle.laws.proofs.Clock.{sorted-lower}
 use Rattle.laws.specs.Queues.{Agree}
 use Rattle.laws.specs.Entries.{size, sieve, accsOf, timersOf, Agrees, Calm, Agreed}
+use Rattle.laws.proofs.EightFiles.{eight-of}
+use Rattle.laws.proofs.Lists.{length-up}
 use Rattle.memory.specs.Image.{listOf, listsOf}
 use Rattle.words.specs.Word.{Bytes}
 use Rattle.memory.specs.Fine.{Fine}
-use Rattle.memory.proofs.Boxes.{length-up, getD-listsOf}
+use Rattle.memory.proofs.Boxes.{getD-listsOf}
 use Rattle.memory.proofs.Held.{sieve-at}
 use Rattle.memory.proofs.Once.{acc-at, lists-taken}
 use Rattle.sound.specs.Rows.{builtAt, sideAt}
@@ -169,7 +171,7 @@ module _ (s blocks bufs : List ℕ) (ls : List (List ℕ)) (bytes : Bytes blocks
 
   pub agreed : Agreed d a
   agreed = record {
-    eight = unfold deskFor in length-up (fileFor s blocks bufs ls) files 0;
+    eight = unfold deskFor in eight-of (fileFor s blocks bufs ls);
     whole = record {
       once = λ x. sym (lists-taken d a held-long within agrees (λ f h. queues (fileOf d f) (fine-file f h)) x) ∙ (ap (total x) lists-same ∙ U .once x);
       long = held-long;

@@ -19,7 +19,8 @@ use Rattle.segment.specs.Layout.{placeWidth, timerList}
 use Rattle.laws.specs.Entries.{entriesOf, size}
 use Rattle.memory.specs.Image.{accOf, placeAcc}
 use Rattle.laws.specs.Outstanding.{reqOf}
-use Rattle.memory.proofs.Boxes.{length-up, getD-up, getD-all}
+use Rattle.laws.proofs.EightFiles.{file-of}
+use Rattle.laws.proofs.Lists.{getD-all, getD-up, length-up}
 use Rattle.sound.specs.Rows.{fileWord, placeWord, builtAt, geoAt, sideAt}
 use Rattle.decision.specs.Survey.{waitingAt, completedAt, timersAt, Survey}
 use Rattle.sound.specs.Sound.{filesOk}
@@ -111,8 +112,8 @@ module _ (s blocks bufs : List ℕ) (ls : List (List ℕ)) (ok : filesOk s block
   -- files
   module _ (f : ℕ) (h : f < files) where
     file-for : fileOf desk f ≡ fileFor s blocks bufs ls f
-    unfolding fileOf deskFor
-    file-for = getD-all (fileFor s blocks bufs ls) files f unbuilt h
+    unfolding deskFor
+    file-for = file-of (fileFor s blocks bufs ls) f h
 
     pub file-built : builtAt s f ≡ true → fileOf desk f ≡ built (builtFor s blocks bufs ls f)
     unfolding fileFor

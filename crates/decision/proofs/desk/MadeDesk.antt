@@ -12,6 +12,7 @@ use Rattle.rules.specs.Allocation.{Held, nothing, own, timed, Alloc, upFrom}
 use Rattle.segment.specs.Layout.{freeList, readQueue, writeQueue, replyPort, timerList}
 use Rattle.shares.specs.Sound.{storeAt}
 use Rattle.laws.specs.Entries.{sieve}
+use Rattle.laws.specs.EightFiles.{deskOf}
 use Rattle.memory.specs.Stands.{shareAt, bufferAt}
 use Rattle.sound.specs.Rows.{fileWord, placeWord, builtAt, geoAt, sideAt}
 use Rattle.sound.specs.Walks.{entryWord, placeIn, sizeIn}
@@ -96,4 +97,4 @@ unfoldable pub fileFor : List ℕ → List ℕ → List ℕ → List (List ℕ) 
 fileFor s blocks bufs ls f = elim (builtAt s f) [ true ↦ built (builtFor s blocks bufs ls f) | false ↦ unbuilt ]
 
 unfoldable pub deskFor : List ℕ → List ℕ → List ℕ → List (List ℕ) → Desk
-deskFor s blocks bufs ls = map (fileFor s blocks bufs ls) (upFrom 0 files)
+deskFor s blocks bufs ls = deskOf (fileFor s blocks bufs ls)

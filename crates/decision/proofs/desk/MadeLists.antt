@@ -8,6 +8,7 @@ use lib.ListN.{length, getD, replicate, length-replicate}
 use Rattle.occurrences.specs.Count.{count}
 use Rattle.rules.specs.Limits.{files, places, bufferBytes}
 use Rattle.rules.specs.State.{File}
+use Rattle.rules.specs.Desk.{Desk}
 use Rattle.rules.specs.Requests.{accAt}
 use Rattle.rules.specs.Allocation.{Alloc, placeOf, heldAt, ownEntry, timerEntry, queueOf, portOf}
 use Rattle.rules.specs.Allocation as alloc
@@ -140,7 +141,7 @@ module _ (s blocks bufs : List ℕ) (ls : List (List ℕ)) (size : length bufs �
           omega (arith, ap (sideAt s) u, r .side, blank-at s blocks ok f h t .closed (placeIn s e % places) (omega arith) 0 (omega arith))
 
   -- the 82 lists
-  abbrev d : List File
+  abbrev d : Desk
   d = deskFor s blocks bufs ls
 
   abbrev a : Alloc

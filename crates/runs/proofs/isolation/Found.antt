@@ -8,14 +8,15 @@ use lib.ListN.{length, getD, take, drop}
 use lib.Seq.{sets}
 use borrow.Author.Tests.{eqb-true}
 use Rattle.words.proofs.Parts.{part-same}
-use Rattle.rules.specs.Limits.{files, bufferBytes, answerRoom}
+use Rattle.rules.specs.Limits.{bufferBytes, answerRoom}
 use Rattle.rules.specs.Answers.{answerBytes}
 use Rattle.rules.specs.Reply.{Reply, shows}
 use Rattle.rules.specs.Desk.{Desk, Call, Asked, bad, asked, respond, replyBytes, replies}
 use Rattle.rules.specs.Desk as rules
 use Rattle.rules.proofs.Split.{by-cases, pick-true, pick-false}
 use Rattle.laws.specs.Runs.{names, theirs}
-use Rattle.laws.proofs.Isolation.{length-answered}
+use Rattle.laws.specs.EightFiles.{EightFiles}
+use Rattle.laws.proofs.Isolation.{eight-answered}
 use Rattle.laws.proofs.Proper.{asked-proper}
 use Rattle.midst.specs.Outcome.{replyStatus}
 use Rattle.midst.proofs.StaysFine.{answered-fine}
@@ -128,13 +129,13 @@ module _ (f : ℕ) (x : HostCall) (xs : List HostCall) (g : Given) (gs : List Gi
   unfolding finds
   finds-other n = pick-false (namesFile f (sortOf x)) _ _ n
 
-fine-on : (d : Desk) (c : Call) → length d ≡ files → FineDesk d → FineDesk (respond d c .desk)
+fine-on : (d : Desk) (c : Call) → EightFiles d → FineDesk d → FineDesk (respond d c .desk)
 unfolding respond
 fine-on d c n h = answered-fine d (asked c) n (asked-proper c) h
 
-long-on : (d : Desk) (c : Call) → length d ≡ files → length (respond d c .desk) ≡ files
+long-on : (d : Desk) (c : Call) → EightFiles d → EightFiles (respond d c .desk)
 unfolding respond
-long-on d c n = length-answered d (asked c) n
+long-on d c n = eight-answered d (asked c) n
 
 abbrev Says : ℕ → List HostCall → Desk → Type 0
 Says f xs d = finds f xs (heard xs (replies d (stretch xs))) ≡ foundAll f (ours f xs) (theirs f (stretch xs) (replies d (stretch xs)))
@@ -146,7 +147,7 @@ SaysNext f x xs d cs =
     ≡ foundAll f (elim (namesFile f (sortOf x) || passes (sortOf x)) as (λ (b : Bool). List Sort) [ true ↦ sortOf x ∷ ours f xs | false ↦ ours f xs ]) (theirs f cs (replies d cs))
 
 -- all answers to calls naming f are found in the replies to these calls
-pub finds-ours : (f : ℕ) (xs : List HostCall) (d : Desk) → length d ≡ files → FineDesk d → unmade xs ≡ true → Says f xs d
+pub finds-ours : (f : ℕ) (xs : List HostCall) (d : Desk) → EightFiles d → FineDesk d → unmade xs ≡ true → Says f xs d
 unfolding finds heard stretch theirs ours foundAll
 finds-ours f [] d n h u = refl
 finds-ours f (x ∷ xs) d n h u =
