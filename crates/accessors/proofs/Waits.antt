@@ -61,10 +61,10 @@ index-place W f p (x ∷ q) h = go (ℕ-discrete x p) (index-place W f p q (λ y
 first-word : (i : ℕ) (q : Req) → 1 ≤ awaits q → getD (reqWords i q) 0 0 ≡ i
 unfolding waitsRead waitsWrite reqWords
 first-word i idle h = absurd (omega arith)
-first-word i (reading w l k) h = refl
-first-word i (writing w d) h = refl
-first-word i (readDone st l d) h = absurd (omega arith)
-first-word i (writeDone st l) h = absurd (omega arith)
+first-word i (reading q) h = refl
+first-word i (writing q) h = refl
+first-word i (readDone q) h = absurd (omega arith)
+first-word i (writeDone q) h = absurd (omega arith)
 
 -- the two tests, and what they say
 shows-completed : (t u : Bool) → t ≡ true → cond t Completed (cond u Waiting Nothing) ≡ Completed
@@ -147,12 +147,12 @@ module _ {xs hand : List ℕ} {hm rs : List (List ℕ)} (d : Desk) (s : Alloc) (
           (cond (ltb (nth xs (seek (has 0 (places * f + p)) xs (queueOf f (1 + bit w)) entries)) entries) Waiting Nothing) ≡ outstandingOf q
       go false idle F c r k = shows-nothing _ _ (le-ltb port entries (omega (arith, c))) r
       go true idle F c r k = shows-nothing _ _ (le-ltb port entries (omega (arith, c))) k
-      go false (reading w l t) F c r k = shows-waiting _ _ (le-ltb port entries (omega (arith, c))) r
-      go true (reading w l t) F c r k = absurd (false≢true (sym F))
-      go false (writing w x) F c r k = absurd (false≢true F)
-      go true (writing w x) F c r k = shows-waiting _ _ (le-ltb port entries (omega (arith, c))) k
-      go w (readDone st l x) F c r k = shows-completed (ltb port entries) (ltb (nth xs (seek (has 0 i) xs (queueOf f (1 + bit w)) entries)) entries) (lt-ltb port entries (omega (arith, c .0, c .1)))
-      go w (writeDone st l) F c r k = shows-completed (ltb port entries) (ltb (nth xs (seek (has 0 i) xs (queueOf f (1 + bit w)) entries)) entries) (lt-ltb port entries (omega (arith, c .0, c .1)))
+      go false (reading q) F c r k = shows-waiting _ _ (le-ltb port entries (omega (arith, c))) r
+      go true (reading q) F c r k = absurd (false≢true (sym F))
+      go false (writing q) F c r k = absurd (false≢true F)
+      go true (writing q) F c r k = shows-waiting _ _ (le-ltb port entries (omega (arith, c))) k
+      go w (readDone q) F c r k = shows-completed (ltb port entries) (ltb (nth xs (seek (has 0 i) xs (queueOf f (1 + bit w)) entries)) entries) (lt-ltb port entries (omega (arith, c .0, c .1)))
+      go w (writeDone q) F c r k = shows-completed (ltb port entries) (ltb (nth xs (seek (has 0 i) xs (queueOf f (1 + bit w)) entries)) entries) (lt-ltb port entries (omega (arith, c .0, c .1)))
 
 -- in a segment that stands for a desk
 module _ {xs blocks buffers : List ℕ} {d : Desk} {s : Alloc} (S : StandsFor xs blocks buffers d s) where

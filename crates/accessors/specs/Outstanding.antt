@@ -24,7 +24,7 @@ outstandingAt s f p side =
 -- of a request
 unfoldable pub outstandingOf : Req → Outstanding
 outstandingOf idle = Nothing
-outstandingOf (reading w l k) = Waiting
-outstandingOf (writing w d) = Waiting
-outstandingOf (readDone st l d) = Completed
-outstandingOf (writeDone st l) = Completed
+outstandingOf (reading q) = Waiting
+outstandingOf (writing q) = Waiting
+outstandingOf (readDone q) = Completed
+outstandingOf (writeDone q) = Completed

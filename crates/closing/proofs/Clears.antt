@@ -40,10 +40,10 @@ use Rattle.controls.proofs.Cancels.{waiting-awaits, waits-is, removable, remove
 quiet : (q : Req) → isWaiting (outstandingOf q) ≡ false → uncollected q ≡ 0 → q ≡ idle
 unfolding isWaiting outstandingOf uncollected
 quiet idle e n = refl
-quiet (reading w l k) e n = absurd (true≢false e)
-quiet (writing w d) e n = absurd (true≢false e)
-quiet (readDone st l d) e n = absurd (omega arith)
-quiet (writeDone st l) e n = absurd (omega arith)
+quiet (reading q) e n = absurd (true≢false e)
+quiet (writing q) e n = absurd (true≢false e)
+quiet (readDone q) e n = absurd (omega arith)
+quiet (writeDone q) e n = absurd (omega arith)
 
 -- the accessor of a cancelled request
 cancel-at : (p : ℕ) (a : Acc) (b : Built) → accAt b p ≡ some a → accAt (cancel p b) p ≡ some (withReq idle a)

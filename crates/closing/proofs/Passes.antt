@@ -1,5 +1,5 @@
 -- The walk along the read queue: the reader at its slot waits on, or ends.
-use Prim.Native.Nat.{ℕ, _-_, _<_}
+use Prim.Native.Nat.{ℕ, _-_, _≤_, _<_}
 use mathlib.Core.Path.{_≡_, refl, sym, ap, _∙_, subst}
 use mathlib.Core.Bool.{Bool, true, false, cond}
 use mathlib.Core.List.{List, [], _∷_, _++_, append-assoc}
@@ -12,8 +12,8 @@ use lib.ListN.{length}
 use Rattle.occurrences.specs.Count.{bit, count}
 use Rattle.occurrences.proofs.Counts.{bit-eq, count-apart}
 use Rattle.rules.specs.Limits.{places}
-use Rattle.rules.specs.State.{Req, reading, readDone, ends, Acc, Built}
-use Rattle.rules.specs.Requests.{accAt, withAccs, withQueues, withTimers, alterAcc, say, without, requeue, leave, finish, failReq, fail}
+use Rattle.rules.specs.State.{Wanted, Req, reading, ends, Acc, Built}
+use Rattle.rules.specs.Requests.{accAt, withAccs, withQueues, withTimers, alterAcc, say, without, requeue, leave, finish, readFails, failReq, fail}
 use Rattle.rules.specs.Close.{endReaders}
 use Rattle.rules.specs.Memories.{lies}
 use Rattle.rules.specs.Allocation.{Alloc, placeOf, heldAt, ownEntry, endsAt, allot, allotAll}
@@ -25,7 +25,7 @@ use Rattle.ports.proofs.Chains.{slotAt}
 use Rattle.ports.proofs.Maps.{map-append, map-in}
 use Rattle.requests.specs.Moves.{completed}
 use Rattle.laws.specs.Outstanding.{waitsRead, waitsWrite}
-use Rattle.laws.specs.Changes.{readEnds}
+use Rattle.laws.specs.Changes.{Ends, readEnds}
 use Rattle.memory.specs.Image.{reqWords}
 use Rattle.memory.specs.Image as image
 use Rattle.midst.specs.declared.File as hand
@@ -75,16 +75,16 @@ ends-kept : (p : ℕ) (l : List ℕ) (b : Built) (a : Acc) → accAt b p ≡ som
 unfolding endReaders
 ends-kept p l b a e h = rw (e, endReaders) (pick-true (a .extended) (endReaders l b) (endReaders l (fail p 2 b)) h)
 
-fails : (p : ℕ) (b : Built) (a : Acc) (w : Bool) (m : ℕ) (k : Bool) → accAt b p ≡ some a → a .req ≡ reading w m k → fail p 2 b ≡ finish p 2 (readDone 2 0 []) b
+fails : (p : ℕ) (b : Built) (a : Acc) (w : Wanted) → accAt b p ≡ some a → a .req ≡ reading w → fail p 2 b ≡ finish p 2 (readFails 2) b
 unfolding fail failReq
-fails p b a w m k e r = rw (e, fail) (ap (λ (q : Req). failReq p 2 q b) r)
+fails p b a w e r = rw (e, fail) (ap (λ (q : Req). failReq p 2 q b) r)
 
-ends-one : (p : ℕ) (l : List ℕ) (b : Built) (a : Acc) (w : Bool) (m : ℕ) (k : Bool) → accAt b p ≡ some a → a .req ≡ reading w m k → a .extended ≡ false
-    → endReaders (p ∷ l) b ≡ endReaders l (finish p 2 (readDone 2 0 []) b)
+ends-one : (p : ℕ) (l : List ℕ) (b : Built) (a : Acc) (w : Wanted) → accAt b p ≡ some a → a .req ≡ reading w → a .extended ≡ false
+    → endReaders (p ∷ l) b ≡ endReaders l (finish p 2 (readFails 2) b)
 unfolding endReaders
-ends-one p l b a w m k e r h =
+ends-one p l b a w e r h =
     let i : endReaders (p ∷ l) b ≡ endReaders l (fail p 2 b) = rw (e, endReaders) (pick-false (a .extended) (endReaders l b) (endReaders l (fail p 2 b)) h) in
-    i ∙ ap (endReaders l) (fails p b a w m k e r)
+    i ∙ ap (endReaders l) (fails p b a w e r)
 
 module _ {n f : ℕ} {o : Start} {xs blocks buffers : List ℕ} {x : hand.File} {from : Built} {slot left : ℕ} (W : Walk (Owed n) f o xs blocks buffers x from slot left) where
   abbrev b : Built
@@ -127,7 +127,7 @@ module _ {n f : ℕ} {o : Start} {xs blocks buffers : List ℕ} {x : hand.File} 
     -- it ends
     module _ (h : placeAt xs (entryAt xs e .place) .extended ≡ 1 → ⊥) where
       abbrev c : Built
-      c = finish (N .place) 2 (readDone 2 0 []) b
+      c = finish (N .place) 2 (readFails 2) b
 
       only : (count (N .place) (W .kept) ≡ 0) × (count (N .place) (N .others) ≡ 0)
       only = once W (N .place) (N .others) (N .first)
@@ -151,10 +151,12 @@ module _ {n f : ℕ} {o : Start} {xs blocks buffers : List ℕ} {x : hand.File} 
       mid-now : (xs′ : List ℕ) → xs′ ≡ completed xs slot (entryAt xs e .place) (endWords (entryAt xs e .place)) → Mid (Owed n) f o xs′ blocks buffers x c
       unfolding endWords reqWords waitsRead waitsWrite lies
       mid-now xs′ u =
+          let short : 0 ≤ N .wanted .limit = omega arith in
+          let ending : Ends 2 (reading (N .wanted)) (readFails 2) = readEnds {x = N .wanted} refl short (omega arith) in
           rw (u, N .entry) (subst (λ (z : ℕ). Mid (Owed n) f o (completed xs z (placeOf f (N .place)) (endWords (placeOf f (N .place)))) blocks buffers x c) (sym (W .at))
-          (step-finish (owed-knows n) (W .mid) (N .place) (N .acc) (N .opens) false 2 (reading (N .words) (N .limit) (N .keeps)) (readDone 2 0 []) (N .asks) refl
-          (readEnds (omega arith) (omega arith)) (W .kept) (N .others) queue-is (only .0) buffers
-          (fine-walks .endings n (N .place) 2 (readDone 2 0 []) (N .acc) (reading (N .words) (N .limit) (N .keeps)) b (N .opens) (N .asks) (readEnds (omega arith) (omega arith)) (W .mid .good))
+          (step-finish (owed-knows n) (W .mid) (N .place) (N .acc) (N .opens) false 2 (reading (N .wanted)) (readFails 2) (N .asks) refl
+          ending (W .kept) (N .others) queue-is (only .0) buffers
+          (fine-walks .endings n (N .place) 2 (readFails 2) (N .acc) (reading (N .wanted)) b (N .opens) (N .asks) ending (W .mid .good))
           (keep refl (sym (ap lies (N .asks))))))
 
       pub next-ended : (xs′ : List ℕ) → xs′ ≡ completed xs slot (entryAt xs e .place) (endWords (entryAt xs e .place)) → Walk (Owed n) f o xs′ blocks buffers x from slot (left - 1)
@@ -166,6 +168,6 @@ module _ {n f : ℕ} {o : Start} {xs blocks buffers : List ℕ} {x : hand.File} 
         queue = queue-now;
         at = W .at ∙ ap (slotAt (readQueue f)) (sym same-kept);
         few = omega (arith, W .few, ap length (N .first));
-        same = sym (ends-one (N .place) (N .others) b (N .acc) (N .words) (N .limit) (N .keeps) (N .opens) (N .asks) (bit-not-one (N .acc .extended) (λ z. h (extended-is ∙ z))))
+        same = sym (ends-one (N .place) (N .others) b (N .acc) (N .wanted) (N .opens) (N .asks) (bit-not-one (N .acc .extended) (λ z. h (extended-is ∙ z))))
             ∙ ap (λ (l : List ℕ). endReaders l b) (sym (N .first)) ∙ W .same;
       }

@@ -1,7 +1,7 @@
 -- The walk along the read queue: who stands at its slot.
 use Prim.Native.Nat.{ℕ, _+_, _≤_, _<_}
 use mathlib.Core.Path.{_≡_, refl, sym, ap, _∙_, subst}
-use mathlib.Core.Bool.{Bool, false}
+use mathlib.Core.Bool.{false}
 use mathlib.Core.List.{List, [], _∷_, _++_, append-nil}
 use mathlib.Core.Option.{some}
 use native.Mathlib.Omega.{arith}
@@ -10,7 +10,7 @@ use lib.Seq.{getD-append-seam}
 use Rattle.occurrences.specs.Count.{count}
 use Rattle.occurrences.proofs.Counts.{bit-eq, count-append}
 use Rattle.rules.specs.Limits.{entries}
-use Rattle.rules.specs.State.{reading, Acc, Built, built}
+use Rattle.rules.specs.State.{Wanted, reading, Acc, Built, built}
 use Rattle.rules.specs.Requests.{accAt}
 use Rattle.rules.specs.Close.{endReaders}
 use Rattle.rules.specs.Desk.{Desk, withFile}
@@ -47,12 +47,10 @@ pub record Next (f : ℕ) (o : Start) (xs : List ℕ) (b : Built) (rest : List �
   pub place : ℕ
   pub others : List ℕ
   pub acc : Acc
-  pub words : Bool
-  pub limit : ℕ
-  pub keeps : Bool
+  pub wanted : Wanted
   pub first : rest ≡ place ∷ others
   pub opens : accAt b place ≡ some acc
-  pub asks : acc .req ≡ reading words limit keeps
+  pub asks : acc .req ≡ reading wanted
   pub own : e ≡ ownEntry (heldAt (allotAll f (b .past) (o .alloc)) (placeOf f place))
   pub entry : entryAt xs e .place ≡ placeOf f place
 
@@ -150,14 +148,12 @@ module _ {n f : ℕ} {o : Start} {xs blocks buffers : List ℕ} {x : hand.File} 
       go : (l : List ℕ) → W .rest ≡ l → Next f o xs b (W .rest) e
       go [] q = absurd (omega (arith, none-left q .0, h))
       go (p ∷ l) q =
-          let (a, w, m, u, v, r) = reads-in b p (omega (arith, counted p l q)) in
+          let (a, w, v, r) = reads-in b p (omega (arith, counted p l q)) in
           record {
             place = p;
             others = l;
             acc = a;
-            words = w;
-            limit = m;
-            keeps = u;
+            wanted = w;
             first = q;
             opens = v;
             asks = r;

@@ -50,10 +50,10 @@ known-at p (Keep v) b o k = (k .a, k .at)
 completes : (q : Req) → isWaiting (outstandingOf q) ≡ false → (q ≡ idle → ⊥) → uncollected q ≡ 1
 unfolding isWaiting outstandingOf uncollected
 completes idle e n = absurd (n refl)
-completes (reading w l k) e n = absurd (true≢false e)
-completes (writing w d) e n = absurd (true≢false e)
-completes (readDone st l d) e n = refl
-completes (writeDone st l) e n = refl
+completes (reading q) e n = absurd (true≢false e)
+completes (writing q) e n = absurd (true≢false e)
+completes (readDone q) e n = refl
+completes (writeDone q) e n = refl
 
 -- the memories' lengths, and file and place
 pub record Sized (f p : ℕ) (xs buffers : List ℕ) : Type 0 where

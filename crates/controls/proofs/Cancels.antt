@@ -43,27 +43,27 @@ two false = refl
 waits-side : (w : Bool) (q : Req) → Fitting w q → isWaiting (outstandingOf q) ≡ true → waitsAt w q ≡ 1
 unfolding Fitting isWaiting outstandingOf waitsRead waitsWrite
 waits-side w idle F e = absurd (true≢false (sym e))
-waits-side w (reading u l k) F e = rw F
-waits-side w (writing u d) F e = rw F
-waits-side w (readDone st l d) F e = absurd (true≢false (sym e))
-waits-side w (writeDone st l) F e = absurd (true≢false (sym e))
+waits-side w (reading q) F e = rw F
+waits-side w (writing q) F e = rw F
+waits-side w (readDone q) F e = absurd (true≢false (sym e))
+waits-side w (writeDone q) F e = absurd (true≢false (sym e))
 
 pub waiting-awaits : (q : Req) → isWaiting (outstandingOf q) ≡ true → awaits q ≡ 1
 unfolding isWaiting outstandingOf waitsRead waitsWrite
 waiting-awaits idle e = absurd (true≢false (sym e))
-waiting-awaits (reading u l k) e = refl
-waiting-awaits (writing u d) e = refl
-waiting-awaits (readDone st l d) e = absurd (true≢false (sym e))
-waiting-awaits (writeDone st l) e = absurd (true≢false (sym e))
+waiting-awaits (reading q) e = refl
+waiting-awaits (writing q) e = refl
+waiting-awaits (readDone q) e = absurd (true≢false (sym e))
+waiting-awaits (writeDone q) e = absurd (true≢false (sym e))
 
 -- no data lie in a reader's buffer while its request waits
 reads-nothing : (q : Req) → waitsRead q ≡ 1 → lies idle ≡ lies q
 unfolding waitsRead lies
 reads-nothing idle h = refl
-reads-nothing (reading w l k) h = refl
-reads-nothing (writing w d) h = absurd (omega arith)
-reads-nothing (readDone st l d) h = absurd (omega arith)
-reads-nothing (writeDone st l) h = refl
+reads-nothing (reading q) h = refl
+reads-nothing (writing q) h = absurd (omega arith)
+reads-nothing (readDone q) h = absurd (omega arith)
+reads-nothing (writeDone q) h = refl
 
 laid : (w : Bool) (f p : ℕ) (q : Req) (ys : List ℕ) → waitsAt w q ≡ 1 → Laid f p q idle ys (cond w (emptied 2 (placeOf f p) ys) ys)
 unfolding emptied lies

@@ -1,8 +1,7 @@
 -- What a frame asks of a file, and what is known of a call that no desk refuses.
 use Prim.Native.Nat.{ℕ, _<_}
-use mathlib.Core.Path.{_≡_, refl, sym, ap, _∙_, subst}
+use mathlib.Core.Path.{_≡_, refl, sym, ap, _∙_}
 use mathlib.Core.List.{List, []}
-use mathlib.Core.Logic.{inl}
 use native.Mathlib.Omega.{arith}
 use lib.ListN.{drop}
 use Rattle.kinds.specs.declared.Answer.{Answer}
@@ -21,7 +20,7 @@ use Rattle.midst.specs.Outcome.{refusalOf, Done, Gave}
 use Rattle.midst.specs.Outcome as outcome
 use Rattle.midst.proofs.Accepted.{accepted-file}
 use Rattle.midst.proofs.StandsBehind.{Built′, stays-built, respond-is, outcome-stays}
-use Rattle.desk.specs.Acted.{Acted, Four}
+use Rattle.desk.specs.Acted.{Acted}
 
 module _ (fr : List ℕ) (e : Event) (q : Ask) (f : ℕ) (said : frameOf fr ≡ frame.Event e) (is : frameAsks (frame.Event e) (drop writeHead fr) ≡ on f q) where
   pub asked-is : asked (event fr) ≡ on f q
@@ -53,21 +52,18 @@ module _ (fr : List ℕ) (e : Event) (q : Ask) (f : ℕ) (said : frameOf fr ≡ 
         size = refl;
         most = omega arith;
         behind = refl;
-        four = inl refl;
       }
 
       -- answered with a record's data
-      pub acted-data : (memory xs′ blocks′ buffers′ memory′ : List ℕ) (a : Answer) (n : ℕ) → Built′ (ask (fileOf d f) q) → Four (ask (fileOf d f) q .reply)
+      pub acted-data : (memory xs′ blocks′ buffers′ memory′ : List ℕ) (a : Answer) (n : ℕ) → Built′ (ask (fileOf d f) q)
           → Gave f d s (ask (fileOf d f) q) blocks buffers memory xs′ blocks′ buffers′ memory′ a n → Acted d s (event fr) blocks buffers memory xs′ blocks′ buffers′ memory′ a n
-      unfolding Four
-      acted-data memory xs′ blocks′ buffers′ memory′ a n B F G = record {
+      acted-data memory xs′ blocks′ buffers′ memory′ a n B G = record {
         stays = outcome-stays S (event fr) f q asked-is file-low B (G .outcome);
         bytes = G .bytes;
         reply = reply-is ∙ G .reply;
         size = G .size;
         most = G .most;
         behind = G .behind;
-        four = subst Four (G .reply) F;
       }
 
 -- a file that is built stays so

@@ -2,7 +2,6 @@
 use Prim.Native.Nat.{ℕ, _<_}
 use mathlib.Core.Path.{_≡_, refl, ap}
 use mathlib.Core.List.{List, []}
-use mathlib.Core.Logic.{inl}
 use mathlib.Core.Option.{some}
 use native.Mathlib.Omega.{arith}
 use lib.ListN.{drop}
@@ -33,7 +32,7 @@ use Rattle.midst.proofs.FileStands.{accepted-stands}
 use Rattle.desk.specs.Acted.{Acted}
 use Rattle.desk.proofs.Writes.{write-long}
 use Rattle.desk.proofs.Accepts.{accepts, acted, acted-data}
-use Rattle.desk.proofs.Known.{built-build, built-open, built-read, built-write, built-control, built-collect, built-close, built-counts, four-read, four-collect, counts-done}
+use Rattle.desk.proofs.Known.{built-build, built-open, built-read, built-write, built-control, built-collect, built-close, built-counts, counts-done}
 
 module _ (fr : List ℕ) {xs blocks buffers : List ℕ} (never : (d : Desk) (s : Alloc) → StandsFor xs blocks buffers d s → refusalOf (respond d (event fr) .reply) ≡ 0) where
   module _ (f r b n x : ℕ) (said : frameOf fr ≡ Event (Build f r b n x)) where
@@ -65,7 +64,7 @@ module _ (fr : List ℕ) {xs blocks buffers : List ℕ} (never : (d : Desk) (s :
         → Gave f d s (ask (fileOf d f) (calls.read p n)) blocks buffers memory xs′ blocks′ buffers′ memory′ a k → Acted d s (event fr) blocks buffers memory xs′ blocks′ buffers′ memory′ a k
     unfolding frameAsks
     act-read d s S memory xs′ blocks′ buffers′ memory′ a k G =
-        acted-data fr (Read f p n) (calls.read p n) f said refl never d s S memory xs′ blocks′ buffers′ memory′ a k (built-read d f p n (ok-read d s S)) (four-read d f p n (ok-read d s S)) G
+        acted-data fr (Read f p n) (calls.read p n) f said refl never d s S memory xs′ blocks′ buffers′ memory′ a k (built-read d f p n (ok-read d s S)) G
 
   module _ (f p n : ℕ) (said : frameOf fr ≡ Event (Write f p n)) where
     pub ok-write : outcome.Accepted f (calls.write p n (drop writeHead fr)) xs blocks buffers
@@ -96,7 +95,7 @@ module _ (fr : List ℕ) {xs blocks buffers : List ℕ} (never : (d : Desk) (s :
         → Gave f d s (ask (fileOf d f) (calls.collect p)) blocks buffers memory xs′ blocks′ buffers′ memory′ a k → Acted d s (event fr) blocks buffers memory xs′ blocks′ buffers′ memory′ a k
     unfolding frameAsks
     act-collect d s S memory xs′ blocks′ buffers′ memory′ a k G =
-        acted-data fr (Collect f p) (calls.collect p) f said refl never d s S memory xs′ blocks′ buffers′ memory′ a k (built-collect d f p (ok-collect d s S)) (four-collect d f p (ok-collect d s S)) G
+        acted-data fr (Collect f p) (calls.collect p) f said refl never d s S memory xs′ blocks′ buffers′ memory′ a k (built-collect d f p (ok-collect d s S)) G
 
   module _ (f p : ℕ) (said : frameOf fr ≡ Event (Close f p)) where
     pub ok-close : outcome.Accepted f (calls.close p) xs blocks buffers
@@ -141,5 +140,4 @@ module _ (fr : List ℕ) {xs blocks buffers : List ℕ} (never : (d : Desk) (s :
         size = refl;
         most = omega arith;
         behind = refl;
-        four = inl refl;
       }

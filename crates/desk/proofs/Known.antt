@@ -1,34 +1,27 @@
--- Of each accepted event: the file is built behind it, and where a record's data follow the answer has four bytes.
+-- Of each accepted event: the file is built behind it.
 use Prim.Native.Nat.{ℕ, _<_}
 use mathlib.Core.Path.{_≡_, refl, sym, ap, _∙_, subst}
 use mathlib.Core.List.{List, []}
-use mathlib.Core.Logic.{inl, inr}
 use mathlib.Core.Option.{Option}
-use lib.Dec.{eqb}
 use lib.ListN.{length}
 use Rattle.kinds.specs.declared.Answer.{Answer}
 use Rattle.kinds.specs.declared.Control.{Control}
 use Rattle.rules.specs.Limits.{files}
-use Rattle.rules.specs.State.{Hap, Req, idle, reading, writing, readDone, writeDone, Acc, Built, built}
-use Rattle.rules.specs.Store.{fetch}
+use Rattle.rules.specs.State.{Hap, Built, built}
 use Rattle.rules.specs.Count.{countBytes}
-use Rattle.rules.specs.Requests.{writers}
-use Rattle.rules.specs.Answers.{answerBytes}
-use Rattle.rules.specs.Reply.{Out, hushed, leaves, answering, status}
-use Rattle.rules.specs.Transfer.{mayWait, readOn, collected, collect}
+use Rattle.rules.specs.Reply.{Out, hushed, leaves, answering}
+use Rattle.rules.specs.Transfer.{collect}
 use Rattle.rules.specs.Calls.{ask}
 use Rattle.rules.specs.Calls as calls
 use Rattle.rules.specs.Counts as counting
 use Rattle.rules.specs.Desk.{Desk, on, fileOf, withFile, answered}
 use Rattle.rules.specs.Allocation.{Alloc, allotAll}
-use Rattle.rules.proofs.Split.{both, opt}
 use Rattle.laws.specs.Runs.{OnFile, Proper}
 use Rattle.laws.proofs.EightFiles.{file-here}
 use Rattle.memory.specs.Fine.{StandsFor}
 use Rattle.midst.specs.Outcome.{refusalOf, Done}
 use Rattle.midst.proofs.Accepted.{accepted-build, accepted-open, accepted-read, accepted-write, accepted-control, accepted-collect, accepted-close, accepted-counts}
 use Rattle.midst.proofs.StandsBehind.{Built′}
-use Rattle.desk.specs.Acted.{Four}
 use Rattle.desk.proofs.Accepts.{built-stays}
 
 -- the file is built
@@ -65,37 +58,6 @@ module _ (d : Desk) (f : ℕ) where
   pub built-counts : refusalOf (answered d (on f calls.counts) .reply) ≡ 0 → Built′ (ask (fileOf d f) calls.counts)
   unfolding Proper
   built-counts e = let k = accepted-counts d f e in built-stays d f _ (k .b) tt (k .stands)
-
--- where the data begin
-
-four-status : (op st : ℕ) (b : Built) → Four (status op st b .reply)
-unfolding Four status answering leaves
-four-status op st b = inl refl
-
-four-on : (p : ℕ) (a : Acc) (n : ℕ) (b : Built) → Four (readOn p a n b .reply)
-unfolding readOn
-four-on p a n b =
-    opt (λ (o : Out). Four (o .reply)) (fetch (b .geo) (a .typed) (a .keep) (b .store) .got)
-    (λ _. both (λ (o : Out). Four (o .reply)) (mayWait (writers b) a) (λ _. four-status 3 1 _) (λ _. four-status 3 2 _))
-    (λ r _. unfold Four leaves answerBytes in inr refl)
-
-four-collected : (st log : ℕ) (d : List ℕ) (p : ℕ) (b : Built) → Four (collected st log d p b .reply)
-unfolding collected
-four-collected st log d p b = both (λ (o : Out). Four (o .reply)) (eqb st 0) (λ _. unfold Four leaves answerBytes in inr refl) (λ _. four-status 6 st _)
-
-four-collects : (p : ℕ) (q : Req) (b : Built) → Four (collect p q b .reply)
-unfolding collect
-four-collects p idle b = four-status 6 39 b
-four-collects p (reading w l k) b = four-status 6 1 b
-four-collects p (writing w d) b = four-status 6 1 b
-four-collects p (readDone st log d) b = four-collected st log d p b
-four-collects p (writeDone st log) b = four-collected st log [] p b
-
-pub four-read : (d : Desk) (f p n : ℕ) → refusalOf (answered d (on f (calls.read p n)) .reply) ≡ 0 → Four (ask (fileOf d f) (calls.read p n) .reply)
-four-read d f p n e = let k = accepted-read d f p n e .known in subst (λ (o : Out). Four (o .reply)) (sym (k .out)) (four-on p (k .a) n _)
-
-pub four-collect : (d : Desk) (f p : ℕ) → refusalOf (answered d (on f (calls.collect p)) .reply) ≡ 0 → Four (ask (fileOf d f) (calls.collect p) .reply)
-four-collect d f p e = let k = accepted-collect d f p e .known in subst (λ (o : Out). Four (o .reply)) (sym (k .out)) (four-collects p (k .a .req) _)
 
 -- counts changes nothing
 

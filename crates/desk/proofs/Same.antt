@@ -1,6 +1,6 @@
 -- The contracts of the functions that act leave nothing open: two results that meet one are the same, in the answer and in all lent memories.
 use Prim.Native.Nat.{ℕ, _<_}
-use mathlib.Core.Path.{_≡_, refl, sym, ap, _∙_}
+use mathlib.Core.Path.{_≡_, refl, sym, ap, _∙_, ap₂}
 use mathlib.Core.List.{List}
 use native.Mathlib.Decide.{ℕ-discrete}
 use lib.ListN.{length}
@@ -8,8 +8,9 @@ use lib.Seq.{sets}
 use borrow.Author.Tests.{lt-ltb}
 use Rattle.kinds.specs.declared.Answer.{Answer}
 use Rattle.kinds.specs.declared.Answer.the-variants.{Passed}
-use Rattle.rules.specs.Limits.{files, answerHead}
+use Rattle.rules.specs.Limits.{files}
 use Rattle.rules.specs.State.{unbuilt}
+use Rattle.rules.specs.Answers.{answerBytes}
 use Rattle.rules.specs.Reply.{Reply, answers, shows}
 use Rattle.rules.specs.Calls.{Ask, ask}
 use Rattle.rules.specs.Calls as calls
@@ -90,7 +91,7 @@ module _ {xs blocks buffers : List ℕ} {d : Desk} {s : Alloc} (S : StandsFor xs
 
   alloc-is : allocAsked d (on f q) s ≡ allotAll f (ask (fileOf d f) q .haps) s
   unfolding allocAsked
-  alloc-is = rw (lt-ltb f files low, allocAsked, happens-here f d q)
+  alloc-is = rw (allocAsked, happens-here f d q low)
 
   covers : Covers (withFile d f (ask (fileOf d f) q .file)) (allotAll f (ask (fileOf d f) q .haps) s)
   unfolding ProperAsked
@@ -124,7 +125,8 @@ module _ {xs blocks buffers : List ℕ} {d : Desk} {s : Alloc} (S : StandsFor xs
   gave-same memory x b y m x′ b′ y′ m′ a a′ n n′ G H =
       let (ex, eb, ey) = outcome-same x b y x′ b′ y′ (G .outcome) (H .outcome) in
       let e : G .bytes ≡ H .bytes = ap dataOf (sym (G .reply) ∙ H .reply) in
-      (ap answerOf (sym (G .reply) ∙ H .reply), G .size ∙ ap length e ∙ sym (H .size), G .behind ∙ ap (sets memory answerHead) e ∙ sym (H .behind), ex, eb, ey)
+      let i : a ≡ a′ = ap answerOf (sym (G .reply) ∙ H .reply) in
+      (i, G .size ∙ ap length e ∙ sym (H .size), G .behind ∙ ap₂ {C = List ℕ} (λ (z : Answer) (zs : List ℕ). sets memory (length (answerBytes z)) zs) i e ∙ sym (H .behind), ex, eb, ey)
 
 -- time, which is lent no blocks
 module _ {xs blocks buffers : List ℕ} {d : Desk} {s : Alloc} (S : StandsFor xs blocks buffers d s) (e : ℕ) where

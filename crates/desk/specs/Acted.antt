@@ -1,14 +1,13 @@
 -- What an event comes to on the way through the call.
 use Prim.Native.Nat.{ℕ, _≤_}
 use mathlib.Core.Path.{_≡_}
-use mathlib.Core.List.{List, []}
-use mathlib.Core.Logic.{_⊎_}
+use mathlib.Core.List.{List}
 use lib.ListN.{length}
 use lib.Seq.{sets}
 use Rattle.kinds.specs.declared.Answer.{Answer}
-use Rattle.rules.specs.Limits.{bufferBytes, answerHead}
+use Rattle.rules.specs.Limits.{bufferBytes}
 use Rattle.rules.specs.Answers.{answerBytes}
-use Rattle.rules.specs.Reply.{Reply, answers, shows}
+use Rattle.rules.specs.Reply.{answers}
 use Rattle.rules.specs.Desk.{Desk, Call, respond}
 use Rattle.rules.specs.Allocation.{Alloc}
 use Rattle.midst.specs.Outcome.{Told, Stays}
@@ -25,10 +24,4 @@ pub record Acted (d : Desk) (s : Alloc) (c : Call) (blocks buffers memory xs′ 
   pub reply : respond d c .reply ≡ answers a bytes
   pub size : n ≡ length bytes
   pub most : n ≤ bufferBytes
-  pub behind : memory′ ≡ sets memory answerHead bytes
-  pub four : (bytes ≡ []) ⊎ (length (answerBytes a) ≡ answerHead)
-
--- the data behind an answer begin where its head ends
-unfoldable pub Four : Reply → Type 0
-Four (answers a bytes) = (bytes ≡ []) ⊎ (length (answerBytes a) ≡ answerHead)
-Four (shows st bytes) = Unit {0}
+  pub behind : memory′ ≡ sets memory (length (answerBytes a)) bytes

@@ -42,10 +42,10 @@ tested P false h k = k
 free-is : (q : Req) → free (outstandingOf q) ≡ isIdle q
 unfolding free outstandingOf isIdle
 free-is idle = refl
-free-is (reading w l k) = refl
-free-is (writing w d) = refl
-free-is (readDone st l d) = refl
-free-is (writeDone st l) = refl
+free-is (reading q) = refl
+free-is (writing q) = refl
+free-is (readDone q) = refl
+free-is (writeDone q) = refl
 
 side-is-writer : (a : Acc) → eqb (sideOf (some a)) 2 ≡ a .writer
 unfolding sideOf
@@ -90,10 +90,10 @@ collected-comes st l d p b h = both (Comes 0) (eqb st 0) (λ _. refl) (λ _. rw 
 pub collect-comes : (p : ℕ) (q : Req) (b : Built) → endOf q < leastRefusal → Comes (nothingRefusal (outstandingOf q)) (transfer.collect p q b)
 unfolding transfer.collect nothingRefusal outstandingOf free endOf leaves status answering refusalOf replyStatus statusOf
 collect-comes p idle b h = refl
-collect-comes p (reading w l k) b h = refl
-collect-comes p (writing w d) b h = refl
-collect-comes p (readDone st l d) b h = collected-comes st l d p b h
-collect-comes p (writeDone st l) b h = collected-comes st l [] p b h
+collect-comes p (reading q) b h = refl
+collect-comes p (writing q) b h = refl
+collect-comes p (readDone q) b h = collected-comes (q .status) (q .log) (q .bytes) p b h
+collect-comes p (writeDone q) b h = collected-comes (q .status) (q .log) [] p b h
 
 -- control
 
@@ -113,10 +113,10 @@ module _ (a : Acc) (b : Built) where
 abort-comes : (p : ℕ) (q : Req) (b : Built) → Comes (nothingRefusal (outstandingOf q)) (controls.abort p q b)
 unfolding controls.abort nothingRefusal outstandingOf free leaves status answering refusalOf replyStatus statusOf
 abort-comes p idle b = refl
-abort-comes p (reading w l k) b = refl
-abort-comes p (writing w d) b = refl
-abort-comes p (readDone st l d) b = refl
-abort-comes p (writeDone st l) b = refl
+abort-comes p (reading q) b = refl
+abort-comes p (writing q) b = refl
+abort-comes p (readDone q) b = refl
+abort-comes p (writeDone q) b = refl
 
 pub control-comes : (p : ℕ) (c : Control) (a : Acc) (b : Built) → Comes (controlRefusal c (sideOf (some a)) (outstandingOf (a .req))) (controls.control p a (some c) b)
 unfolding controls.control controlRefusal leaves answering refusalOf replyStatus statusOf
@@ -135,10 +135,10 @@ code-comes p a b = while-comes a b _ 35 refl
 pub close-comes : (p : ℕ) (a : Acc) (q : Req) (b : Built) → Comes (closeRefusal (outstandingOf q)) (closing.close p a q b)
 unfolding closing.close closeRefusal outstandingOf leaves status answering refusalOf replyStatus statusOf
 close-comes p a idle b = refl
-close-comes p a (reading w l k) b = refl
-close-comes p a (writing w d) b = refl
-close-comes p a (readDone st l d) b = refl
-close-comes p a (writeDone st l) b = refl
+close-comes p a (reading q) b = refl
+close-comes p a (writing q) b = refl
+close-comes p a (readDone q) b = refl
+close-comes p a (writeDone q) b = refl
 
 -- build and open
 

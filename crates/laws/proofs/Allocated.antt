@@ -1,14 +1,14 @@
 -- The allocation after any run from a fresh desk: each entry is in exactly one place, each place of each file holds what its request needs, the
 -- clock is the files' timers in order, and the free list is never dry.
 use mathlib.Core.Path.{_≡_, refl, sym, ap, _∙_}
-use mathlib.Core.Bool.{Bool, true, false, cond}
+use mathlib.Core.Bool.{Bool, true, false}
 use mathlib.Core.List.{List, [], _∷_}
 use mathlib.Core.Option.{Option}
 use Prim.Native.Nat.{ℕ, _+_, _*_, _≤_, _<_}
 use native.Mathlib.Omega.{arith}
 use lib.Dec.{ltb, eqb}
 use lib.ListN.{length, length-replicate}
-use borrow.Author.Tests.{ltb-true, lt-ltb, eq-eqb, ne-eqb}
+use borrow.Author.Tests.{ltb-true, lt-ltb, eqb-true, eq-eqb, ne-eqb}
 use Rattle.rules.specs.Limits.{files, places, entries}
 use Rattle.rules.specs.State.{Req, Acc, Timer, unbuilt}
 use Rattle.rules.specs.Calls.{Ask, ask}
@@ -84,17 +84,21 @@ passes d s e A = record {
   calm = λ g b. rw (answered-time d g e) (ages-calm e (fileOf d g));
 }
 
-pub happens-here : (f : ℕ) (d : Desk) (q : Ask) → happens f d (on f q) ≡ ask (fileOf d f) q .haps
+pub happens-here : (f : ℕ) (d : Desk) (q : Ask) → f < files → happens f d (on f q) ≡ ask (fileOf d f) q .haps
 unfolding happens
-happens-here f d q = rw (eq-eqb f f refl, happens)
+happens-here f d q h = rw (eq-eqb f f refl, lt-ltb f files h, happens)
+
+pub happens-nowhere : (f : ℕ) (d : Desk) (q : Ask) → ltb f files ≡ false → happens f d (on f q) ≡ []
+unfolding happens
+happens-nowhere f d q h = rw (eq-eqb f f refl, h, happens)
 
 pub answers : (d : Desk) (s : Alloc) (a : Asked) → ProperAsked a → Agreed d s → Agreed (answered d a .desk) (allocAsked d a s)
 unfolding allocAsked ProperAsked
 answers d s (on f q) k A = go (ltb f files) refl
   where
-    go : (t : Bool) → ltb f files ≡ t → Agreed (answered d (on f q) .desk) (cond t (allotAll f (happens f d (on f q)) s) s)
-    go true e = rw (happens-here f d q) (asks d s f q (ltb-true f files e) k A)
-    go false e = unfold answered in rw (e, answered) A
+    go : (t : Bool) → ltb f files ≡ t → Agreed (answered d (on f q) .desk) (allotAll f (happens f d (on f q)) s)
+    go true e = rw (happens-here f d q (ltb-true f files e)) (asks d s f q (ltb-true f files e) k A)
+    go false e = unfold answered allotAll in rw (e, answered, happens-nowhere f d q e) A
 answers d s (time e) k A = passes d s e A
 answers d s bad k A = unfold answered in A
 
@@ -159,7 +163,7 @@ module _ (d : Desk) (s : Alloc) (A : Agreed d s) where
   feeds f (on g q) h k = go (eqb g f) refl
     where
       go : (t : Bool) → eqb g f ≡ t → Fed f (happens f d (on g q)) s
-      go true e = rw (e, happens) (comes f h s (fileOf d f) q k (A .calm f h) (stand d s f h A) .fed)
+      go true e = rw (eqb-true g f e, happens-here f d q h) (comes f h s (fileOf d f) q k (A .calm f h) (stand d s f h A) .fed)
       go false e = rw (e, happens) (unfold Fed in tt)
   feeds f (time e) h k = ages-fed f e s (fileOf d f) (A .calm f h)
   feeds f bad h k = unfold Fed in tt

@@ -28,8 +28,8 @@ use Rattle.laws.proofs.Lift.{lifted}
 
 bounded-ends : (words st : ℕ) (r q : Req) → Ends st r q → Bounded words r → Bounded words q
 unfolding Bounded
-bounded-ends words st r q (readEnds h n) k = (omega (arith, h, k), n)
-bounded-ends words st r q (writeEnds n) k = n
+bounded-ends words st r q (readEnds e h n) k = (omega (arith, h, k), omega (arith, e, n))
+bounded-ends words st r q (writeEnds e n) k = omega (arith, e, n)
 
 -- what a file's request at p holds
 pub bounds-at : (p : ℕ) (a : Acc) (r : Req) (b : Built) → accAt b p ≡ some a → a .req ≡ r → Bounds b → Bounded (b .geo .words) r
@@ -55,12 +55,12 @@ bounds-walks = record {
   mild = mild-keeps Bounds bounds-alike;
   finishes = bounds-finish;
   cancels = λ p a b e _ s. bounds-req idle p a b e tt s;
-  readWaits = λ p n l wd k a b e _ _ h s. wait-keeps Bounds false p n _ b (λ _ _ _ _. bounds-req (reading wd l k) p a b e h s);
-  writeWaits = λ p n wd d a b e _ _ h s. wait-keeps Bounds true p n _ b (λ _ _ _ _. bounds-req (writing wd d) p a b e h s);
+  readWaits = λ p n q a b e _ _ h s. wait-keeps Bounds false p n _ b (λ _ _ _ _. bounds-req (reading q) p a b e h s);
+  writeWaits = λ p n q a b e _ _ h s. wait-keeps Bounds true p n _ b (λ _ _ _ _. bounds-req (writing q) p a b e h s);
   frees = λ p a b e _ s. bounds-req idle p a b e tt s;
-  fetches = λ typed keep b s. s;
+  fetches = λ p typed keep b s. s;
   writes = λ p a d b _ _ _ _ s. s;
-  serves = λ p a wd d b _ _ _ s. s;
+  serves = λ p a q b _ _ _ s. s;
   enters = λ k b s. enter-keeps Bounds bounds-alike _ b refl s;
   joins = λ access n k b _ _ s. enter-keeps Bounds bounds-alike _ _ refl (purged-keeps Bounds access b (λ _. s) s);
   leaves = λ p a b e i _ s. vacate-keeps Bounds bounds-alike p a b e i s;
@@ -88,10 +88,10 @@ bounded f cs = lifted Bounds (λ n. Bounds) bounds-walks (lapsed Bounds (λ n. B
 length-lies : (words : ℕ) (q : Req) → words ≤ mostWords → Bounded words q → length (lies q) ≤ bufferBytes
 unfolding lies Bounded
 length-lies words idle h k = omega arith
-length-lies words (reading w l kp) h k = omega arith
-length-lies words (writing w d) h k = omega arith
-length-lies words (readDone st g d) h k = k .0
-length-lies words (writeDone st g) h k = omega arith
+length-lies words (reading q) h k = omega arith
+length-lies words (writing q) h k = omega arith
+length-lies words (readDone q) h k = k .0
+length-lies words (writeDone q) h k = omega arith
 
 pub length-buffer : (words : ℕ) (o : Option Acc) → words ≤ mostWords → Bounded words (reqOf o) → length (buffer o) ≡ bufferBytes
 unfolding buffer reqOf

@@ -48,10 +48,10 @@ begun-mild a = (refl, refl, refl, refl)
 pub is-idle : (q : Req) → isIdle q ≡ true → q ≡ idle
 unfolding isIdle
 is-idle idle e = refl
-is-idle (reading w l k) e = absurd (true≢false (sym e))
-is-idle (writing w d) e = absurd (true≢false (sym e))
-is-idle (readDone s l d) e = absurd (true≢false (sym e))
-is-idle (writeDone s l) e = absurd (true≢false (sym e))
+is-idle (reading q) e = absurd (true≢false (sym e))
+is-idle (writing q) e = absurd (true≢false (sym e))
+is-idle (readDone q) e = absurd (true≢false (sym e))
+is-idle (writeDone q) e = absurd (true≢false (sym e))
 
 pub readable-bytes : (n : ℕ) → readable n ≡ true → countBytes n ≤ mostReadBytes
 unfolding readable countBytes
@@ -76,10 +76,10 @@ module _ (I R : Built → Type 0) (J : ℕ → Built → Type 0) (w : Walks I J)
   at-read : (p : ℕ) (a : Acc) (n : ℕ) (b : Built) → accAt b p ≡ some a → a .req ≡ idle → a .writer ≡ false → countBytes n ≤ mostReadBytes → I b → G (readOn p a n b)
   unfolding readOn status answering
   at-read p a n b e i h l s =
-      let c = begins p _ (w .fetches (a .typed) (a .keep) b s) in
+      let c = begins p _ (w .fetches p (a .typed) (a .keep) b s) in
       opt G (fetch (b .geo) (a .typed) (a .keep) (b .store) .got)
       (λ _. both G (mayWait (writers b) a)
-      (λ _. settled-out _ _ (w .readWaits p _ _ _ _ (begun a) _ (begun-at p a _ (behind-at p _ b ∙ e)) (unfold begun in i) (unfold begun in h) l c))
+      (λ _. settled-out _ _ (w .readWaits p _ _ (begun a) _ (begun-at p a _ (behind-at p _ b ∙ e)) (unfold begun in i) (unfold begun in h) l c))
       (λ _. settled-out _ _ c))
       (λ r _. settled-out _ _ c)
 
@@ -89,7 +89,7 @@ module _ (I R : Built → Type 0) (J : ℕ → Built → Type 0) (w : Walks I J)
       both G (fits b && isNil (b .wq))
       (λ t. settled-out _ _ (begins p _ (w .writes p a d b e h l (and-left (fits b) _ t) s)))
       (λ _. both G (mayWait (readers b) a)
-      (λ _. settled-out _ _ (w .writeWaits p _ _ d (begun a) (alterAcc p begun b) (begun-at p a b e) i h l (begins p b s)))
+      (λ _. settled-out _ _ (w .writeWaits p _ _ (begun a) (alterAcc p begun b) (begun-at p a b e) i h l (begins p b s)))
       (λ _. settled-out _ _ (begins p b s)))
 
   at-open : (access share multi : ℕ) (b : Built) → I b → R b → G (openFile access share multi b)
@@ -122,10 +122,10 @@ module _ (I R : Built → Type 0) (J : ℕ → Built → Type 0) (w : Walks I J)
   at-abort : (p : ℕ) (a : Acc) (q : Req) (b : Built) → accAt b p ≡ some a → a .req ≡ q → I b → R b → G (abort p q b)
   unfolding abort status answering waitsRead waitsWrite
   at-abort p a idle b e r s z = g _ b s z
-  at-abort p a (reading wd l k) b e r s z = g _ _ (w .cancels p a b e (ap awaits r) s) (st .cancels p b z)
-  at-abort p a (writing wd d) b e r s z = g _ _ (w .cancels p a b e (ap awaits r) s) (st .cancels p b z)
-  at-abort p a (readDone s′ l d) b e r s z = g _ b s z
-  at-abort p a (writeDone s′ l) b e r s z = g _ b s z
+  at-abort p a (reading q) b e r s z = g _ _ (w .cancels p a b e (ap awaits r) s) (st .cancels p b z)
+  at-abort p a (writing q) b e r s z = g _ _ (w .cancels p a b e (ap awaits r) s) (st .cancels p b z)
+  at-abort p a (readDone q) b e r s z = g _ b s z
+  at-abort p a (writeDone q) b e r s z = g _ b s z
 
   at-control : (p : ℕ) (a : Acc) (c : Option Control) (b : Built) → accAt b p ≡ some a → I b → R b → G (control p a c b)
   unfolding control status answering Mild isWriter setTimeout setExtended setTyped setKeep
@@ -146,18 +146,18 @@ module _ (I R : Built → Type 0) (J : ℕ → Built → Type 0) (w : Walks I J)
   at-collect : (p : ℕ) (a : Acc) (q : Req) (b : Built) → accAt b p ≡ some a → a .req ≡ q → I b → R b → G (collect p q b)
   unfolding collect status answering uncollected
   at-collect p a idle b e r s z = g _ b s z
-  at-collect p a (reading wd l k) b e r s z = g _ b s z
-  at-collect p a (writing wd d) b e r s z = g _ b s z
-  at-collect p a (readDone s′ l d) b e r s z = collects s′ l d p a b e (ap uncollected r) s z
-  at-collect p a (writeDone s′ l) b e r s z = collects s′ l [] p a b e (ap uncollected r) s z
+  at-collect p a (reading q) b e r s z = g _ b s z
+  at-collect p a (writing q) b e r s z = g _ b s z
+  at-collect p a (readDone q) b e r s z = collects (q .status) (q .log) (q .bytes) p a b e (ap uncollected r) s z
+  at-collect p a (writeDone q) b e r s z = collects (q .status) (q .log) [] p a b e (ap uncollected r) s z
 
   at-close : (p : ℕ) (a : Acc) (q : Req) (b : Built) → accAt b p ≡ some a → a .req ≡ q → I b → R b → G (close p a q b)
   unfolding close status answering withReq waitsRead waitsWrite
   at-close p a idle b e r s z = settled-out _ _ (closes I J w p a a b e refl refl r s)
-  at-close p a (reading wd l k) b e r s z = settled-out _ _ (closes I J w p a (withReq idle a) (cancel p b) (cancel-at p a b e) refl refl refl (w .cancels p a b e (ap awaits r) s))
-  at-close p a (writing wd d) b e r s z = settled-out _ _ (closes I J w p a (withReq idle a) (cancel p b) (cancel-at p a b e) refl refl refl (w .cancels p a b e (ap awaits r) s))
-  at-close p a (readDone s′ l d) b e r s z = g _ b s z
-  at-close p a (writeDone s′ l) b e r s z = g _ b s z
+  at-close p a (reading q) b e r s z = settled-out _ _ (closes I J w p a (withReq idle a) (cancel p b) (cancel-at p a b e) refl refl refl (w .cancels p a b e (ap awaits r) s))
+  at-close p a (writing q) b e r s z = settled-out _ _ (closes I J w p a (withReq idle a) (cancel p b) (cancel-at p a b e) refl refl refl (w .cancels p a b e (ap awaits r) s))
+  at-close p a (readDone q) b e r s z = g _ b s z
+  at-close p a (writeDone q) b e r s z = g _ b s z
 
   may-read : (p : ℕ) (a : Acc) (n : ℕ) (b : Built) → accAt b p ≡ some a → I b → R b → G (read p a n b)
   unfolding read status answering
@@ -186,10 +186,10 @@ module _ (I R : Built → Type 0) (J : ℕ → Built → Type 0) (w : Walks I J)
   looks-req : (q : Req) (b : Built) → I b → R b → G (lookReq q b)
   unfolding lookReq
   looks-req idle b s z = looks-file b s z
-  looks-req (reading wd l k) b s z = looks-file b s z
-  looks-req (writing wd d) b s z = looks-file b s z
-  looks-req (readDone s′ l d) b s z = both G (eqb s′ 0) (λ _. g _ b s z) (λ _. looks-file b s z)
-  looks-req (writeDone s′ l) b s z = looks-file b s z
+  looks-req (reading q) b s z = looks-file b s z
+  looks-req (writing q) b s z = looks-file b s z
+  looks-req (readDone q) b s z = both G (eqb (q .status) 0) (λ _. g _ b s z) (λ _. looks-file b s z)
+  looks-req (writeDone q) b s z = looks-file b s z
 
   looks : (a : Acc) (b : Built) → I b → R b → G (look a b)
   unfolding look

@@ -1,16 +1,14 @@
 -- The cases of a turn and of a request that fails, for laws that follow them.
 use mathlib.Core.Path.{_≡_, refl, ap, _∙_}
-use mathlib.Core.Bool.{Bool, true, false}
+use mathlib.Core.Bool.{true, false}
 use mathlib.Core.List.{List, [], _∷_}
 use mathlib.Core.Option.{none, some}
 use Prim.Native.Nat.{ℕ, _<_}
 use native.Mathlib.Omega.{arith}
-use lib.ListN.{length}
-use Rattle.rules.specs.State.{Rec, Req, idle, reading, writing, readDone, writeDone, Acc, Built}
+use Rattle.rules.specs.State.{Rec, Wanted, Offered, Req, idle, reading, writing, readDone, writeDone, Acc, Built}
 use Rattle.rules.specs.Store.{fetch}
-use Rattle.rules.specs.Count.{logOf}
 use Rattle.rules.specs.Requests.{accAt, fits, putRec, behind, finish, failReq, fail}
-use Rattle.rules.specs.Settle.{handed, readResult, dataRec, Turn, still, onward, serveReader, serveWriter, atHead, turn}
+use Rattle.rules.specs.Settle.{handed, readResult, writeResult, dataRec, Turn, still, onward, serveReader, serveWriter, atHead, turn}
 use Rattle.rules.proofs.Split.{both, opt, pick-true, pick-false}
 use Rattle.laws.specs.Bounds.{leastRefusal}
 use Rattle.laws.specs.Outstanding.{reqOf, reqAt, waitsRead, waitsWrite, awaits}
@@ -18,26 +16,27 @@ use Rattle.laws.specs.Changes.{Ends, readEnds, writeEnds}
 
 -- a reader that does not wait; one that finds nothing; one that is served
 pub reader-cases : (P : Turn → Type 0) (p : ℕ) (a : Acc) (q : Req) (b : Built) → (waitsRead q ≡ 0 → serveReader p a q b ≡ still b → P (still b))
-    → ((w k : Bool) (l : ℕ) → q ≡ reading w l k → fetch (b .geo) (a .typed) k (b .store) .got ≡ none → P (still (behind (fetch (b .geo) (a .typed) k (b .store)) b)))
-    → ((w k : Bool) (l : ℕ) (r : Rec) → q ≡ reading w l k → fetch (b .geo) (a .typed) k (b .store) .got ≡ some r → P (onward (finish p 0 (readResult w (handed (a .typed) l r)) (behind (fetch (b .geo) (a .typed) k (b .store)) b))))
+    → ((x : Wanted) → q ≡ reading x → fetch (b .geo) (a .typed) (x .keep) (b .store) .got ≡ none → P (still (behind p (fetch (b .geo) (a .typed) (x .keep) (b .store)) b)))
+    → ((x : Wanted) (r : Rec) → q ≡ reading x → fetch (b .geo) (a .typed) (x .keep) (b .store) .got ≡ some r
+    → P (onward (finish p 0 (readResult (x .words) (handed (a .typed) (x .limit) r)) (behind p (fetch (b .geo) (a .typed) (x .keep) (b .store)) b))))
     → P (serveReader p a q b)
 unfolding serveReader waitsRead
-reader-cases P p a (reading w l k) b i n s = opt P (fetch (b .geo) (a .typed) k (b .store) .got) (n w k l refl) (λ r. s w k l r refl)
+reader-cases P p a (reading q) b i n s = opt P (fetch (b .geo) (a .typed) (q .keep) (b .store) .got) (n q refl) (λ r. s q r refl)
 reader-cases P p a idle b i n s = i refl refl
-reader-cases P p a (writing w d) b i n s = i refl refl
-reader-cases P p a (readDone st l d) b i n s = i refl refl
-reader-cases P p a (writeDone st l) b i n s = i refl refl
+reader-cases P p a (writing q) b i n s = i refl refl
+reader-cases P p a (readDone q) b i n s = i refl refl
+reader-cases P p a (writeDone q) b i n s = i refl refl
 
 -- a writer that does not wait; one whose record does not fit; one that is served
 pub writer-cases : (P : Turn → Type 0) (p : ℕ) (a : Acc) (q : Req) (b : Built) → (waitsWrite q ≡ 0 → P (still b)) → (fits b ≡ false → P (still b))
-    → ((w : Bool) (d : List ℕ) → q ≡ writing w d → fits b ≡ true → P (onward (finish p 0 (writeDone 0 (logOf w (length d))) (putRec (dataRec a d) b))))
+    → ((x : Offered) → q ≡ writing x → fits b ≡ true → P (onward (finish p 0 (writeResult x) (putRec (dataRec a (x .bytes)) b))))
     → P (serveWriter p a q b)
 unfolding serveWriter waitsWrite
-writer-cases P p a (writing w d) b i n s = both P (fits b) (s w d refl) n
+writer-cases P p a (writing q) b i n s = both P (fits b) (s q refl) n
 writer-cases P p a idle b i n s = i refl
-writer-cases P p a (reading w l k) b i n s = i refl
-writer-cases P p a (readDone st l d) b i n s = i refl
-writer-cases P p a (writeDone st l) b i n s = i refl
+writer-cases P p a (reading q) b i n s = i refl
+writer-cases P p a (readDone q) b i n s = i refl
+writer-cases P p a (writeDone q) b i n s = i refl
 
 -- nobody at the head; somebody
 pub head-cases : (P : Turn → Type 0) (serve : ℕ → Acc → Req → Built → Turn) (l : List ℕ) (b : Built) → (atHead serve l b ≡ still b → P (still b))
@@ -72,7 +71,7 @@ fail-cases P p st b i f n = opt P (accAt b p) (λ e. i (ap awaits (ap reqOf e)))
   where
     go : (a : Acc) → accAt b p ≡ some a → (q : Req) → a .req ≡ q → P (failReq p st q b)
     go a e idle r = unfold failReq in i (ap awaits (ap reqOf e ∙ r))
-    go a e (reading w l k) r = unfold failReq in f _ a _ e r (readEnds (omega arith) n)
-    go a e (writing w d) r = unfold failReq in f _ a _ e r (writeEnds n)
-    go a e (readDone s l d) r = unfold failReq in i (ap awaits (ap reqOf e ∙ r))
-    go a e (writeDone s l) r = unfold failReq in i (ap awaits (ap reqOf e ∙ r))
+    go a e (reading q) r = unfold failReq in f _ a _ e r (readEnds refl (omega arith) n)
+    go a e (writing q) r = unfold failReq in f _ a _ e r (writeEnds refl n)
+    go a e (readDone q) r = unfold failReq in i (ap awaits (ap reqOf e ∙ r))
+    go a e (writeDone q) r = unfold failReq in i (ap awaits (ap reqOf e ∙ r))

@@ -2,6 +2,7 @@
 use mathlib.Core.Path.{_≡_, refl}
 use mathlib.Core.List.{[]}
 use Prim.Native.Nat.{ℕ, _<_}
+use native.Mathlib.Omega.{arith}
 use Rattle.rules.specs.Limits.{files}
 use Rattle.rules.specs.State.{Rec, Geo, Store, puts, Built, File, unbuilt, built}
 use Rattle.rules.specs.Store.{emptyStore}
@@ -12,15 +13,15 @@ use Rattle.rules.specs.Sheet.{Sheet, loaded}
 use Rattle.rules.specs.Calls.{Ask, askUnbuilt, ask}
 use Rattle.rules.specs.Allocation.{Alloc, allot, allotAll}
 use Rattle.laws.specs.Runs.{OnFile, Proper}
-use Rattle.laws.specs.Entries.{accsOf, timersOf, Calm, takes, Fed}
+use Rattle.laws.specs.Entries.{accsOf, timersOf, Calm, draws, Fed}
 use Rattle.laws.specs.Midst.{Matches, Mid, Comes}
 use Rattle.laws.proofs.Calls.{walked}
 use Rattle.laws.proofs.Made.{made}
 use Rattle.laws.proofs.Lift.{Any, any}
 use Rattle.laws.proofs.Midst.{allotAll-quiet, fed-quiet, mid-walks}
 
-pub puts-quiet : (f : ℕ) (r : Rec) (s : Alloc) → (allot f (puts r) s ≡ s) × (takes (puts r) ≡ 0)
-unfolding allot takes
+pub puts-quiet : (f : ℕ) (r : Rec) (s : Alloc) → (allot f (puts r) s ≡ s) × (draws (puts r) ≡ 0)
+unfolding allot draws
 puts-quiet f r s = (refl, refl)
 
 module _ (f : ℕ) (hf : f < files) (s : Alloc) where
@@ -35,12 +36,12 @@ module _ (f : ℕ) (hf : f < files) (s : Alloc) where
     none-comes r = record { matches = M; fed = tt; calm = tt }
 
     new-mid : (g : Geo) (t : Store) → Mid f s (newFile g t)
-    unfolding newFile allotAll Fed accsOf timersOf
-    new-mid g t = record { matches = M; fed = tt }
+    unfolding newFile allotAll allot Fed draws accsOf timersOf
+    new-mid g t = record { matches = M; fed = (omega arith, tt) }
 
     loaded-mid : (t : Sheet) → Mid f s (loaded t)
-    unfolding loaded newFile say accsOf timersOf
-    loaded-mid t = record { matches = rw (allotAll-quiet f puts (puts-quiet f) (t .recs) s) M; fed = fed-quiet f puts (puts-quiet f) (t .recs) s }
+    unfolding loaded newFile say allotAll allot Fed draws accsOf timersOf
+    loaded-mid t = record { matches = rw (allotAll-quiet f puts (puts-quiet f) (t .recs) s) M; fed = (omega arith, fed-quiet f puts (puts-quiet f) (t .recs) s) }
 
     new-comes : (q : Ask) → Comes f s (askUnbuilt q)
     new-comes q = made (Comes f s) none-comes (λ r g _. mid-comes r _ (new-mid g emptyStore)) (λ r t _. mid-comes r _ (loaded-mid t)) q

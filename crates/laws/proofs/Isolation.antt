@@ -28,7 +28,7 @@ ownHears f x (call q) = elim (ltb f files) [ true ↦ ask x q .reply ∷ [] | fa
 ownHears f x (wait e) = []
 
 unfoldable pub ownHaps : ℕ → File → Own → List Hap
-ownHaps f x (call q) = ask x q .haps
+ownHaps f x (call q) = elim (ltb f files) [ true ↦ ask x q .haps | false ↦ [] ]
 ownHaps f x (wait e) = timeHaps e x
 
 unfoldable pub ownAfter : ℕ → File → List Own → File
@@ -83,7 +83,7 @@ unfolding mine ownPast happens ownHaps
 step-haps f d (on g q) = go (eqb g f) refl
   where
     go : (t : Bool) → eqb g f ≡ t → happens f d (on g q) ≡ ownPast f (fileOf d f) (mine f (on g q))
-    go true e = rw (e, happens, mine) (sym (append-nil _))
+    go true e = rw (e, happens, mine, eqb-true g f e) (sym (append-nil _))
     go false e = rw (e, happens, mine)
 step-haps f d (time e) = sym (append-nil _)
 step-haps f d bad = refl

@@ -18,7 +18,7 @@ use Rattle.laws.specs.Runs.{OnFile}
 use Rattle.laws.specs.Outstanding.{reqAt, outstanding}
 use Rattle.laws.specs.Changes.{Finishes}
 use Rattle.laws.specs.Timers.{Clock}
-use Rattle.laws.specs.Entries.{entriesOf, size, sieve, accsOf, timersOf, Calm, takes, Fed}
+use Rattle.laws.specs.Entries.{entriesOf, size, sieve, accsOf, timersOf, Calm, draws, Fed}
 use Rattle.laws.specs.Midst.{Steps, here, Matches}
 use Rattle.laws.proofs.Outstanding.{outstanding-most}
 use Rattle.laws.proofs.Cases.{fail-cases}
@@ -120,4 +120,4 @@ ages-fed f e s unbuilt c = unfold Fed in tt
 ages-fed f e s (built b) c = fails-all (λ d. Fed f (d .past) s) more 22 (due e (b .timers)) b (rw c (unfold Fed in tt)) (omega arith)
   where
     more : Finishes (λ d. Fed f (d .past) s)
-    more p st q a r d _ _ _ h = unfold finish say leave withTimers requeue alterAcc withAccs withQueues in fed-append f (d .past) (ends p st ∷ []) s h (unfold Fed takes in (omega arith, tt))
+    more p st q a r d _ _ _ h = unfold finish say leave withTimers requeue alterAcc withAccs withQueues in fed-append f (d .past) (ends p st ∷ []) s h (unfold Fed draws in (omega arith, tt))

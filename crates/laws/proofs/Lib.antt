@@ -34,3 +34,4 @@ pub mod Midst
 pub mod Comes
 pub mod Lapses
 pub mod Allocated
+pub mod Told

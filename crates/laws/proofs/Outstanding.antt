@@ -20,10 +20,10 @@ use Rattle.laws.proofs.Counts.{at-or-else}
 pub outstanding-most : (q : Req) → outstanding q ≤ 1
 unfolding waitsRead waitsWrite uncollected
 outstanding-most idle = omega arith
-outstanding-most (reading w l k) = omega arith
-outstanding-most (writing w d) = omega arith
-outstanding-most (readDone st l d) = omega arith
-outstanding-most (writeDone st l) = omega arith
+outstanding-most (reading q) = omega arith
+outstanding-most (writing q) = omega arith
+outstanding-most (readDone q) = omega arith
+outstanding-most (writeDone q) = omega arith
 
 pub outstanding-idle : (q : Req) → q ≡ idle → outstanding q ≡ 0
 unfolding waitsRead waitsWrite uncollected
@@ -32,8 +32,8 @@ outstanding-idle q e = ap outstanding e
 -- a request that completes waits no more, and is still outstanding
 pub outstanding-ends : {st : ℕ} {r q : Req} → Ends st r q → (outstanding r ≡ 1) × (awaits q ≡ 0) × (outstanding q ≡ 1)
 unfolding waitsRead waitsWrite uncollected
-outstanding-ends (readEnds h n) = (refl, refl, refl)
-outstanding-ends (writeEnds n) = (refl, refl, refl)
+outstanding-ends (readEnds e h n) = (refl, refl, refl)
+outstanding-ends (writeEnds e n) = (refl, refl, refl)
 
 -- the accessors of a file
 

@@ -1,6 +1,6 @@
 -- The records of a file are good, after any run from a fresh desk.
 use mathlib.Core.Path.{_≡_, refl, subst}
-use mathlib.Core.Bool.{Bool, true, false}
+use mathlib.Core.Bool.{true, false}
 use mathlib.Core.List.{List, [], _∷_}
 use mathlib.Core.Option.{some}
 use Prim.Native.Nat.{ℕ, _+_, _*_, _≤_, _<_}
@@ -9,7 +9,7 @@ use lib.ListN.{length}
 use borrow.Author.Tests.{leb-true}
 use Rattle.rules.specs.Limits.{mostType}
 use Rattle.rules.specs.Geometry.{capacity}
-use Rattle.rules.specs.State.{Rec, writing, Acc, Geo, Built}
+use Rattle.rules.specs.State.{Rec, Offered, writing, Acc, Geo, Built}
 use Rattle.rules.specs.Store.{used, emptyStore, purge}
 use Rattle.rules.specs.Requests.{writers, capacityOf, fits, accAt, withAccs, withQueues, withTimers, withStore, alterAcc, say, putRec, behind, requeue, leave, finish, cancel, freed}
 use Rattle.rules.specs.Settle.{dataRec}
@@ -57,9 +57,9 @@ records-put r b k h l u g s = all-put GoodRec (b .geo) (good-sized (b .geo) k) r
 writer-id : (p : ℕ) (a : Acc) (b : Built) → accAt b p ≡ some a → a .writer ≡ true → Sides b → 1 ≤ a .ident
 writer-id p a b e w s = s p a e .writer w
 
-waiting-writer : (p : ℕ) (a : Acc) (wd : Bool) (d : List ℕ) (b : Built) → accAt b p ≡ some a → a .req ≡ writing wd d → Sides b → a .writer ≡ true
+waiting-writer : (p : ℕ) (a : Acc) (q : Offered) (b : Built) → accAt b p ≡ some a → a .req ≡ writing q → Sides b → a .writer ≡ true
 unfolding Fitting
-waiting-writer p a wd d b e i s = subst (Fitting (a .writer)) i (s p a e .request)
+waiting-writer p a q b e i s = subst (Fitting (a .writer)) i (s p a e .request)
 
 used-fits : (b : Built) → fits b ≡ true → used (b .store) < capacity (b .geo .factor) (b .geo .blocks)
 unfolding fits capacityOf
@@ -88,12 +88,12 @@ whole-walks = record {
   mild = λ p f b m s. (sound-walks .mild p f b m (s .0), sides-walks .mild p f b m (s .1), s .2);
   finishes = λ p st q a r b e i k s. (sound-walks .finishes p st q a r b e i k (s .0), sides-walks .finishes p st q a r b e i k (s .1), s .2);
   cancels = λ p a b e i s. (sound-walks .cancels p a b e i (s .0), sides-walks .cancels p a b e i (s .1), s .2);
-  readWaits = λ p n l wd k a b e i w h s. (sound-walks .readWaits p n l wd k a b e i w h (s .0), sides-walks .readWaits p n l wd k a b e i w h (s .1), wait-keeps Records false p n _ b (λ _ _ _ _. s .2));
-  writeWaits = λ p n wd d a b e i w h s. (sound-walks .writeWaits p n wd d a b e i w h (s .0), sides-walks .writeWaits p n wd d a b e i w h (s .1), wait-keeps Records true p n _ b (λ _ _ _ _. s .2));
+  readWaits = λ p n q a b e i w h s. (sound-walks .readWaits p n q a b e i w h (s .0), sides-walks .readWaits p n q a b e i w h (s .1), wait-keeps Records false p n _ b (λ _ _ _ _. s .2));
+  writeWaits = λ p n q a b e i w h s. (sound-walks .writeWaits p n q a b e i w h (s .0), sides-walks .writeWaits p n q a b e i w h (s .1), wait-keeps Records true p n _ b (λ _ _ _ _. s .2));
   frees = λ p a b e i s. (sound-walks .frees p a b e i (s .0), sides-walks .frees p a b e i (s .1), s .2);
-  fetches = λ typed keep b s. (
-    sound-walks .fetches typed keep b (s .0),
-    sides-walks .fetches typed keep b (s .1),
+  fetches = λ p typed keep b s. (
+    sound-walks .fetches p typed keep b (s .0),
+    sides-walks .fetches p typed keep b (s .1),
     all-fetch GoodRec (b .geo) (good-sized (b .geo) (s .0 .1 .geo)) typed keep (b .store) (s .0 .1 .holds) (s .2),
   );
   writes = λ p a d b e w l f s. (
@@ -101,10 +101,10 @@ whole-walks = record {
     sides-walks .writes p a d b e w l f (s .1),
     records-put (dataRec a d) b (s .0 .1 .geo) (s .0 .1 .holds) (unfold dataRec in l) (used-fits b f) (good-data a d (writer-id p a b e w (s .1))) (s .2),
   );
-  serves = λ p a wd d b e i f s. (
-    sound-walks .serves p a wd d b e i f (s .0),
-    sides-walks .serves p a wd d b e i f (s .1),
-    records-put (dataRec a d) b (s .0 .1 .geo) (s .0 .1 .holds) (unfold dataRec in bounds-at p a (writing wd d) b e i (s .0 .0)) (used-fits b f) (good-data a d (writer-id p a b e (waiting-writer p a wd d b e i (s .1)) (s .1))) (s .2),
+  serves = λ p a q b e i f s. (
+    sound-walks .serves p a q b e i f (s .0),
+    sides-walks .serves p a q b e i f (s .1),
+    records-put (dataRec a (q .bytes)) b (s .0 .1 .geo) (s .0 .1 .holds) (unfold dataRec in bounds-at p a (writing q) b e i (s .0 .0)) (used-fits b f) (good-data a (q .bytes) (writer-id p a b e (waiting-writer p a q b e i (s .1)) (s .1))) (s .2),
   );
   enters = λ k b s. (sound-walks .enters k b (s .0), sides-walks .enters k b (s .1), s .2);
   joins = λ access n k b h e s. (sound-walks .joins access n k b h e (s .0), sides-walks .joins access n k b h e (s .1), records-join access n k b h e (s .0 .1) (s .2));

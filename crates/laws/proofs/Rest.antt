@@ -37,7 +37,7 @@ rest-still b r =
     turn-still b
     (head-cases (λ m. m ≡ still b) serveReader (b .rq) b (λ _. refl) (λ p l a e _. reader-empty p a (a .req) b (r .reads p l e)))
     (head-cases (λ m. m ≡ still b) serveWriter (b .wq) b (λ _. refl)
-    (λ p l a e _. writer-cases (λ m. m ≡ still b) p a (a .req) b (λ _. refl) (λ _. refl) (λ w d _ f. absurd (true≢false (sym f ∙ r .writes p l e)))))
+    (λ p l a e _. writer-cases (λ m. m ≡ still b) p a (a .req) b (λ _. refl) (λ _. refl) (λ _ _ f. absurd (true≢false (sym f ∙ r .writes p l e)))))
 
 rest-settle : (b : Built) → Rest b → settle b ≡ b
 unfolding settle
@@ -83,11 +83,11 @@ still-rest b s t = record {
     no-read : (p : ℕ) (a : Acc) → 1 ≤ waitsRead (a .req) → serveReader p a (a .req) b ≡ still b → b .store .recs ≡ []
     no-read p a h = reader-cases (λ m. m ≡ still b → b .store .recs ≡ []) p a (a .req) b
         (λ z _ _. absurd (omega arith))
-        (λ w k l _ g e. unfold still behind say withStore in (sym (ap (λ (m : Turn). m .file .store .recs) e) ∙ recs-fetch-none (b .geo) (a .typed) k (b .store) g))
-        (λ w k l r _ _ e. absurd (moves _ e))
+        (λ x _ g e. unfold still behind say withStore in (sym (ap (λ (m : Turn). m .file .store .recs) e) ∙ recs-fetch-none (b .geo) (a .typed) (x .keep) (b .store) g))
+        (λ _ _ _ _ e. absurd (moves _ e))
 
     no-write : (p : ℕ) (a : Acc) → 1 ≤ waitsWrite (a .req) → serveWriter p a (a .req) b ≡ still b → fits b ≡ false
-    no-write p a h = writer-cases (λ m. m ≡ still b → fits b ≡ false) p a (a .req) b (λ z _. absurd (omega arith)) (λ f _. f) (λ w d _ _ e. absurd (moves _ e))
+    no-write p a h = writer-cases (λ m. m ≡ still b → fits b ≡ false) p a (a .req) b (λ z _. absurd (omega arith)) (λ f _. f) (λ _ _ _ e. absurd (moves _ e))
 
 -- a change of an accessor on its side, and a request that leaves its queue, leave the file at rest
 

@@ -51,9 +51,9 @@ room-wait side p n q b k = wait-keeps Roomy side p n q b (λ r w ts hs. unfold w
 
 -- records go; one is put
 
-room-behind : (typed keep : Bool) (b : Built) → Roomy b → Roomy (behind (fetch (b .geo) typed keep (b .store)) b)
+room-behind : (p : ℕ) (typed keep : Bool) (b : Built) → Roomy b → Roomy (behind p (fetch (b .geo) typed keep (b .store)) b)
 unfolding behind say withStore writers
-room-behind typed keep b k = record {
+room-behind p typed keep b k = record {
   geo = k .geo;
   holds = holds-fetch (b .geo) typed keep (b .store) (k .holds);
   places = omega (arith, k .places, used-fetch (b .geo) typed keep (b .store));
@@ -122,12 +122,12 @@ sound-walks = record {
   mild = λ p f b m s. (bounds-walks .mild p f b m (s .0), room-mild p f b m (s .1));
   finishes = λ p st q a r b e i k s. (bounds-walks .finishes p st q a r b e i k (s .0), rw (writers-withReq q b p) (s .1));
   cancels = λ p a b e i s. (bounds-walks .cancels p a b e i (s .0), rw (writers-withReq idle b p) (s .1));
-  readWaits = λ p n l wd k a b e i w h s. (bounds-walks .readWaits p n l wd k a b e i w h (s .0), room-wait false p n _ b (s .1));
-  writeWaits = λ p n wd d a b e i w h s. (bounds-walks .writeWaits p n wd d a b e i w h (s .0), room-wait true p n _ b (s .1));
+  readWaits = λ p n q a b e i w h s. (bounds-walks .readWaits p n q a b e i w h (s .0), room-wait false p n _ b (s .1));
+  writeWaits = λ p n q a b e i w h s. (bounds-walks .writeWaits p n q a b e i w h (s .0), room-wait true p n _ b (s .1));
   frees = λ p a b e i s. (bounds-walks .frees p a b e i (s .0), rw (writers-withReq idle b p) (s .1));
-  fetches = λ typed keep b s. (bounds-walks .fetches typed keep b (s .0), room-behind typed keep b (s .1));
+  fetches = λ p typed keep b s. (bounds-walks .fetches p typed keep b (s .0), room-behind p typed keep b (s .1));
   writes = λ p a d b e w l f s. (bounds-walks .writes p a d b e w l f (s .0), room-data a d b l f (s .1));
-  serves = λ p a wd d b e i f s. (bounds-walks .serves p a wd d b e i f (s .0), room-data a d b (bounds-at p a (writing wd d) b e i (s .0)) f (s .1));
+  serves = λ p a q b e i f s. (bounds-walks .serves p a q b e i f (s .0), room-data a (q .bytes) b (bounds-at p a (writing q) b e i (s .0)) f (s .1));
   enters = λ k b s. (bounds-walks .enters k b (s .0), room-enter k b (s .1));
   joins = λ access n k b h e s. (bounds-walks .joins access n k b h e (s .0), room-join access n k b e (s .1));
   leaves = λ p a b e i w s. (bounds-walks .leaves p a b e i w (s .0), room-leave p a b e w (s .1));

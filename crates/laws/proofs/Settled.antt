@@ -9,7 +9,7 @@ use native.Mathlib.Nat.{suc-add}
 use lib.ListN.{length}
 use Rattle.rules.specs.State.{Req, Acc, Hap, Built}
 use Rattle.rules.specs.Store.{Found}
-use Rattle.rules.specs.Requests.{accAt, withStore, withAccs, withTimers, withQueues, alterAcc, say, putRec, behind, without, requeue, leave, finish}
+use Rattle.rules.specs.Requests.{accAt, withStore, withAccs, withTimers, withQueues, alterAcc, say, putRec, tookBy, behind, without, requeue, leave, finish}
 use Rattle.rules.specs.Settle.{Turn, still, onward, serveReader, serveWriter, atHead, turn, settleFor, settle}
 use Rattle.rules.proofs.Split.{by-cases, both, pick-true, pick-false}
 use Rattle.occurrences.specs.Count.{count}
@@ -38,26 +38,26 @@ shrunk-left p b c r w h _ = omega (arith, ap length r, ap length w, length-witho
 
 shrunk-reader : (p : ℕ) (a : Acc) (q : Req) (b : Built) → 1 ≤ count p (b .rq) → Shrunk b (serveReader p a q b)
 unfolding finish say leave withTimers requeue alterAcc withAccs withQueues behind withStore
-shrunk-reader p a q b h = reader-cases (Shrunk b) p a q b (λ _ _. shrunk-still b b) (λ w k l _ _. shrunk-still b _) (λ w k l r _ _. shrunk-left p b _ refl refl (omega arith))
+shrunk-reader p a q b h = reader-cases (Shrunk b) p a q b (λ _ _. shrunk-still b b) (λ _ _ _. shrunk-still b _) (λ _ _ _ _. shrunk-left p b _ refl refl (omega arith))
 
 shrunk-writer : (p : ℕ) (a : Acc) (q : Req) (b : Built) → 1 ≤ count p (b .wq) → Shrunk b (serveWriter p a q b)
 unfolding finish say leave withTimers requeue alterAcc withAccs withQueues putRec withStore
-shrunk-writer p a q b h = writer-cases (Shrunk b) p a q b (λ _. shrunk-still b b) (λ _. shrunk-still b b) (λ w d _ _. shrunk-left p b _ refl refl (omega arith))
+shrunk-writer p a q b h = writer-cases (Shrunk b) p a q b (λ _. shrunk-still b b) (λ _. shrunk-still b b) (λ _ _ _. shrunk-left p b _ refl refl (omega arith))
 
 shrunk-head : (serve : ℕ → Acc → Req → Built → Turn) (l : List ℕ) (b : Built) → ((p : ℕ) (a : Acc) → 1 ≤ count p l → Shrunk b (serve p a (a .req) b)) → Shrunk b (atHead serve l b)
 shrunk-head serve l b h = head-cases (Shrunk b) serve l b (λ _. shrunk-still b b) (λ p rest a e _. h p a (rw e (count-head p rest)))
 
 -- a turn that does not move: open and close records at the head may have gone, and a second one changes nothing
 
-behind-nothing : (b : Built) → behind (record { store = b .store; got = none; went = [] }) b ≡ b
-unfolding behind say withStore
-behind-nothing b = ap {B = Built} (λ (l : List Hap). record { geo = b .geo; store = b .store; accs = b .accs; rq = b .rq; wq = b .wq; timers = b .timers; past = l }) (append-nil (b .past))
+behind-nothing : (p : ℕ) (b : Built) → behind p (record { store = b .store; got = none; went = []; took = none }) b ≡ b
+unfolding behind tookBy say withStore
+behind-nothing p b = ap {B = Built} (λ (l : List Hap). record { geo = b .geo; store = b .store; accs = b .accs; rq = b .rq; wq = b .wq; timers = b .timers; past = l }) (append-nil (b .past))
 
 pub reader-empty : (p : ℕ) (a : Acc) (q : Req) (b : Built) → b .store .recs ≡ [] → serveReader p a q b ≡ still b
 reader-empty p a q b e =
     reader-cases (λ m. m ≡ still b) p a q b (λ _ _. refl)
-    (λ w k l _ _. ap still (ap (λ (f : Found). behind f b) (fetch-empty (b .geo) (a .typed) k (b .store) e) ∙ behind-nothing b))
-    (λ w k l r _ g. absurd (Option·some-ne-none r (sym g ∙ ap (λ (f : Found). f .got) (fetch-empty (b .geo) (a .typed) k (b .store) e))))
+    (λ x _ _. ap still (ap (λ (f : Found). behind p f b) (fetch-empty (b .geo) (a .typed) (x .keep) (b .store) e) ∙ behind-nothing p b))
+    (λ x r _ g. absurd (Option·some-ne-none r (sym g ∙ ap (λ (f : Found). f .got) (fetch-empty (b .geo) (a .typed) (x .keep) (b .store) e))))
 
 -- what the first reader's turn leaves
 pub record Stays (l : List ℕ) (b c : Built) : Type 0 where
@@ -68,12 +68,12 @@ pub record Stays (l : List ℕ) (b c : Built) : Type 0 where
 reader-stays : (p : ℕ) (l : List ℕ) (a : Acc) (b : Built) → accAt b p ≡ some a → serveReader p a (a .req) b .moved ≡ false → Stays (p ∷ l) b (serveReader p a (a .req) b .file)
 reader-stays p l a b e = reader-cases (λ m. m .moved ≡ false → Stays (p ∷ l) b (m .file)) p a (a .req) b
     (λ _ s _. unfold still in record { rq = refl; wq = refl; again = atHead-some serveReader p l a b e ∙ s })
-    (λ w k n _ g _. unfold still behind say withStore accAt in record {
+    (λ x _ g _. unfold still behind say withStore accAt in record {
       rq = refl;
       wq = refl;
-      again = atHead-some serveReader p l a _ e ∙ reader-empty p a (a .req) _ (recs-fetch-none (b .geo) (a .typed) k (b .store) g);
+      again = atHead-some serveReader p l a _ e ∙ reader-empty p a (a .req) _ (recs-fetch-none (b .geo) (a .typed) (x .keep) (b .store) g);
     })
-    (λ w k n r _ _ m. absurd (true≢false (unfold onward in m)))
+    (λ _ _ _ _ m. absurd (true≢false (unfold onward in m)))
 
 pub reader-head : (l : List ℕ) (b : Built) → atHead serveReader l b .moved ≡ false → Stays l b (atHead serveReader l b .file)
 reader-head l b =
@@ -83,7 +83,7 @@ reader-head l b =
 pub writer-head : (l : List ℕ) (b : Built) → atHead serveWriter l b .moved ≡ false → atHead serveWriter l b ≡ still b
 writer-head l b =
     head-cases (λ m. m .moved ≡ false → m ≡ still b) serveWriter l b (λ _ _. refl)
-    (λ p rest a _ _. writer-cases (λ m. m .moved ≡ false → m ≡ still b) p a (a .req) b (λ _ _. refl) (λ _ _. refl) (λ w d _ _ m. absurd (true≢false (unfold onward in m))))
+    (λ p rest a _ _. writer-cases (λ m. m .moved ≡ false → m ≡ still b) p a (a .req) b (λ _ _. refl) (λ _ _. refl) (λ _ _ _ m. absurd (true≢false (unfold onward in m))))
 
 pub shrunk-turn : (b : Built) → Shrunk b (turn b)
 shrunk-turn b = by-cases (m .moved) (λ e. rw (turn-reader b e) first) (λ e. rw (turn-writer b e) (second e))

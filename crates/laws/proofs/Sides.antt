@@ -36,8 +36,8 @@ sided-withReq q a h s = record { request = h (s .request); reader = s .reader; w
 
 fitting-ends : {st : ℕ} {r q : Req} (w : Bool) → Ends st r q → Fitting w r → Fitting w q
 unfolding Fitting
-fitting-ends w (readEnds h n) f = f
-fitting-ends w (writeEnds n) f = f
+fitting-ends w (readEnds e h n) f = f
+fitting-ends w (writeEnds e n) f = f
 
 -- all of them
 
@@ -73,12 +73,12 @@ sides-walks = record {
   mild = λ p f b h s. sides-alter f p b (λ a _ t. sided-mild f a h t) s;
   finishes = λ p st q a r b e i k s. sides-withReq q p a b e (λ t. fitting-ends (a .writer) k (rw i at t)) s;
   cancels = λ p a b e _ s. sides-withReq idle p a b e (λ _. tt) s;
-  readWaits = λ p n l wd k a b e _ w _ s. wait-keeps Sides false p n _ b (λ _ _ _ _. sides-withReq (reading wd l k) p a b e (λ _. w) s);
-  writeWaits = λ p n wd d a b e _ w _ s. wait-keeps Sides true p n _ b (λ _ _ _ _. sides-withReq (writing wd d) p a b e (λ _. w) s);
+  readWaits = λ p n q a b e _ w _ s. wait-keeps Sides false p n _ b (λ _ _ _ _. sides-withReq (reading q) p a b e (λ _. w) s);
+  writeWaits = λ p n q a b e _ w _ s. wait-keeps Sides true p n _ b (λ _ _ _ _. sides-withReq (writing q) p a b e (λ _. w) s);
   frees = λ p a b e _ s. sides-withReq idle p a b e (λ _. tt) s;
-  fetches = λ typed keep b s. s;
+  fetches = λ p typed keep b s. s;
   writes = λ p a d b _ _ _ _ s. s;
-  serves = λ p a wd d b _ _ _ s. s;
+  serves = λ p a q b _ _ _ s. s;
   enters = λ k b s. sides-enter _ b (unfold newAcc in record { request = tt; reader = λ _. refl; writer = λ e. absurd (true≢false (sym e)) }) s;
   joins = λ access n k b h _ s. sides-enter _ _ (unfold newAcc in record { request = tt; reader = λ e. absurd (true≢false e); writer = λ _. h }) (purged-keeps Sides access b (λ _. s) s);
   leaves = λ p a b _ _ _ s. sides-vacate p b s;

@@ -41,7 +41,7 @@ discard-empty : (g : Geo) (s : Store) → s .recs ≡ [] → discard g s ≡ s
 unfolding discard dropped advanceBy
 discard-empty g s e = ap (λ (l : List Rec). advanceBy (length (dropped l)) g s) e
 
-pub fetch-empty : (g : Geo) (typed keep : Bool) (s : Store) → s .recs ≡ [] → fetch g typed keep s ≡ record { store = s; got = none; went = [] }
+pub fetch-empty : (g : Geo) (typed keep : Bool) (s : Store) → s .recs ≡ [] → fetch g typed keep s ≡ record { store = s; got = none; went = []; took = none }
 unfolding fetch
 fetch-empty g true keep s e = takeHead-none g keep [] s e
 fetch-empty g false keep s e = rw (discard-empty g s e, ap dropped e) (unfold dropped in takeHead-none g keep [] s e)

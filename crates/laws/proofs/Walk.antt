@@ -11,7 +11,7 @@ use Rattle.words.specs.Word.{word}
 use Rattle.rules.specs.State.{Rec, Req, idle, Acc, Built}
 use Rattle.rules.specs.Store.{Found}
 use Rattle.rules.specs.Requests.{writers, accAt, withStore, say, putRec, behind, fail}
-use Rattle.rules.specs.Settle.{handed, readResult, Turn, still, onward, serveReader, serveWriter, atHead, turn, settleFor, settle}
+use Rattle.rules.specs.Settle.{handed, readResult, writeResult, Turn, still, onward, serveReader, serveWriter, atHead, turn, settleFor, settle}
 use Rattle.rules.specs.Close.{endReaders, lastGone, closed}
 use Rattle.rules.specs.Time.{due, failAll, lessen, lapse}
 use Rattle.rules.proofs.Split.{both, opt}
@@ -19,7 +19,7 @@ use Rattle.laws.specs.Bounds.{leastRefusal}
 use Rattle.laws.specs.Changes.{readEnds, writeEnds, Finishes, Walks, Settles}
 use Rattle.laws.proofs.Cases.{reader-cases, writer-cases, head-cases, fail-cases}
 
-pub behind-at : (p : ℕ) (f : Found) (b : Built) → accAt (behind f b) p ≡ accAt b p
+pub behind-at : (p : ℕ) (f : Found) (b : Built) → accAt (behind p f b) p ≡ accAt b p
 unfolding accAt behind say withStore
 behind-at p f b = refl
 
@@ -69,13 +69,13 @@ module _ (I : Built → Type 0) (J : ℕ → Built → Type 0) (w : Walks I J) w
   serves-reader : (p : ℕ) (a : Acc) (b : Built) → accAt b p ≡ some a → I b → I (serveReader p a (a .req) b .file)
   unfolding still onward readResult
   serves-reader p a b e s = reader-cases (λ m. I (m .file)) p a (a .req) b (λ _ _. s)
-      (λ _ keep _ _ _. w .fetches (a .typed) keep b s)
-      (λ _ keep limit h r _. w .finishes p 0 _ a _ _ (behind-at p _ b ∙ e) r (readEnds (length-handed (a .typed) limit h) (omega arith)) (w .fetches (a .typed) keep b s))
+      (λ x _ _. w .fetches p (a .typed) (x .keep) b s)
+      (λ x h r _. w .finishes p 0 _ a _ _ (behind-at p _ b ∙ e) r (readEnds refl (length-handed (a .typed) (x .limit) h) (omega arith)) (w .fetches p (a .typed) (x .keep) b s))
 
   serves-writer : (p : ℕ) (a : Acc) (b : Built) → accAt b p ≡ some a → I b → I (serveWriter p a (a .req) b .file)
-  unfolding still onward
+  unfolding still onward writeResult
   serves-writer p a b e s = writer-cases (λ m. I (m .file)) p a (a .req) b (λ _. s) (λ _. s)
-      (λ wd d r t. w .finishes p 0 _ a _ _ (put-at p _ b ∙ e) r (writeEnds (omega arith)) (w .serves p a wd d b e r t s))
+      (λ x r t. w .finishes p 0 _ a _ _ (put-at p _ b ∙ e) r (writeEnds refl (omega arith)) (w .serves p a x b e r t s))
 
   serves-head : (serve : ℕ → Acc → Req → Built → Turn) (l : List ℕ) (b : Built) → ((p : ℕ) (a : Acc) → accAt b p ≡ some a → I (serve p a (a .req) b .file)) → I b → I (atHead serve l b .file)
   unfolding still

@@ -11,10 +11,10 @@ leastRefusal = 29
 
 unfoldable pub Bounded : ℕ → Req → Type 0
 Bounded words idle = Unit {0}
-Bounded words (reading w l k) = l ≤ mostReadBytes
-Bounded words (writing w d) = length d ≤ 2 * words
-Bounded words (readDone st g d) = (length d ≤ mostReadBytes) × (st < leastRefusal)
-Bounded words (writeDone st g) = st < leastRefusal
+Bounded words (reading q) = q .limit ≤ mostReadBytes
+Bounded words (writing q) = length (q .bytes) ≤ 2 * words
+Bounded words (readDone q) = (length (q .bytes) ≤ mostReadBytes) × (q .status < leastRefusal)
+Bounded words (writeDone q) = q .status < leastRefusal
 
 abbrev pub Bounds : Built → Type 0
 Bounds b = (x : ℕ) → Bounded (b .geo .words) (reqAt (b .accs) x)

@@ -7,7 +7,7 @@ use Prim.Native.Nat.{ℕ, _*_, _≤_, _<_}
 use lib.ListN.{length}
 use Rattle.rules.specs.Limits.{mostWords, mostFactor, shareWords, mostReadBytes, leastCapacity}
 use Rattle.rules.specs.Geometry.{capacity, blockSize}
-use Rattle.rules.specs.State.{Rec, Req, idle, reading, writing, readDone, writeDone, Acc, Geo, Built}
+use Rattle.rules.specs.State.{Rec, Wanted, Offered, Brought, Wrote, Req, idle, reading, writing, readDone, writeDone, Acc, Geo, Built}
 use Rattle.rules.specs.Store.{emptyStore, fetch}
 use Rattle.rules.specs.Requests.{isWriter, fits, accAt, alterAcc, putRec, behind, finish, cancel, wait, freed}
 use Rattle.rules.specs.Settle.{dataRec, settle}
@@ -44,8 +44,8 @@ Mild f = (a : Acc) → (isWriter (f a) ≡ isWriter a) × (f a .ident ≡ a .ide
 
 -- a waiting request, and what it may complete as, with a status, which is no refusal's number
 pub data Ends (st : ℕ) : Req → Req → Type 0 where
-  readEnds : {w k : Bool} {l g : ℕ} {d : List ℕ} → length d ≤ l → st < leastRefusal → Ends st (reading w l k) (readDone st g d)
-  writeEnds : {w : Bool} {g : ℕ} {d : List ℕ} → st < leastRefusal → Ends st (writing w d) (writeDone st g)
+  readEnds : {x : Wanted} {y : Brought} → y .status ≡ st → length (y .bytes) ≤ x .limit → st < leastRefusal → Ends st (reading x) (readDone y)
+  writeEnds : {x : Offered} {y : Wrote} → y .status ≡ st → st < leastRefusal → Ends st (writing x) (writeDone y)
 
 -- what a waiting request that completes keeps
 abbrev pub Finishes : (Built → Type 0) → Type 0
@@ -56,13 +56,13 @@ pub record Walks (I : Built → Type 0) (J : ℕ → Built → Type 0) : Type 0 
   pub mild : (p : ℕ) (f : Acc → Acc) (b : Built) → Mild f → I b → I (alterAcc p f b)
   pub finishes : Finishes I
   pub cancels : (p : ℕ) (a : Acc) (b : Built) → accAt b p ≡ some a → awaits (a .req) ≡ 1 → I b → I (cancel p b)
-  pub readWaits : (p n l : ℕ) (wd k : Bool) (a : Acc) (b : Built) → accAt b p ≡ some a → a .req ≡ idle → a .writer ≡ false → l ≤ mostReadBytes → I b → I (wait false p n (reading wd l k) b)
-  pub writeWaits : (p n : ℕ) (wd : Bool) (d : List ℕ) (a : Acc) (b : Built) → accAt b p ≡ some a → a .req ≡ idle → a .writer ≡ true → length d ≤ 2 * b .geo .words → I b → I (wait true p n (writing wd d) b)
+  pub readWaits : (p n : ℕ) (q : Wanted) (a : Acc) (b : Built) → accAt b p ≡ some a → a .req ≡ idle → a .writer ≡ false → q .limit ≤ mostReadBytes → I b → I (wait false p n (reading q) b)
+  pub writeWaits : (p n : ℕ) (q : Offered) (a : Acc) (b : Built) → accAt b p ≡ some a → a .req ≡ idle → a .writer ≡ true → length (q .bytes) ≤ 2 * b .geo .words → I b → I (wait true p n (writing q) b)
   pub frees : (p : ℕ) (a : Acc) (b : Built) → accAt b p ≡ some a → uncollected (a .req) ≡ 1 → I b → I (freed p b)
-  pub fetches : (typed keep : Bool) (b : Built) → I b → I (behind (fetch (b .geo) typed keep (b .store)) b)
+  pub fetches : (p : ℕ) (typed keep : Bool) (b : Built) → I b → I (behind p (fetch (b .geo) typed keep (b .store)) b)
   -- a data record is put: at once, and for a waiting writer
   pub writes : (p : ℕ) (a : Acc) (d : List ℕ) (b : Built) → accAt b p ≡ some a → a .writer ≡ true → length d ≤ 2 * b .geo .words → fits b ≡ true → I b → I (putRec (dataRec a d) b)
-  pub serves : (p : ℕ) (a : Acc) (wd : Bool) (d : List ℕ) (b : Built) → accAt b p ≡ some a → a .req ≡ writing wd d → fits b ≡ true → I b → I (putRec (dataRec a d) b)
+  pub serves : (p : ℕ) (a : Acc) (q : Offered) (b : Built) → accAt b p ≡ some a → a .req ≡ writing q → fits b ≡ true → I b → I (putRec (dataRec a (q .bytes)) b)
   -- a reader enters, a writer enters
   pub enters : (s : ℕ) (b : Built) → I b → I (enter (newAcc false 0 s) b)
   pub joins : (access n s : ℕ) (b : Built) → 1 ≤ n → roomToOpen access b ≡ true → I b → I (enter (newAcc true n s) (putRec (openRec n) (purged access b)))

@@ -8,7 +8,7 @@ use Prim.Native.Nat.{ℕ, _+_, _*_, _/_, _%_, _≤_, _<_}
 use lib.Dec.{ltb, eqb}
 use lib.ListN.{length, replicate}
 use Rattle.rules.specs.Limits.{files, places, entries}
-use Rattle.rules.specs.State.{Req, Acc, Timer, Hap, puts, gone, purges, waits, arms, ends, cancels, collects, File, unbuilt, built}
+use Rattle.rules.specs.State.{Req, Acc, Timer, Hap, made, puts, takes, drops, purges, waits, arms, ends, cancels, collects, File, unbuilt, built}
 use Rattle.rules.specs.Desk.{Desk, fileOf}
 use Rattle.rules.specs.Allocation.{Held, nothing, own, timed, Alloc, placeOf, heldAt, allot}
 use Rattle.laws.specs.EightFiles.{EightFiles}
@@ -84,18 +84,20 @@ pub data HeldFor (q : Req) (timers : ℕ) : Held → Type 0 where
 
 -- never dry
 
--- how many entries a happening takes
-unfoldable pub takes : Hap → ℕ
-takes (puts r) = 0
-takes (gone r) = 0
-takes purges = 0
-takes (waits p) = 1
-takes (arms p n) = 1
-takes (ends p st) = 0
-takes (cancels p) = 0
-takes (collects p) = 0
+-- how many entries a happening draws from the free list
+unfoldable pub draws : Hap → ℕ
+draws (made g) = 0
+draws (puts r) = 0
+draws (takes p r) = 0
+draws (drops r) = 0
+draws purges = 0
+draws (waits p) = 1
+draws (arms p n) = 1
+draws (ends p st) = 0
+draws (cancels p) = 0
+draws (collects p) = 0
 
--- before each happening in file f the free list has what it takes
+-- before each happening in file f the free list has what it draws
 unfoldable pub Fed : ℕ → List Hap → Alloc → Type 0
 Fed f [] s = Unit {0}
-Fed f (h ∷ hs) s = (takes h ≤ length (s .free)) × Fed f hs (allot f h s)
+Fed f (h ∷ hs) s = (draws h ≤ length (s .free)) × Fed f hs (allot f h s)

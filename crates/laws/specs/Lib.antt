@@ -15,3 +15,4 @@ pub mod One
 pub mod Timers
 pub mod Entries
 pub mod Midst
+pub mod Told

@@ -16,24 +16,24 @@ reqAt l x = reqOf (getD l x none)
 -- 1 where a read waits, 1 where a write waits, 1 where a request is completed and not yet collected
 unfoldable pub waitsRead : Req → ℕ
 waitsRead idle = 0
-waitsRead (reading w l k) = 1
-waitsRead (writing w d) = 0
-waitsRead (readDone s l d) = 0
-waitsRead (writeDone s l) = 0
+waitsRead (reading q) = 1
+waitsRead (writing q) = 0
+waitsRead (readDone q) = 0
+waitsRead (writeDone q) = 0
 
 unfoldable pub waitsWrite : Req → ℕ
 waitsWrite idle = 0
-waitsWrite (reading w l k) = 0
-waitsWrite (writing w d) = 1
-waitsWrite (readDone s l d) = 0
-waitsWrite (writeDone s l) = 0
+waitsWrite (reading q) = 0
+waitsWrite (writing q) = 1
+waitsWrite (readDone q) = 0
+waitsWrite (writeDone q) = 0
 
 unfoldable pub uncollected : Req → ℕ
 uncollected idle = 0
-uncollected (reading w l k) = 0
-uncollected (writing w d) = 0
-uncollected (readDone s l d) = 1
-uncollected (writeDone s l) = 1
+uncollected (reading q) = 0
+uncollected (writing q) = 0
+uncollected (readDone q) = 1
+uncollected (writeDone q) = 1
 
 -- 1 where a request waits; 1 where one is outstanding
 abbrev pub awaits : Req → ℕ

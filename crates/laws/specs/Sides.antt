@@ -9,10 +9,10 @@ use Rattle.rules.specs.Requests.{accAt}
 -- a request that a writer may have, or a reader
 unfoldable pub Fitting : Bool → Req → Type 0
 Fitting writer idle = Unit {0}
-Fitting writer (reading w l k) = writer ≡ false
-Fitting writer (writing w d) = writer ≡ true
-Fitting writer (readDone st l d) = writer ≡ false
-Fitting writer (writeDone st l) = writer ≡ true
+Fitting writer (reading q) = writer ≡ false
+Fitting writer (writing q) = writer ≡ true
+Fitting writer (readDone q) = writer ≡ false
+Fitting writer (writeDone q) = writer ≡ true
 
 -- a writer's ID is 1 or more; a reader's is 0
 pub record Sided (a : Acc) : Type 0 where

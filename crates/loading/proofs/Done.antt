@@ -24,7 +24,7 @@ use Rattle.rules.specs.Sheet as sheets
 use Rattle.rules.specs.Calls.{askUnbuilt, ask}
 use Rattle.rules.specs.Calls as calls
 use Rattle.rules.specs.Desk.{Desk, load, asked, fileOf, respond}
-use Rattle.rules.specs.Allocation.{Alloc, allotAll}
+use Rattle.rules.specs.Allocation.{Alloc, allot, allotAll}
 use Rattle.shares.proofs.PutAll.{holds-loaded}
 use Rattle.laws.specs.Bounds.{leastRefusal}
 use Rattle.laws.proofs.Made.{sheet-good}
@@ -124,7 +124,7 @@ module _ (xs blocks buffers : List ℕ) (f : ℕ) (t : List ℕ) where
     asked-load d u s e = ap (λ (x : File). ask x (calls.load t)) u ∙ rw (e, sheets.load)
 
     quiet : (s : Sheet) (a : Alloc) → allotAll f (leaves (shows 0 []) (loaded s) .haps) a ≡ a
-    unfolding leaves loaded say newFile
+    unfolding leaves loaded say newFile allotAll allot
     quiet s a = allotAll-quiet f puts (puts-quiet f) (s .recs) a
 
     done-stays : Bytes xs′ → Bytes blocks′ → Bytes buffers′ → (d : Desk) (a : Alloc) → StandsFor xs blocks buffers d a → Stays d a (load f t) blocks buffers xs′ blocks′ buffers′

@@ -61,15 +61,15 @@ module _ {xs blocks buffers : List ℕ} {d : Desk} {s : Alloc} (S : StandsFor xs
     req-fits : (p : ℕ) (a : Acc) → accAt b p ≡ some a → (q : Req) → a .req ≡ q → bytesOf (ofReq f p q b) blocks buffers ≡ replyBytes (lookReq q b .reply)
     unfolding bytesOf ofReq lookReq leaves replyBytes lies Bounded
     req-fits p a at idle e = file-fits
-    req-fits p a at (reading w l k) e = file-fits
-    req-fits p a at (writing w v) e = file-fits
-    req-fits p a at (readDone st log v) e =
-        by-cases (eqb st 0)
+    req-fits p a at (reading q) e = file-fits
+    req-fits p a at (writing q) e = file-fits
+    req-fits p a at (readDone q) e =
+        by-cases (eqb (q .status) 0)
         (λ z. rw (ofReq, lookReq, z)
-        (sym (take-take (length v) bufferBytes (drop (bufferBytes * placeOf f p) buffers) (bounds-at p a (readDone st log v) b at e (mid-begin S f b h is .good .bounds) .0))
-        ∙ taken S f p h b is a at v (ap lies e)))
+        (sym (take-take (length (q .bytes)) bufferBytes (drop (bufferBytes * placeOf f p) buffers) (bounds-at p a (readDone q) b at e (mid-begin S f b h is .good .bounds) .0))
+        ∙ taken S f p h b is a at (q .bytes) (ap lies e)))
         (λ z. rw (ofReq, lookReq, z) file-fits)
-    req-fits p a at (writeDone st log) e = file-fits
+    req-fits p a at (writeDone q) e = file-fits
 
   -- whoever looks
   pub fits : (f p : ℕ) → bytesOf (partOn d f p) blocks buffers ≡ replyBytes (respond d (look f p) .reply)

@@ -7,7 +7,7 @@ use native.Mathlib.Omega.{arith}
 use borrow.Author.Tests.{eq-eqb, ne-eqb}
 use lib.ListN.{length}
 use Rattle.rules.specs.Limits.{entries, bufferBytes}
-use Rattle.rules.specs.State.{Req, idle, reading, writing, readDone, writeDone, Built}
+use Rattle.rules.specs.State.{Brought, Req, idle, reading, writing, readDone, writeDone, Built}
 use Rattle.rules.specs.Reply.{leaves}
 use Rattle.rules.specs.Look.{lookFile, lookReq}
 use Rattle.rules.specs.Desk.{Desk}
@@ -114,10 +114,10 @@ module _ {xs blocks : List ℕ} {f p side : ℕ} {q : Outstanding} (O : Opens xs
 not-done : (f p : ℕ) (b : Built) (q : Req) → (outstandingOf q ≡ Completed → ⊥) → (ofReq f p q b ≡ ofFile f b) × (lookReq q b ≡ lookFile b)
 unfolding outstandingOf ofReq lookReq
 not-done f p b idle h = (refl, refl)
-not-done f p b (reading w l k) h = (refl, refl)
-not-done f p b (writing w v) h = (refl, refl)
-not-done f p b (readDone st log v) h = absurd (h refl)
-not-done f p b (writeDone st log) h = absurd (h refl)
+not-done f p b (reading q) h = (refl, refl)
+not-done f p b (writing q) h = (refl, refl)
+not-done f p b (readDone q) h = absurd (h refl)
+not-done f p b (writeDone q) h = absurd (h refl)
 
 pub waiting-finds : {xs blocks : List ℕ} {f p side : ℕ} {q : Outstanding} → Opens xs blocks f p side q → (side ≡ 2 → ⊥) → (q ≡ Completed → ⊥) → (x : Shown)
     → Finds (OfFile f) xs blocks x → Finds (OfReader f p) xs blocks x
@@ -125,29 +125,29 @@ waiting-finds {f = f} {p = p} O n h x F =
     file-finds O n x (λ buffers d s S. let R = reads O n S in not-done f p (R .b) (R .a .req) (λ e. h (sym (R .request) ∙ e))) F
 
 -- a completed one of a reader is a read's
-done-read : (q : Req) → Fitting false q → outstandingOf q ≡ Completed → (st : ℕ) × (log : ℕ) × (v : List ℕ) × (q ≡ readDone st log v)
+done-read : (q : Req) → Fitting false q → outstandingOf q ≡ Completed → (x : Brought) × (q ≡ readDone x)
 unfolding Fitting outstandingOf
 done-read idle F e = absurd (false≢true cc)
-done-read (reading w l k) F e = absurd (false≢true cc)
-done-read (writing w v) F e = absurd (false≢true F)
-done-read (readDone st log v) F e = (st, log, v, refl)
-done-read (writeDone st log) F e = absurd (false≢true F)
+done-read (reading q) F e = absurd (false≢true cc)
+done-read (writing q) F e = absurd (false≢true F)
+done-read (readDone q) F e = (q, refl)
+done-read (writeDone q) F e = absurd (false≢true F)
 
 module _ {xs blocks : List ℕ} {f p side : ℕ} (O : Opens xs blocks f p side Completed) (n : side ≡ 2 → ⊥) where
   module _ {buffers : List ℕ} {d : Desk} {s : Alloc} (S : StandsFor xs blocks buffers d s) where
     abbrev R : Reads d f p Completed
     R = reads O n S
 
-    done : (st : ℕ) × (log : ℕ) × (v : List ℕ) × (R .a .req ≡ readDone st log v)
+    done : (x : Brought) × (R .a .req ≡ readDone x)
     done = done-read (R .a .req) (subst (λ (w : Bool). Fitting w (R .a .req)) (R .side) (fine-at S f (R .file) (R .b) (R .is) .sides p (R .a) (R .at) .request)) (R .request)
 
     ended : uncollected (R .a .req) ≡ 1
     unfolding uncollected
-    ended = ap uncollected (done .3)
+    ended = ap uncollected (done .1)
 
-    size-low : length (done .2) ≤ bufferBytes
+    size-low : length (done .0 .bytes) ≤ bufferBytes
     unfolding Bounded
-    size-low = bounds-at p (R .a) (readDone (done .0) (done .1) (done .2)) (R .b) (R .at) (done .3) (fine-at S f (R .file) (R .b) (R .is) .bounds) .0
+    size-low = bounds-at p (R .a) (readDone (done .0)) (R .b) (R .at) (done .1) (fine-at S f (R .file) (R .b) (R .is) .bounds) .0
 
   -- the entry at its reply port
   pub port-low : (e : ℕ) → e ≡ nth xs (replyPort (placeOf f p)) → e < entries
@@ -157,12 +157,12 @@ module _ {xs blocks : List ℕ} {f p side : ℕ} (O : Opens xs blocks f p side C
       rw port (port-full S f p (r .file) (r .b) (r .is) (r .a) (r .at) (ended S))
 
   module _ (e : ℕ) (port : e ≡ nth xs (replyPort (placeOf f p))) (m : Entry) (entry : m ≡ entryAt xs e) where
-    entry-is : {buffers : List ℕ} {d : Desk} {s : Alloc} (S : StandsFor xs blocks buffers d s) → (m .status ≡ done S .0) × (m .size ≡ length (done S .2))
+    entry-is : {buffers : List ℕ} {d : Desk} {s : Alloc} (S : StandsFor xs blocks buffers d s) → (m .status ≡ done S .0 .status) × (m .size ≡ length (done S .0 .bytes))
     unfolding entryOf reqWords
     entry-is S =
         let r = reads O n S in
-        let k : m ≡ entryOf (reqWords (placeOf f p) (readDone (done S .0) (done S .1) (done S .2))) =
-        entry ∙ (ap (entryAt xs) port ∙ (port-entry S f p (r .file) (r .b) (r .is) (r .a) (r .at) (ended S) ∙ ap (λ (q : Req). entryOf (reqWords (placeOf f p) q)) (done S .3))) in
+        let k : m ≡ entryOf (reqWords (placeOf f p) (readDone (done S .0))) =
+        entry ∙ (ap (entryAt xs) port ∙ (port-entry S f p (r .file) (r .b) (r .is) (r .a) (r .at) (ended S) ∙ ap (λ (q : Req). entryOf (reqWords (placeOf f p) q)) (done S .1))) in
         (ap (λ (t : Entry). t .status) k, ap (λ (t : Entry). t .size) k)
 
     -- the read brought a status alone
@@ -172,7 +172,7 @@ module _ {xs blocks : List ℕ} {f p side : ℕ} (O : Opens xs blocks f p side C
       where
         same : {buffers : List ℕ} {d : Desk} {s : Alloc} (S : StandsFor xs blocks buffers d s)
             → (ofReq f p (reads O n S .a .req) (reads O n S .b) ≡ ofFile f (reads O n S .b)) × (lookReq (reads O n S .a .req) (reads O n S .b) ≡ lookFile (reads O n S .b))
-        same S = let z = ne-eqb (done S .0) 0 (λ k. h (entry-is S .0 ∙ k)) in (rw (done S .3, ofReq, z), rw (done S .3, lookReq, z))
+        same S = let z = ne-eqb (done S .0 .status) 0 (λ k. h (entry-is S .0 ∙ k)) in (rw (done S .1, ofReq, z), rw (done S .1, lookReq, z))
 
     -- or a record
     pub brought-finds : m .status ≡ 0 → Finds (OfReader f p) xs blocks (shown.Buffer (bufferBytes * placeOf f p) (m .size))
@@ -185,8 +185,8 @@ module _ {xs blocks : List ℕ} {f p side : ℕ} (O : Opens xs blocks f p side C
         tells : {buffers : List ℕ} {d : Desk} {s : Alloc} (S : StandsFor xs blocks buffers d s) → OfReader f p d (shown.Buffer (bufferBytes * placeOf f p) (m .size))
         tells S =
             let r = reads O n S in
-            let z = eq-eqb (done S .0) 0 (sym (entry-is S .0) ∙ h) in
+            let z = eq-eqb (done S .0 .status) 0 (sym (entry-is S .0) ∙ h) in
             record {
-              shows = ap (ofBuffers (bufferBytes * placeOf f p)) (entry-is S .1) ∙ sym (r .part ∙ rw (done S .3, ofReq, z));
-              status = sym (ap replyStatus (r .reply) ∙ rw (done S .3, lookReq, z));
+              shows = ap (ofBuffers (bufferBytes * placeOf f p)) (entry-is S .1) ∙ sym (r .part ∙ rw (done S .1, ofReq, z));
+              status = sym (ap replyStatus (r .reply) ∙ rw (done S .1, lookReq, z));
             }

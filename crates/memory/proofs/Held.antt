@@ -24,10 +24,10 @@ use Rattle.memory.proofs.Sums.{sum}
 pub out-most : (q : Req) → outstanding q ≤ 1
 unfolding waitsRead waitsWrite uncollected
 out-most idle = omega arith
-out-most (reading w l k) = omega arith
-out-most (writing w d) = omega arith
-out-most (readDone st log d) = omega arith
-out-most (writeDone st log) = omega arith
+out-most (reading q) = omega arith
+out-most (writing q) = omega arith
+out-most (readDone q) = omega arith
+out-most (writeDone q) = omega arith
 
 pub held-count : (x : ℕ) (h : Held) (a n : ℕ) → size h ≡ a + n → n ≤ a → a ≤ 1 → count x (entriesOf h) ≡ a * bit (eqb (ownEntry h) x) + n * bit (eqb (timerEntry h) x)
 unfolding entriesOf count ownEntry timerEntry
@@ -38,10 +38,10 @@ held-count x (timed z t) a n e h k = let u : a ≡ 1 = omega arith in let v : n 
 pub port-count : (x : ℕ) (q : Req) (i : ℕ) (s : Alloc) → count x (portOf q i s) ≡ uncollected q * bit (eqb (ownEntry (heldAt s i)) x)
 unfolding portOf uncollected count
 port-count x idle i s = sym (zero-mul _)
-port-count x (reading w l k) i s = sym (zero-mul _)
-port-count x (writing w d) i s = sym (zero-mul _)
-port-count x (readDone st log d) i s = rw one-mul (omega arith)
-port-count x (writeDone st log) i s = rw one-mul (omega arith)
+port-count x (reading q) i s = sym (zero-mul _)
+port-count x (writing q) i s = sym (zero-mul _)
+port-count x (readDone q) i s = rw one-mul (omega arith)
+port-count x (writeDone q) i s = rw one-mul (omega arith)
 
 pub taken-count : (x : ℕ) (l : List Held) → count x (taken l) ≡ sum (length l) (λ i. count x (entriesOf (getD l i nothing)))
 unfolding taken count sum

@@ -27,10 +27,10 @@ placeAcc d i = accOf (fileOf d (i / places)) (i % places)
 
 unfoldable pub reqWords : ℕ → Req → List ℕ
 reqWords i idle = replicate dataWords 0
-reqWords i (reading w l k) = i ∷ bit w ∷ l ∷ bit k ∷ 0 ∷ 0 ∷ 0 ∷ 0 ∷ 0 ∷ []
-reqWords i (writing w d) = i ∷ bit w ∷ 0 ∷ 0 ∷ 0 ∷ 0 ∷ length d ∷ 0 ∷ 0 ∷ []
-reqWords i (readDone st log d) = i ∷ 0 ∷ 0 ∷ 0 ∷ st ∷ log ∷ length d ∷ 0 ∷ 0 ∷ []
-reqWords i (writeDone st log) = i ∷ 0 ∷ 0 ∷ 0 ∷ st ∷ log ∷ 0 ∷ 0 ∷ 0 ∷ []
+reqWords i (reading q) = i ∷ bit (q .words) ∷ q .limit ∷ bit (q .keep) ∷ 0 ∷ 0 ∷ 0 ∷ 0 ∷ 0 ∷ []
+reqWords i (writing q) = i ∷ bit (q .words) ∷ 0 ∷ 0 ∷ 0 ∷ 0 ∷ length (q .bytes) ∷ 0 ∷ 0 ∷ []
+reqWords i (readDone q) = i ∷ 0 ∷ 0 ∷ 0 ∷ q .status ∷ q .log ∷ length (q .bytes) ∷ 0 ∷ 0 ∷ []
+reqWords i (writeDone q) = i ∷ 0 ∷ 0 ∷ 0 ∷ q .status ∷ q .log ∷ 0 ∷ 0 ∷ 0 ∷ []
 
 unfoldable pub timerWords : Timer → List ℕ
 timerWords t = t .place ∷ 0 ∷ 0 ∷ 0 ∷ 0 ∷ 0 ∷ 0 ∷ t .left ∷ 0 ∷ []
@@ -76,10 +76,10 @@ queueWords f x q = map (λ p. reqWords (placeOf f p) (reqOf (accOf x p))) q
 
 unfoldable pub portWords : ℕ → Req → List (List ℕ)
 portWords i idle = []
-portWords i (reading w l k) = []
-portWords i (writing w d) = []
-portWords i (readDone st log d) = reqWords i (readDone st log d) ∷ []
-portWords i (writeDone st log) = reqWords i (writeDone st log) ∷ []
+portWords i (reading q) = []
+portWords i (writing q) = []
+portWords i (readDone q) = reqWords i (readDone q) ∷ []
+portWords i (writeDone q) = reqWords i (writeDone q) ∷ []
 
 -- what the entries of list l hold, in the same order
 unfoldable pub boxOf : Desk → Alloc → ℕ → List (List ℕ)

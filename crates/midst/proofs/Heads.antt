@@ -9,7 +9,7 @@ use lib.ListN.{length, getD}
 use Rattle.occurrences.specs.Count.{count}
 use Rattle.occurrences.proofs.Counts.{count-head}
 use Rattle.rules.specs.Limits.{entries}
-use Rattle.rules.specs.State.{Req, idle, reading, writing, readDone, writeDone, Acc, Built, built}
+use Rattle.rules.specs.State.{Wanted, Offered, Req, idle, reading, writing, readDone, writeDone, Acc, Built, built}
 use Rattle.rules.specs.Requests.{accAt}
 use Rattle.rules.specs.Desk.{Desk, withFile}
 use Rattle.rules.specs.Allocation.{Alloc, placeOf, allotAll}
@@ -32,28 +32,28 @@ use Rattle.midst.proofs.Lists.{below-side, list-side, box-side, entries
 
 -- where a read waits
 pub reads-in : (b : Built) (p : ℕ) → 1 ≤ waitsRead (reqAt (b .accs) p)
-    → (a : Acc) × (w : Bool) × (l : ℕ) × (k : Bool) × (accAt b p ≡ some a) × (a .req ≡ reading w l k)
+    → (a : Acc) × (x : Wanted) × (accAt b p ≡ some a) × (a .req ≡ reading x)
 unfolding accAt
 reads-in b p one = go (getD (b .accs) p none) refl
   where
     ask : (o : Option Acc) (a : Acc) (q : Req) → getD (b .accs) p none ≡ o → o ≡ some a → a .req ≡ q
-        → (c : Acc) × (w : Bool) × (l : ℕ) × (k : Bool) × (o ≡ some c) × (c .req ≡ reading w l k)
-    ask o a (reading w l k) u v z = (a, w, l, k, v, z)
+        → (c : Acc) × (x : Wanted) × (o ≡ some c) × (c .req ≡ reading x)
+    ask o a (reading q) u v z = (a, q, v, z)
     ask o a idle u v z = absurd (unfold waitsRead laws.reqOf in omega (arith, one, ap waitsRead (ap laws.reqOf (u ∙ v) ∙ z)))
-    ask o a (writing w d) u v z = absurd (unfold waitsRead laws.reqOf in omega (arith, one, ap waitsRead (ap laws.reqOf (u ∙ v) ∙ z)))
-    ask o a (readDone s l d) u v z = absurd (unfold waitsRead laws.reqOf in omega (arith, one, ap waitsRead (ap laws.reqOf (u ∙ v) ∙ z)))
-    ask o a (writeDone s l) u v z = absurd (unfold waitsRead laws.reqOf in omega (arith, one, ap waitsRead (ap laws.reqOf (u ∙ v) ∙ z)))
+    ask o a (writing q) u v z = absurd (unfold waitsRead laws.reqOf in omega (arith, one, ap waitsRead (ap laws.reqOf (u ∙ v) ∙ z)))
+    ask o a (readDone q) u v z = absurd (unfold waitsRead laws.reqOf in omega (arith, one, ap waitsRead (ap laws.reqOf (u ∙ v) ∙ z)))
+    ask o a (writeDone q) u v z = absurd (unfold waitsRead laws.reqOf in omega (arith, one, ap waitsRead (ap laws.reqOf (u ∙ v) ∙ z)))
 
-    go : (o : Option Acc) → getD (b .accs) p none ≡ o → (a : Acc) × (w : Bool) × (l : ℕ) × (k : Bool) × (o ≡ some a) × (a .req ≡ reading w l k)
+    go : (o : Option Acc) → getD (b .accs) p none ≡ o → (a : Acc) × (x : Wanted) × (o ≡ some a) × (a .req ≡ reading x)
     go none u = absurd (unfold waitsRead laws.reqOf in omega (arith, one, ap waitsRead (ap laws.reqOf u)))
     go (some a) u = ask (some a) a (a .req) u refl refl
 
 pub reads-at : (b : Built) (p : ℕ) (rest : List ℕ) → Agree b → b .rq ≡ p ∷ rest
-    → (a : Acc) × (w : Bool) × (l : ℕ) × (k : Bool) × (accAt b p ≡ some a) × (a .req ≡ reading w l k)
+    → (a : Acc) × (x : Wanted) × (accAt b p ≡ some a) × (a .req ≡ reading x)
 reads-at b p rest A e = reads-in b p (omega (arith, A p .reads, ap (count p) e, count-head p rest))
 
 pub writes-at : (b : Built) (p : ℕ) (rest : List ℕ) → Agree b → b .wq ≡ p ∷ rest
-    → (a : Acc) × (w : Bool) × (d : List ℕ) × (accAt b p ≡ some a) × (a .req ≡ writing w d)
+    → (a : Acc) × (x : Offered) × (accAt b p ≡ some a) × (a .req ≡ writing x)
 unfolding accAt
 writes-at b p rest A e = go (getD (b .accs) p none) refl
   where
@@ -61,14 +61,14 @@ writes-at b p rest A e = go (getD (b .accs) p none) refl
     one = omega (arith, A p .writes, ap (count p) e, count-head p rest)
 
     ask : (o : Option Acc) (a : Acc) (q : Req) → getD (b .accs) p none ≡ o → o ≡ some a → a .req ≡ q
-        → (c : Acc) × (w : Bool) × (d : List ℕ) × (o ≡ some c) × (c .req ≡ writing w d)
-    ask o a (writing w d) u v z = (a, w, d, v, z)
+        → (c : Acc) × (x : Offered) × (o ≡ some c) × (c .req ≡ writing x)
+    ask o a (writing q) u v z = (a, q, v, z)
     ask o a idle u v z = absurd (unfold waitsWrite laws.reqOf in omega (arith, one, ap waitsWrite (ap laws.reqOf (u ∙ v) ∙ z)))
-    ask o a (reading w l k) u v z = absurd (unfold waitsWrite laws.reqOf in omega (arith, one, ap waitsWrite (ap laws.reqOf (u ∙ v) ∙ z)))
-    ask o a (readDone s l d) u v z = absurd (unfold waitsWrite laws.reqOf in omega (arith, one, ap waitsWrite (ap laws.reqOf (u ∙ v) ∙ z)))
-    ask o a (writeDone s l) u v z = absurd (unfold waitsWrite laws.reqOf in omega (arith, one, ap waitsWrite (ap laws.reqOf (u ∙ v) ∙ z)))
+    ask o a (reading q) u v z = absurd (unfold waitsWrite laws.reqOf in omega (arith, one, ap waitsWrite (ap laws.reqOf (u ∙ v) ∙ z)))
+    ask o a (readDone q) u v z = absurd (unfold waitsWrite laws.reqOf in omega (arith, one, ap waitsWrite (ap laws.reqOf (u ∙ v) ∙ z)))
+    ask o a (writeDone q) u v z = absurd (unfold waitsWrite laws.reqOf in omega (arith, one, ap waitsWrite (ap laws.reqOf (u ∙ v) ∙ z)))
 
-    go : (o : Option Acc) → getD (b .accs) p none ≡ o → (a : Acc) × (w : Bool) × (d : List ℕ) × (o ≡ some a) × (a .req ≡ writing w d)
+    go : (o : Option Acc) → getD (b .accs) p none ≡ o → (a : Acc) × (x : Offered) × (o ≡ some a) × (a .req ≡ writing x)
     go none u = absurd (unfold waitsWrite laws.reqOf in omega (arith, one, ap waitsWrite (ap laws.reqOf u)))
     go (some a) u = ask (some a) a (a .req) u refl refl
 

@@ -66,10 +66,10 @@ seg-free S room = let w = seg-taken S room (replicate dataWords 0) refl in rw (w
 req-long : (i : ℕ) (q : Req) → length (reqWords i q) ≡ dataWords
 unfolding reqWords
 req-long i idle = refl
-req-long i (reading w l k) = refl
-req-long i (writing w m) = refl
-req-long i (readDone st l m) = refl
-req-long i (writeDone st l) = refl
+req-long i (reading q) = refl
+req-long i (writing q) = refl
+req-long i (readDone q) = refl
+req-long i (writeDone q) = refl
 
 -- the free list behind it
 module _ (d e : Desk) (t u : Alloc) (x : u .free ≡ drop 1 (t .free)) where

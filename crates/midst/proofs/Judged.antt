@@ -98,33 +98,33 @@ module _ (b : Built) where
   judged-collect : (p : ℕ) (a : Acc) (q : Req) → accAt b p ≡ some a → a .req ≡ q → Verdict (calls.collect p) Left (CollectKnown p b) (collect p q b)
   unfolding collect status answering refusal waitsRead waitsWrite uncollected
   judged-collect p a idle e r = refuses 39 (omega arith) refl
-  judged-collect p a (reading w l k) e r = accepts (record { a = a; at = e; outstands = λ i. busy i (ap outstanding r); out = sym (ap (λ (q : Req). collect p q b) r) })
-  judged-collect p a (writing w d) e r = accepts (record { a = a; at = e; outstands = λ i. busy i (ap outstanding r); out = sym (ap (λ (q : Req). collect p q b) r) })
-  judged-collect p a (readDone st l d) e r = accepts (record { a = a; at = e; outstands = λ i. busy i (ap outstanding r); out = sym (ap (λ (q : Req). collect p q b) r) })
-  judged-collect p a (writeDone st l) e r = accepts (record { a = a; at = e; outstands = λ i. busy i (ap outstanding r); out = sym (ap (λ (q : Req). collect p q b) r) })
+  judged-collect p a (reading u) e r = accepts (record { a = a; at = e; outstands = λ i. busy i (ap outstanding r); out = sym (ap (λ (q : Req). collect p q b) r) })
+  judged-collect p a (writing u) e r = accepts (record { a = a; at = e; outstands = λ i. busy i (ap outstanding r); out = sym (ap (λ (q : Req). collect p q b) r) })
+  judged-collect p a (readDone u) e r = accepts (record { a = a; at = e; outstands = λ i. busy i (ap outstanding r); out = sym (ap (λ (q : Req). collect p q b) r) })
+  judged-collect p a (writeDone u) e r = accepts (record { a = a; at = e; outstands = λ i. busy i (ap outstanding r); out = sym (ap (λ (q : Req). collect p q b) r) })
 
   -- a request by its kind
   judged-close : (p : ℕ) (a : Acc) (q : Req) → accAt b p ≡ some a → a .req ≡ q → Verdict (calls.close p) Left (CloseKnown p b) (close p a q b)
   unfolding close status answering refusal waitsRead waitsWrite uncollected
   judged-close p a idle e r =
       accepts (record { a = a; at = e; collected = ap uncollected r; idles = λ _. refl; waits = λ h. absurd (omega (arith, h, ap awaits r)); out = sym (ap (λ (q : Req). close p a q b) r) })
-  judged-close p a (reading w l k) e r =
+  judged-close p a (reading u) e r =
       accepts (record { a = a; at = e; collected = ap uncollected r; idles = λ i. absurd (busy i (ap outstanding r)); waits = λ _. refl; out = sym (ap (λ (q : Req). close p a q b) r) })
-  judged-close p a (writing w d) e r =
+  judged-close p a (writing u) e r =
       accepts (record { a = a; at = e; collected = ap uncollected r; idles = λ i. absurd (busy i (ap outstanding r)); waits = λ _. refl; out = sym (ap (λ (q : Req). close p a q b) r) })
-  judged-close p a (readDone st l d) e r = refuses 33 (omega arith) refl
-  judged-close p a (writeDone st l) e r = refuses 33 (omega arith) refl
+  judged-close p a (readDone q) e r = refuses 33 (omega arith) refl
+  judged-close p a (writeDone q) e r = refuses 33 (omega arith) refl
 
   judged-abort : (p : ℕ) (c : Option Control) (a : Acc) (q : Req) → accAt b p ≡ some a → a .req ≡ q → Verdict (calls.control p c) Left (AbortKnown p b) (abort p q b)
   unfolding abort status answering refusal waitsRead waitsWrite uncollected
   judged-abort p c a idle e r = refuses 39 (omega arith) refl
-  judged-abort p c a (reading w l k) e r =
+  judged-abort p c a (reading u) e r =
       accepts (record { a = a; at = e; outstands = λ i. busy i (ap outstanding r); waits = λ _. refl; completed = λ h. absurd (omega (arith, h, ap uncollected r)); out = sym (ap (λ (q : Req). abort p q b) r) })
-  judged-abort p c a (writing w d) e r =
+  judged-abort p c a (writing u) e r =
       accepts (record { a = a; at = e; outstands = λ i. busy i (ap outstanding r); waits = λ _. refl; completed = λ h. absurd (omega (arith, h, ap uncollected r)); out = sym (ap (λ (q : Req). abort p q b) r) })
-  judged-abort p c a (readDone st l d) e r =
+  judged-abort p c a (readDone u) e r =
       accepts (record { a = a; at = e; outstands = λ i. busy i (ap outstanding r); waits = λ h. absurd (omega (arith, h, ap awaits r)); completed = λ _. refl; out = sym (ap (λ (q : Req). abort p q b) r) })
-  judged-abort p c a (writeDone st l) e r =
+  judged-abort p c a (writeDone u) e r =
       accepts (record { a = a; at = e; outstands = λ i. busy i (ap outstanding r); waits = λ h. absurd (omega (arith, h, ap awaits r)); completed = λ _. refl; out = sym (ap (λ (q : Req). abort p q b) r) })
 
   -- the tests of the controls
@@ -206,10 +206,10 @@ module _ (b : Built) where
   judged-req : (p : ℕ) (q : Req) → Verdict (calls.look p) Left (λ o. refusalOf (o .reply) ≡ 0) (lookReq q b)
   unfolding lookReq refusal refusalOf replyStatus leaves
   judged-req p idle = judged-file p
-  judged-req p (reading w l k) = judged-file p
-  judged-req p (writing w d) = judged-file p
-  judged-req p (readDone st l d) = both (Verdict (calls.look p) Left (λ o. refusalOf (o .reply) ≡ 0)) (eqb st 0) (λ _. accepts refl) (λ _. judged-file p)
-  judged-req p (writeDone st l) = judged-file p
+  judged-req p (reading q) = judged-file p
+  judged-req p (writing q) = judged-file p
+  judged-req p (readDone q) = both (Verdict (calls.look p) Left (λ o. refusalOf (o .reply) ≡ 0)) (eqb (q .status) 0) (λ _. accepts refl) (λ _. judged-file p)
+  judged-req p (writeDone q) = judged-file p
 
   judged-look : (p : ℕ) (a : Acc) → Verdict (calls.look p) Left (λ o. refusalOf (o .reply) ≡ 0) (look a b)
   unfolding look refusal

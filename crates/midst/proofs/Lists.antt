@@ -11,16 +11,14 @@ use Rattle.occurrences.specs.Count.{count}
 use Rattle.segment.specs.Layout.{listCount, rowCount}
 use Rattle.ports.specs.Lists.{Boxes}
 use Rattle.rules.specs.Limits.{files, places}
-use Rattle.rules.specs.State.{Req, idle, reading, writing, readDone, writeDone, Built, File, unbuilt, built}
+use Rattle.rules.specs.State.{Req, idle, reading, writing, readDone, writeDone, Built, File, built}
 use Rattle.rules.specs.Requests.{accAt}
-use Rattle.rules.specs.Desk.{Desk, fileOf, withFile}
+use Rattle.rules.specs.Desk.{Desk, fileOf}
 use Rattle.rules.specs.Allocation.{Alloc, placeOf, heldAt, ownEntry, queueOf, portOf}
 use Rattle.laws.specs.Outstanding.{uncollected, reqOf}
 use Rattle.memory.specs.Image.{accOf, reqWords, rowOf, rqOf, wqOf, listOf, queueWords, portWords, boxOf, listsOf, boxesOf}
 use Rattle.memory.proofs.Image.{listOf-read, listOf-write, boxOf-read, boxOf-write}
 use Rattle.memory.proofs.Boxes.{getD-listsOf, getD-boxesOf}
-use Rattle.laws.specs.EightFiles.{EightFiles}
-use Rattle.laws.proofs.EightFiles.{file-other, file-same}
 use Rattle.laws.proofs.Lists.{length-up}
 use Rattle.midst.specs.Seg.{Seg, queueAt, sideQueue}
 
@@ -93,7 +91,7 @@ place-under f p hf hp = omega arith
 pub port-none : (q : Req) (i : ℕ) (t : Alloc) → uncollected q ≡ 0 → (portOf q i t ≡ []) × (portWords i q ≡ [])
 unfolding portOf portWords uncollected
 port-none idle i t e = (refl, refl)
-port-none (reading w l k) i t e = (refl, refl)
-port-none (writing w m) i t e = (refl, refl)
-port-none (readDone st l m) i t e = absurd (omega arith)
-port-none (writeDone st l) i t e = absurd (omega arith)
+port-none (reading q) i t e = (refl, refl)
+port-none (writing q) i t e = (refl, refl)
+port-none (readDone q) i t e = absurd (omega arith)
+port-none (writeDone q) i t e = absurd (omega arith)

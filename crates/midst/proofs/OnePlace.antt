@@ -7,7 +7,6 @@ use mathlib.Core.List.{List, map}
 use mathlib.Core.Option.{Option}
 use native.Mathlib.Omega.{arith}
 use native.Mathlib.Decide.{ℕ-discrete}
-use lib.ListN.{length, set}
 use Rattle.occurrences.specs.Count.{count}
 use Rattle.segment.specs.Layout.{listCount, rowCount, freeList, readQueue, writeQueue, replyPort, timerList, fileRow, placeRow}
 use Rattle.ports.proofs.Maps.{map-in}
@@ -59,10 +58,10 @@ queue-held t u q g (built b) h =
 port-held : (t u : Alloc) (j : ℕ) (q : Req) → ownEntry (heldAt u j) ≡ ownEntry (heldAt t j) → portOf q j u ≡ portOf q j t
 unfolding portOf
 port-held t u j idle e = refl
-port-held t u j (reading w l k) e = refl
-port-held t u j (writing w l) e = refl
-port-held t u j (readDone st l m) e = rw e
-port-held t u j (writeDone st l) e = rw e
+port-held t u j (reading q) e = refl
+port-held t u j (writing q) e = refl
+port-held t u j (readDone q) e = rw e
+port-held t u j (writeDone q) e = rw e
 
 -- timers of places that hold what they held
 pub timers-held : (t u : Alloc) (ts : List Timer) → ((x : ℕ) → 1 ≤ countT x ts → timerEntry (heldAt u x) ≡ timerEntry (heldAt t x))

@@ -7,7 +7,7 @@ use Prim.Native.Nat.{ℕ, zero, suc, _≤_, _<_}
 use native.Mathlib.Omega.{arith}
 use native.Mathlib.Decide.{decLt}
 use lib.Dec.{ltb, eqb}
-use borrow.Author.Tests.{ltb-true, lt-ltb, eq-eqb}
+use borrow.Author.Tests.{ltb-true, lt-ltb}
 use Rattle.kinds.specs.declared.Control.{Control}
 use Rattle.kinds.specs.declared.Control.the-variants.{Timeout, Verify, Abort, Extended, Typed, Keep}
 use Rattle.rules.specs.Limits.{files}
@@ -21,7 +21,7 @@ use Rattle.rules.specs.Controls.{abort}
 use Rattle.rules.specs.Counts.{counts}
 use Rattle.rules.specs.Calls.{Ask, refusal, ask, askBuilt, askUnbuilt}
 use Rattle.rules.specs.Calls as calls
-use Rattle.rules.specs.Desk.{Desk, on, fileOf, withFile, Responded, answered, happens}
+use Rattle.rules.specs.Desk.{Desk, on, fileOf, withFile, Responded, answered}
 use Rattle.rules.specs.Allocation.{Alloc, allotAll, allocAsked}
 use Rattle.rules.proofs.Split.{by-cases, both, opt, pick-true, pick-false}
 use Rattle.laws.specs.Runs.{OnFile}
@@ -31,6 +31,7 @@ use Rattle.laws.specs.Bounds.{leastRefusal, Bounded}
 use Rattle.laws.specs.EightFiles.{EightFiles}
 use Rattle.laws.proofs.Files.{on-file}
 use Rattle.laws.proofs.EightFiles.{file-here, file-none}
+use Rattle.laws.proofs.Allocated.{happens-here, happens-nowhere}
 use Rattle.memory.specs.Fine.{Fine, StandsFor}
 use Rattle.midst.specs.Outcome.{statusOf, replyStatus, refusalOf}
 use Rattle.midst.specs.Accepted.{OpenKnown, CloseKnown, ControlKnown, Known, KnownNew, Verdict, refuses, accepts, endOf, Ended, Refused}
@@ -45,10 +46,10 @@ pastly b hs = record { geo = b .geo; store = b .store; accs = b .accs; rq = b .r
 bounded-end : (words : ℕ) (q : Req) → Bounded words q → endOf q < leastRefusal
 unfolding Bounded endOf
 bounded-end words idle h = omega arith
-bounded-end words (reading w l k) h = omega arith
-bounded-end words (writing w d) h = omega arith
-bounded-end words (readDone st l d) h = h .1
-bounded-end words (writeDone st l) h = h
+bounded-end words (reading q) h = omega arith
+bounded-end words (writing q) h = omega arith
+bounded-end words (readDone q) h = h .1
+bounded-end words (writeDone q) h = h
 
 pub fine-ended : (b : Built) → Fine b → Ended b
 fine-ended b h x = bounded-end (b .geo .words) (reqAt (b .accs) x) (h .bounds x)
@@ -73,18 +74,18 @@ passes-collected st l d p b h = both Passes (eqb st 0) (λ _. refl) (λ _. rw (l
 passes-collect : (p : ℕ) (q : Req) (b : Built) → endOf q < leastRefusal → (q ≡ idle → ⊥) → Passes (collect p q b)
 unfolding collect Passes status answering leaves refusalOf replyStatus statusOf endOf
 passes-collect p idle b h n = absurd (n refl)
-passes-collect p (reading w l k) b h n = refl
-passes-collect p (writing w d) b h n = refl
-passes-collect p (readDone st l d) b h n = passes-collected st l d p b h
-passes-collect p (writeDone st l) b h n = passes-collected st l [] p b h
+passes-collect p (reading q) b h n = refl
+passes-collect p (writing q) b h n = refl
+passes-collect p (readDone q) b h n = passes-collected (q .status) (q .log) (q .bytes) p b h
+passes-collect p (writeDone q) b h n = passes-collected (q .status) (q .log) [] p b h
 
 passes-abort : (p : ℕ) (q : Req) (b : Built) → (q ≡ idle → ⊥) → Passes (abort p q b)
 unfolding abort Passes status answering leaves refusalOf replyStatus statusOf
 passes-abort p idle b n = absurd (n refl)
-passes-abort p (reading w l k) b n = refl
-passes-abort p (writing w d) b n = refl
-passes-abort p (readDone st l d) b n = refl
-passes-abort p (writeDone st l) b n = refl
+passes-abort p (reading q) b n = refl
+passes-abort p (writing q) b n = refl
+passes-abort p (readDone q) b n = refl
+passes-abort p (writeDone q) b n = refl
 
 to : {o r : Out} → o ≡ r → Passes r → Passes o
 to {o} {r} e h = rw e h
@@ -106,10 +107,10 @@ known-open (suc n) share multi b o k = to (k .writer (omega arith)) (unfold Pass
 known-close : (p : ℕ) (b : Built) (o : Out) (q : Req) (k : CloseKnown p b o) → k .a .req ≡ q → Passes o
 unfolding waitsRead waitsWrite uncollected
 known-close p b o idle k r = to (k .idles r) (unfold Passes answering leaves refusalOf replyStatus statusOf in refl)
-known-close p b o (reading w l g) k r = to (k .waits (ap awaits r)) (unfold Passes answering leaves refusalOf replyStatus statusOf in refl)
-known-close p b o (writing w d) k r = to (k .waits (ap awaits r)) (unfold Passes answering leaves refusalOf replyStatus statusOf in refl)
-known-close p b o (readDone st l d) k r = absurd (omega (arith, k .collected, ap uncollected r))
-known-close p b o (writeDone st l) k r = absurd (omega (arith, k .collected, ap uncollected r))
+known-close p b o (reading q) k r = to (k .waits (ap awaits r)) (unfold Passes answering leaves refusalOf replyStatus statusOf in refl)
+known-close p b o (writing q) k r = to (k .waits (ap awaits r)) (unfold Passes answering leaves refusalOf replyStatus statusOf in refl)
+known-close p b o (readDone q) k r = absurd (omega (arith, k .collected, ap uncollected r))
+known-close p b o (writeDone q) k r = absurd (omega (arith, k .collected, ap uncollected r))
 
 known-passes : (q : Ask) (b : Built) (o : Out) → Ended b → Known q b o → Passes o
 unfolding Known
@@ -161,10 +162,6 @@ answered-on : (d : Desk) (f : ℕ) (q : Ask) → ltb f files ≡ true → answer
 unfolding answered
 answered-on d f q t = pick-true (ltb f files) _ _ t
 
-happens-on : (d : Desk) (f : ℕ) (q : Ask) → happens f d (on f q) ≡ ask (fileOf d f) q .haps
-unfolding happens
-happens-on d f q = pick-true (eqb f f) _ _ (eq-eqb f f refl)
-
 -- "A refusal changes nothing"
 pub refused-still : (d : Desk) (s : Alloc) (f : ℕ) (q : Ask) → ((g : ℕ) → g < files → Calm (fileOf d g)) → OnFile Ended (fileOf d f)
     → (refusalOf (answered d (on f q) .reply) ≡ 0 → ⊥) → Refused d s f q
@@ -177,7 +174,7 @@ refused-still d s f q c z n = by-cases (ltb f files) within beyond
         let k = stays (fileOf d f) q (c f (ltb-true f files t)) z (λ (h : Passes (ask (fileOf d f) q)). n (ap (λ (r : Responded). refusalOf (r .reply)) e ∙ (unfold Passes in h))) in
         record {
           desk = ap (λ (r : Responded). r .desk) e ∙ file-here d f _ (sym (k .0));
-          alloc = rw (t, happens-on d f q, k .1);
+          alloc = rw (happens-here f d q (ltb-true f files t), k .1);
           reply = rw e (k .2);
         }
 
@@ -186,7 +183,7 @@ refused-still d s f q c z n = by-cases (ltb f files) within beyond
         let e : answered d (on f q) ≡ record { reply = refusal q 31; desk = d } = unfold answered in pick-false (ltb f files) _ _ t in
         record {
           desk = ap (λ (r : Responded). r .desk) e;
-          alloc = rw t;
+          alloc = rw (happens-nowhere f d q t);
           reply = rw (e, refusal-back q 31 (omega arith));
         }
 

@@ -33,8 +33,8 @@ allots-one f (g ∷ hs) h s = allots-one f hs h (allot f g s)
 -- what a waiting request completes as is not yet collected
 pub ends-done : {st : ℕ} {r q : Req} → Ends st r q → uncollected q ≡ 1
 unfolding uncollected
-ends-done (readEnds h n) = refl
-ends-done (writeEnds n) = refl
+ends-done (readEnds e h n) = refl
+ends-done (writeEnds e n) = refl
 
 -- of a call of file f that began with the allocation s
 

@@ -13,7 +13,7 @@ use Rattle.segment.specs.Layout.{freeList, replyPort, fileRow}
 use Rattle.segment.specs.Table.{nth}
 use Rattle.requests.specs.Moves.{slotOf, entryOf, queued, waiting, completed, cancelled, collected}
 use Rattle.rules.specs.Limits.{files, entries, bufferBytes}
-use Rattle.rules.specs.State.{Req, idle, reading, writing, Acc, ends, cancels, collects, Built, built}
+use Rattle.rules.specs.State.{Wanted, Offered, Req, idle, reading, writing, Acc, ends, cancels, collects, Built, built}
 use Rattle.rules.specs.Requests.{accAt, withAccs, withQueues, withTimers, alterAcc, say, requeue, leave, finish, cancel, wait, freed}
 use Rattle.rules.specs.Memories.{lies}
 use Rattle.rules.specs.Desk.{Desk, withFile}
@@ -46,8 +46,8 @@ use Rattle.midst.proofs.RequestEnds.{ends-done}
 -- what lies in the buffer of a completed request has room there
 ends-fit : {st : ℕ} {r q : Req} (words : ℕ) → Ends st r q → Bounded words r → length (lies q) ≤ bufferBytes
 unfolding Bounded lies
-ends-fit words (readEnds h n) k = omega arith
-ends-fit words (writeEnds n) k = omega arith
+ends-fit words (readEnds e h n) k = omega arith
+ends-fit words (writeEnds e n) k = omega arith
 
 side-waits : (w : Bool) (q : Req) → waitsAt w q ≡ 1 → awaits q ≡ 1
 side-waits w q h = omega (arith, waits-awaits w q, outstanding-most q)
@@ -89,16 +89,16 @@ module _ {I : Built → Type 0} {f : ℕ} {o : Start} {xs blocks buffers : List 
         (wait-mid f (M .file) (o .alloc) side p n q a b e still waits (M .allots)) _ buffers′ (seg-waits .2) L
 
   module _ (R : Rest f o) (n : ℕ) (still : a .req ≡ idle) {J : Built → Type 0} where
-    pub step-wait-read : (l : ℕ) (w k : Bool) → J (wait false p n (reading w l k) b)
-        → Mid J f o (waiting xs (queueAt false f) (reqWords (placeOf f p) (reading w l k)) (placeOf f p) n) blocks buffers x (wait false p n (reading w l k) b)
+    pub step-wait-read : (q : Wanted) → J (wait false p n (reading q) b)
+        → Mid J f o (waiting xs (queueAt false f) (reqWords (placeOf f p) (reading q)) (placeOf f p) n) blocks buffers x (wait false p n (reading q) b)
     unfolding lies waitsRead waitsWrite
-    step-wait-read l w k good = step-wait R false n (reading w l k) still refl buffers (omega arith) good (keep refl (sym (ap lies still)))
+    step-wait-read q good = step-wait R false n (reading q) still refl buffers (omega arith) good (keep refl (sym (ap lies still)))
 
-    pub step-wait-write : (w : Bool) (v : List ℕ) (buffers′ : List ℕ) → length v ≤ bufferBytes → J (wait true p n (writing w v) b)
-        → buffers′ ≡ sets buffers (bufferBytes * placeOf f p) (filled v)
-        → Mid J f o (waiting xs (queueAt true f) (reqWords (placeOf f p) (writing w v)) (placeOf f p) n) blocks buffers′ x (wait true p n (writing w v) b)
+    pub step-wait-write : (q : Offered) (buffers′ : List ℕ) → length (q .bytes) ≤ bufferBytes → J (wait true p n (writing q) b)
+        → buffers′ ≡ sets buffers (bufferBytes * placeOf f p) (filled (q .bytes))
+        → Mid J f o (waiting xs (queueAt true f) (reqWords (placeOf f p) (writing q)) (placeOf f p) n) blocks buffers′ x (wait true p n (writing q) b)
     unfolding lies waitsRead waitsWrite
-    step-wait-write w v buffers′ fits good h = step-wait R true n (writing w v) still refl buffers′ fits good (put h)
+    step-wait-write q buffers′ fits good h = step-wait R true n (writing q) still refl buffers′ fits good (put h)
 
   -- an outstanding request
 

@@ -88,10 +88,10 @@ queue-as t u q g (built b) h =
 port-as : (t u : Alloc) (j : ℕ) (q : Req) → heldAt u j ≡ heldAt t j → portOf q j u ≡ portOf q j t
 unfolding portOf
 port-as t u j idle e = refl
-port-as t u j (reading w l k) e = refl
-port-as t u j (writing w l) e = refl
-port-as t u j (readDone st l m) e = rw e
-port-as t u j (writeDone st l) e = rw e
+port-as t u j (reading q) e = refl
+port-as t u j (writing q) e = refl
+port-as t u j (readDone q) e = rw e
+port-as t u j (writeDone q) e = rw e
 
 -- list l is none of the five
 pub record Off (f i l : ℕ) : Type 0 where

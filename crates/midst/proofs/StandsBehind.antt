@@ -36,12 +36,12 @@ any-walks = record {
   mild = λ p f b m i. tt;
   finishes = λ p st q a r b e h k i. tt;
   cancels = λ p a b e h i. tt;
-  readWaits = λ p n l wd k a b e h u v i. tt;
-  writeWaits = λ p n wd d a b e h u v i. tt;
+  readWaits = λ p n q a b e h u v i. tt;
+  writeWaits = λ p n q a b e h u v i. tt;
   frees = λ p a b e h i. tt;
-  fetches = λ typed keep b i. tt;
+  fetches = λ p typed keep b i. tt;
   writes = λ p a d b e h u v i. tt;
-  serves = λ p a wd d b e h u i. tt;
+  serves = λ p a q b e h u i. tt;
   enters = λ s b i. tt;
   joins = λ access n s b h u i. tt;
   leaves = λ p a b e h u i. tt;
@@ -66,7 +66,7 @@ module _ (d : Desk) (s : Alloc) (c : Call) (f : ℕ) (q : Ask) (is : asked c ≡
 
   alloc-is : allocAsked d (asked c) s ≡ allotAll f (ask (fileOf d f) q .haps) s
   unfolding allocAsked
-  alloc-is = rw (is, lt-ltb f files hf, allocAsked, happens-here f d q) refl
+  alloc-is = rw (is, allocAsked, happens-here f d q hf) refl
 
 -- time builds nothing and leaves what is built
 

@@ -3,13 +3,14 @@ use Prim.Native.Nat.{ℕ, _+_, _*_, _≤_}
 use mathlib.Core.Path.{_≡_, refl, sym, ap, _∙_, subst}
 use mathlib.Core.Bool.{Bool}
 use mathlib.Core.List.{List, [], _∷_, _++_, map}
+use mathlib.Core.Option.{Option, none, some}
 use native.Mathlib.Omega.{arith}
 use lib.ListN.{length}
 use lib.Seq.{sets, length-sets}
 use Rattle.rules.specs.Limits.{shareBytes}
-use Rattle.rules.specs.State.{Rec, Store, Hap, puts, gone, Built, built}
+use Rattle.rules.specs.State.{Rec, Store, Hap, puts, drops, Built, built}
 use Rattle.rules.specs.Store.{put, fetch}
-use Rattle.rules.specs.Requests.{withStore, say, putRec, behind, accAt}
+use Rattle.rules.specs.Requests.{withStore, say, putRec, tookBy, behind, accAt}
 use Rattle.rules.specs.Memories.{fileBuffers}
 use Rattle.rules.specs.Desk.{Desk, withFile}
 use Rattle.segment.specs.Layout.{fileRow}
@@ -100,11 +101,12 @@ module _ {I : Built → Type 0} {f : ℕ} {o : Start} {xs blocks buffers : List 
 
 -- records go
 
-gone-same : (f : ℕ) (hs : List Hap) (rs : List Rec) (s : Alloc) → allotAll f (hs ++ map gone rs) s ≡ allotAll f hs s
-unfolding allotAll allot
-gone-same f [] [] s = refl
-gone-same f [] (r ∷ rs) s = gone-same f [] rs s
-gone-same f (h ∷ hs) rs s = gone-same f hs rs (allot f h s)
+gone-same : (f p : ℕ) (hs : List Hap) (rs : List Rec) (o : Option Rec) (s : Alloc) → allotAll f (hs ++ (map drops rs ++ tookBy p o)) s ≡ allotAll f hs s
+unfolding allotAll allot tookBy
+gone-same f p [] [] none s = refl
+gone-same f p [] [] (some r) s = refl
+gone-same f p [] (r ∷ rs) o s = gone-same f p [] rs o s
+gone-same f p (h ∷ hs) rs o s = gone-same f p hs rs o (allot f h s)
 
 puts-same : (f : ℕ) (hs : List Hap) (r : Rec) (s : Alloc) → allotAll f (hs ++ (puts r ∷ [])) s ≡ allotAll f hs s
 unfolding allotAll allot
@@ -112,11 +114,11 @@ puts-same f [] r s = refl
 puts-same f (h ∷ hs) r s = puts-same f hs r (allot f h s)
 
 module _ {I J : Built → Type 0} {f : ℕ} {o : Start} {xs blocks buffers : List ℕ} {x : hand.File} {b : Built} (M : Mid I f o xs blocks buffers x b) where
-  pub mid-behind : (typed keep : Bool) → let c : Built = behind (fetch (b .geo) typed keep (b .store)) b in J c → Mid J f o xs blocks buffers (inHand c) c
+  pub mid-behind : (p : ℕ) (typed keep : Bool) → let c : Built = behind p (fetch (b .geo) typed keep (b .store)) b in J c → Mid J f o xs blocks buffers (inHand c) c
   unfolding behind say withStore
-  mid-behind typed keep j =
-      mid-storing {J = J} M _ blocks (record { accs = refl; reads = refl; writes = refl }) j (mid-walks f (M .file) (o .alloc) .fetches typed keep b (M .allots))
-      (gone-same f (b .past) (fetch (b .geo) typed keep (b .store) .went) (o .alloc)) (M .share ∙ sym (share-fetch (b .geo) typed keep (b .store))) refl (λ g n. refl)
+  mid-behind p typed keep j =
+      mid-storing {J = J} M _ blocks (record { accs = refl; reads = refl; writes = refl }) j (mid-walks f (M .file) (o .alloc) .fetches p typed keep b (M .allots))
+      (gone-same f p (b .past) (fetch (b .geo) typed keep (b .store) .went) (fetch (b .geo) typed keep (b .store) .took) (o .alloc)) (M .share ∙ sym (share-fetch (b .geo) typed keep (b .store))) refl (λ g n. refl)
 
   -- a record is put
   pub mid-put : (k : GoodGeo (b .geo)) (h : Holds (b .geo) (b .store)) (r : Rec) → J (putRec r b) → laws.Mid f (o .alloc) (putRec r b)

@@ -45,27 +45,27 @@ done-waits false q h = omega (arith, outstanding-most q)
 pub words-place : (i : ℕ) (q : Req) → 1 ≤ awaits q → getD (reqWords i q) 0 0 ≡ i
 unfolding reqWords waitsRead waitsWrite
 words-place i idle h = absurd (omega arith)
-words-place i (reading w l k) h = refl
-words-place i (writing w m) h = refl
-words-place i (readDone st l m) h = refl
-words-place i (writeDone st l) h = refl
+words-place i (reading q) h = refl
+words-place i (writing q) h = refl
+words-place i (readDone q) h = refl
+words-place i (writeDone q) h = refl
 
 pub length-words : (i : ℕ) (q : Req) → length (reqWords i q) ≡ dataWords
 unfolding reqWords
 length-words i idle = refl
-length-words i (reading w l k) = refl
-length-words i (writing w m) = refl
-length-words i (readDone st l m) = refl
-length-words i (writeDone st l) = refl
+length-words i (reading q) = refl
+length-words i (writing q) = refl
+length-words i (readDone q) = refl
+length-words i (writeDone q) = refl
 
 -- a completed one stands on the reply port
 pub port-one : (i : ℕ) (q : Req) (u : Alloc) → uncollected q ≡ 1 → (portOf q i u ≡ ownEntry (heldAt u i) ∷ []) × (portWords i q ≡ reqWords i q ∷ [])
 unfolding portOf portWords uncollected
 port-one i idle u h = absurd (omega arith)
-port-one i (reading w l k) u h = absurd (omega arith)
-port-one i (writing w m) u h = absurd (omega arith)
-port-one i (readDone st l m) u h = (refl, refl)
-port-one i (writeDone st l) u h = (refl, refl)
+port-one i (reading q) u h = absurd (omega arith)
+port-one i (writing q) u h = absurd (omega arith)
+port-one i (readDone q) u h = (refl, refl)
+port-one i (writeDone q) u h = (refl, refl)
 
 -- places of one file
 

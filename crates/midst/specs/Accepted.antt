@@ -175,10 +175,10 @@ pub record AcceptedNew (K : Out → Type 0) (d : Desk) (f : ℕ) (q : Ask) : Typ
 -- the status that a completed request brings
 unfoldable pub endOf : Req → ℕ
 endOf idle = 0
-endOf (reading w l k) = 0
-endOf (writing w d) = 0
-endOf (readDone st log d) = st
-endOf (writeDone st log) = st
+endOf (reading q) = 0
+endOf (writing q) = 0
+endOf (readDone q) = (q .status)
+endOf (writeDone q) = (q .status)
 
 -- no completed request brings the number of a refusal
 abbrev pub Ended : Built → Type 0

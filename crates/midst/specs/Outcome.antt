@@ -8,9 +8,10 @@ use lib.ListN.{length}
 use lib.Seq.{sets}
 use Rattle.kinds.specs.declared.Answer.{Answer}
 use Rattle.kinds.specs.declared.Answer.the-variants.{Built, Opened, Read, Written, Controlled, Collected, Closed, Passed, Counted, Status}
+use Rattle.rules.specs.Answers.{answerBytes}
 use Rattle.rules.specs.Reply.{Reply, answers, shows, Out}
 use Rattle.rules.specs.Calls.{Ask}
-use Rattle.rules.specs.Limits.{bufferBytes, answerHead}
+use Rattle.rules.specs.Limits.{bufferBytes}
 use Rattle.rules.specs.Desk.{Desk, Call, asked, replyBytes, on, answered, respond, withFile}
 use Rattle.rules.specs.Allocation.{Alloc, allotAll, allocAsked}
 use Rattle.laws.specs.Bounds.{leastRefusal}
@@ -59,14 +60,14 @@ pub record Done (f : ℕ) (d : Desk) (s : Alloc) (x : Out) (blocks buffers xs′
   pub outcome : Outcome f d s x blocks buffers xs′ blocks′ buffers′
   pub reply : x .reply ≡ answers a []
 
--- and with n bytes of data, which stand behind the answer's head, where the answer's own bytes end
+-- and with n bytes of data, which stand in the answer memory where the answer's own bytes end
 pub record Gave (f : ℕ) (d : Desk) (s : Alloc) (x : Out) (blocks buffers memory xs′ blocks′ buffers′ memory′ : List ℕ) (a : Answer) (n : ℕ) : Type 0 where
   pub outcome : Outcome f d s x blocks buffers xs′ blocks′ buffers′
   pub bytes : List ℕ
   pub reply : x .reply ≡ answers a bytes
   pub size : n ≡ length bytes
   pub most : n ≤ bufferBytes
-  pub behind : memory′ ≡ sets memory answerHead bytes
+  pub behind : memory′ ≡ sets memory (length (answerBytes a)) bytes
 
 -- no desk that the memories stand for refuses what is asked of file f
 abbrev pub Accepted : ℕ → Ask → List ℕ → List ℕ → List ℕ → Type 0

@@ -20,7 +20,7 @@ use Rattle.rules.specs.Open.{newFile, geoOf}
 use Rattle.rules.specs.Calls.{ask}
 use Rattle.rules.specs.Calls as calls
 use Rattle.rules.specs.Desk.{Desk, fileOf}
-use Rattle.rules.specs.Allocation.{Alloc, allotAll}
+use Rattle.rules.specs.Allocation.{Alloc, allot, allotAll}
 use Rattle.memory.specs.Image as image
 use Rattle.memory.specs.Fine.{StandsFor}
 use Rattle.midst.specs.Outcome.{Sound, Accepted, Done}
@@ -49,7 +49,7 @@ module _ {xs blocks buffers : List ℕ} (f r b n x : ℕ) where
       → blocks′ ≡ sets blocks (shareBytes * f) (zeros shareBytes) → buffers′ ≡ sets buffers (places * bufferBytes * f) (zeros (places * bufferBytes)) → Bytes xs′ → Bytes blocks′ → Bytes buffers′
       → (d : Desk) (s : Alloc) → StandsFor xs blocks buffers d s
       → Done f d s (ask (fileOf d f) (calls.build r b n x)) blocks buffers xs′ blocks′ buffers′ (answer.Built c)
-  unfolding answering leaves geoOf newFile emptyStore allotAll fileWords image.fileWords
+  unfolding answering leaves geoOf newFile emptyStore allotAll allot fileWords image.fileWords
   build-done (k, a) m c xs′ blocks′ buffers′ em ec wrote zeroed blank xb bb ub d s S =
       let A = accepted-build d f r b n x (a d s S) in
       let g : Geo = geoOf r b (dataBlocks n b x) in

@@ -56,10 +56,10 @@ module _ (b : Built) (k : Fine b) where
   req-short : (q : Req) → Bounded (b .geo .words) q → length (replyBytes (lookReq q b .reply)) ≤ bufferBytes
   unfolding lookReq leaves replyBytes Bounded
   req-short idle h = file-short
-  req-short (reading w l v) h = file-short
-  req-short (writing w v) h = file-short
-  req-short (readDone st log v) h = by-cases (eqb st 0) (λ z. rw (lookReq, z) (h .0)) (λ z. rw (lookReq, z) file-short)
-  req-short (writeDone st log) h = file-short
+  req-short (reading q) h = file-short
+  req-short (writing q) h = file-short
+  req-short (readDone q) h = by-cases (eqb (q .status) 0) (λ z. rw (lookReq, z) (h .0)) (λ z. rw (lookReq, z) file-short)
+  req-short (writeDone q) h = file-short
 
   look-short : (p : ℕ) → length (replyBytes (onAcc (calls.look p) p (λ a. looking.look a b) b .reply)) ≤ bufferBytes
   unfolding onAcc refusal looking.look leaves replyBytes

@@ -172,10 +172,10 @@ switch-short p v set b = both ShortOut (leb v 1) (λ _. done-short Controlled _)
 abort-short : (p : ℕ) (q : Req) (b : Built) → ShortOut (abort p q b)
 unfolding abort
 abort-short p idle b = status-short 5 39 b
-abort-short p (reading w l k) b = done-short Controlled _
-abort-short p (writing w d) b = done-short Controlled _
-abort-short p (readDone st l d) b = status-short 5 2 b
-abort-short p (writeDone st l) b = status-short 5 2 b
+abort-short p (reading q) b = done-short Controlled _
+abort-short p (writing q) b = done-short Controlled _
+abort-short p (readDone q) b = status-short 5 2 b
+abort-short p (writeDone q) b = status-short 5 2 b
 
 pub control-short : (p : ℕ) (a : Acc) (c : Option Control) (b : Built) → ShortOut (control p a c b)
 unfolding control
@@ -194,15 +194,15 @@ collected-short st log d p b h = both ShortOut (eqb st 0) (λ _. unfold leaves a
 pub collect-short : (p : ℕ) (q : Req) (b : Built) → Bounded (b .geo .words) q → ShortOut (collect p q b)
 unfolding collect Bounded
 collect-short p idle b h = status-short 6 39 b
-collect-short p (reading w l k) b h = status-short 6 1 b
-collect-short p (writing w d) b h = status-short 6 1 b
-collect-short p (readDone st log d) b h = collected-short st log d p b (h .0)
-collect-short p (writeDone st log) b h = collected-short st log [] p b (omega arith)
+collect-short p (reading q) b h = status-short 6 1 b
+collect-short p (writing q) b h = status-short 6 1 b
+collect-short p (readDone q) b h = collected-short (q .status) (q .log) (q .bytes) p b (h .0)
+collect-short p (writeDone q) b h = collected-short (q .status) (q .log) [] p b (omega arith)
 
 pub close-short : (p : ℕ) (a : Acc) (q : Req) (b : Built) → ShortOut (close p a q b)
 unfolding close
 close-short p a idle b = done-short Closed _
-close-short p a (reading w l k) b = done-short Closed _
-close-short p a (writing w d) b = done-short Closed _
-close-short p a (readDone st l d) b = status-short 7 33 b
-close-short p a (writeDone st l) b = status-short 7 33 b
+close-short p a (reading q) b = done-short Closed _
+close-short p a (writing q) b = done-short Closed _
+close-short p a (readDone q) b = status-short 7 33 b
+close-short p a (writeDone q) b = status-short 7 33 b

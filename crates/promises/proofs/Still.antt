@@ -23,7 +23,7 @@ use Rattle.rules.specs.Allocation.{Alloc, allotAll, allocAsked}
 use Rattle.rules.proofs.Split.{both, opt}
 use Rattle.laws.specs.Runs.{OnFile}
 use Rattle.laws.specs.Entries.{Calm, Agreed}
-use Rattle.laws.proofs.Allocated.{happens-here}
+use Rattle.laws.proofs.Allocated.{happens-here, happens-nowhere}
 use Rattle.laws.proofs.EightFiles.{file-here}
 use Rattle.midst.proofs.StandsBehind.{still-stays}
 use Rattle.promises.specs.Promise.{Memories, Standing, Seen, stands, Behind, lent}
@@ -43,10 +43,10 @@ file-still b = opt (Still b) (oldest (b .store .recs)) (λ _. leaves-still _ b) 
 req-still : (q : Req) (b : Built) → Still b (lookReq q b)
 unfolding lookReq
 req-still idle b = file-still b
-req-still (reading w l k) b = file-still b
-req-still (writing w d) b = file-still b
-req-still (readDone st l d) b = both (Still b) (eqb st 0) (λ _. leaves-still _ b) (λ _. file-still b)
-req-still (writeDone st l) b = file-still b
+req-still (reading q) b = file-still b
+req-still (writing q) b = file-still b
+req-still (readDone q) b = both (Still b) (eqb (q .status) 0) (λ _. leaves-still _ b) (λ _. file-still b)
+req-still (writeDone q) b = file-still b
 
 look-still : (p : ℕ) (b : Built) → Still b (onAcc (calls.look p) p (λ a. looking.look a b) b)
 unfolding onAcc looking.look
@@ -84,8 +84,8 @@ module _ (d : Desk) (s : Alloc) (A : Agreed d s) (f : ℕ) (q : Ask) (I : Idle q
   alloc-still = go (ltb f files) refl
     where
       go : (t : Bool) → ltb f files ≡ t → allocAsked d (on f q) s ≡ s
-      go true e = unfold allocAsked allotAll in rw (e, allocAsked, happens-here f d q, I (fileOf d f) (A .calm f (ltb-true f files e)) .1) refl
-      go false e = unfold allocAsked in rw (e, allocAsked) refl
+      go true e = unfold allocAsked allotAll in rw (allocAsked, happens-here f d q (ltb-true f files e), I (fileOf d f) (A .calm f (ltb-true f files e)) .1) refl
+      go false e = unfold allocAsked allotAll in rw (allocAsked, happens-nowhere f d q e) refl
 
 -- memories of any content are behind such a call what they were
 

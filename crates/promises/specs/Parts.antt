@@ -41,10 +41,10 @@ ofFile f b =
 -- "the record lying in that reader's buffer as it will be answered"
 unfoldable pub ofReq : ℕ → ℕ → Req → Built → Part
 ofReq f p idle b = ofFile f b
-ofReq f p (reading w l k) b = ofFile f b
-ofReq f p (writing w d) b = ofFile f b
-ofReq f p (readDone st l d) b = elim (eqb st 0) [ true ↦ ofBuffers (bufferBytes * placeOf f p) (length d) | false ↦ ofFile f b ]
-ofReq f p (writeDone st l) b = ofFile f b
+ofReq f p (reading q) b = ofFile f b
+ofReq f p (writing q) b = ofFile f b
+ofReq f p (readDone q) b = elim (eqb (q .status) 0) [ true ↦ ofBuffers (bufferBytes * placeOf f p) (length (q .bytes)) | false ↦ ofFile f b ]
+ofReq f p (writeDone q) b = ofFile f b
 
 unfoldable pub ofReader : ℕ → ℕ → File → Part
 ofReader f p unbuilt = nothing

@@ -3,13 +3,13 @@ use mathlib.Core.Path.{_≡_, refl}
 use mathlib.Core.List.{List, [], _∷_, _++_, map}
 use Prim.Native.Nat.{ℕ, _+_}
 use lib.ListN.{length}
-use Rattle.rules.specs.State.{Rec, Timer, Hap, puts, gone, purges, waits, arms, ends, cancels, collects, Built}
-use Rattle.rules.specs.Desk.{freshDesk, fileOf, history}
-use Rattle.rules.specs.Allocation.{Alloc, own, timed, nothing, upFrom, freshAlloc, heldAt, allocAfter, queueOf, timerList}
+use Rattle.rules.specs.State.{Rec, Timer, Hap, made, puts, takes, drops, purges, waits, arms, ends, cancels, collects, Built}
+use Rattle.rules.specs.Desk.{asked, freshDesk, fileOf, history}
+use Rattle.rules.specs.Allocation.{Alloc, own, timed, nothing, upFrom, freshAlloc, heldAt, allocAfter, happening, told, queueOf, timerList}
 use Rattle.rules.proofs.All.{All}
 use Rattle.rules.proofs.Vocabulary.{builds, opens, reads, writes, controls, closes, passes, built, opened, got, wrote, done, waiting, end-of-file, timed-out}
 use Rattle.rules.proofs.Vocabulary as ask
-use Rattle.rules.proofs.Script.{Exchange, _⇒_, call, played, Plays}
+use Rattle.rules.proofs.Script.{Exchange, _⇒_, call, played, Plays, loads}
 
 unfoldable pub allotted : List Exchange → Alloc
 allotted l = allocAfter freshDesk (map call l) freshAlloc
@@ -73,7 +73,7 @@ pub closing-order : allotted (
 unfolding All Plays allotted
 closing-order = refl
 
--- what happened to file 0, in order: the read discards the open record of a writer, waits with a timer, and is served by the write; a second
+-- what happened to file 0, in order: it is made; the read discards the open record of a writer, waits with a timer, and is served by the write; a second
 -- writer's open record goes as the file settles; the close record is put, the reader ends; a purge
 pub happenings : history 0 freshDesk (map call (
     builds 0 4 1 2 1 ⇒ built 4
@@ -95,12 +95,13 @@ pub happenings : history 0 freshDesk (map call (
     ∷ closes 0 1 ⇒ done
     ∷ opens 0 1 1 0 ⇒ opened 0 1
     ∷ []))
-    ≡ puts (record { typ = 1; wid = 1; body = [] })
-    ∷ gone (record { typ = 1; wid = 1; body = [] })
+    ≡ made (record { words = 4; factor = 1; blocks = 4 })
+    ∷ puts (record { typ = 1; wid = 1; body = [] })
+    ∷ drops (record { typ = 1; wid = 1; body = [] })
     ∷ waits 1
     ∷ arms 1 5
     ∷ puts (record { typ = 0; wid = 1; body = 0x41 ∷ 0x42 ∷ [] })
-    ∷ gone (record { typ = 0; wid = 1; body = 0x41 ∷ 0x42 ∷ [] })
+    ∷ takes 1 (record { typ = 0; wid = 1; body = 0x41 ∷ 0x42 ∷ [] })
     ∷ ends 1 0
     ∷ collects 1
     ∷ waits 1
@@ -108,7 +109,7 @@ pub happenings : history 0 freshDesk (map call (
     ∷ ends 1 2
     ∷ puts (record { typ = 2; wid = 1; body = [] })
     ∷ collects 1
-    ∷ gone (record { typ = 2; wid = 1; body = [] })
+    ∷ drops (record { typ = 2; wid = 1; body = [] })
     ∷ waits 1
     ∷ arms 1 5
     ∷ ends 1 22
@@ -121,3 +122,33 @@ pub happenings : history 0 freshDesk (map call (
     ∷ []
 unfolding All Plays
 happenings = refl
+
+-- a load says what it makes and then its records; a read under 46 takes the open record, one under 47 nothing, the next the data record
+pub taken-by-whom : history 0 freshDesk (map call (
+    loads 0 ("0100040100030002" ∷ "00010001" ∷ "0000000141424344" ∷ []) "" 0
+    ∷ opens 0 0 3 0 ⇒ opened 0 0
+    ∷ opens 0 0 3 0 ⇒ opened 1 0
+    ∷ controls 0 1 46 1 ⇒ done
+    ∷ reads 0 1 4 ⇒ got 2 "00010001"
+    ∷ controls 0 0 47 1 ⇒ done
+    ∷ reads 0 0 4 ⇒ got 2 "41424344"
+    ∷ reads 0 0 4 ⇒ got 2 "41424344"
+    ∷ []))
+    ≡ made (record { words = 4; factor = 1; blocks = 3 })
+    ∷ puts (record { typ = 1; wid = 1; body = [] })
+    ∷ puts (record { typ = 0; wid = 1; body = 0x41 ∷ 0x42 ∷ 0x43 ∷ 0x44 ∷ [] })
+    ∷ takes 1 (record { typ = 1; wid = 1; body = [] })
+    ∷ takes 0 (record { typ = 0; wid = 1; body = 0x41 ∷ 0x42 ∷ 0x43 ∷ 0x44 ∷ [] })
+    ∷ []
+unfolding All Plays
+taken-by-whom = refl
+
+-- a load into a file above 7 is refused, and nothing happens to it
+pub nothing-above-7 : history 8 freshDesk (map call (loads 8 ("0100040100030002" ∷ "00010001" ∷ "0000000141424344" ∷ []) "" 31 ∷ [])) ≡ []
+unfolding All Plays
+nothing-above-7 = refl
+
+-- what happens to the desk while time passes, in the order of its clock: file 1's reader ends before file 0's
+pub told-in-order : told (played three-wait) (allotted three-wait) (asked (call (passes 5 ⇒ done))) ≡ happening 1 (ends 0 22) ∷ happening 0 (ends 0 22) ∷ []
+unfolding All Plays allotted three-wait
+told-in-order = refl

@@ -1,13 +1,11 @@
 -- Beside the definition: which entry each request and each timer holds, the order of the free list, and the desk-wide order of the timers.
 -- Freed entries "go to the front of the free list and are taken from there. A request takes its own entry before its timer's and frees the timer's
 -- first."
-use mathlib.Core.Bool.{cond}
-use mathlib.Core.List.{List, [], _∷_, map}
-use Prim.Native.Nat.{ℕ, zero, suc, _+_, _*_}
-use lib.Dec.{ltb}
+use mathlib.Core.List.{List, [], _∷_, _++_, map}
+use Prim.Native.Nat.{ℕ, zero, suc, _+_, _*_, _/_, _%_}
 use lib.ListN.{getD, set, drop, replicate}
 use Rattle.rules.specs.Limits.{files, places, entries}
-use Rattle.rules.specs.State.{Req, idle, reading, writing, readDone, writeDone, Timer, Hap, puts, gone, purges, waits, arms, ends, cancels, collects, Built, File, unbuilt, built}
+use Rattle.rules.specs.State.{Req, idle, reading, writing, readDone, writeDone, Timer, Hap, made, puts, takes, drops, purges, waits, arms, ends, cancels, collects, Built, File, unbuilt, built}
 use Rattle.rules.specs.Requests.{withoutTimer, armIn}
 use Rattle.rules.specs.Time.{due, minus}
 use Rattle.rules.specs.Desk.{Desk, Call, Asked, on, time, bad, asked, respond, happens}
@@ -86,8 +84,10 @@ goesAt i s = let t : Alloc = endsAt i s in freeOwn i (heldAt t i) t
 
 -- one happening in file f
 unfoldable pub allot : ℕ → Hap → Alloc → Alloc
+allot f (made g) s = s
 allot f (puts r) s = s
-allot f (gone r) s = s
+allot f (takes p r) s = s
+allot f (drops r) s = s
 allot f purges s = s
 allot f (waits p) s = takeOwn (placeOf f p) s
 allot f (arms p n) s = withClock (armIn (record { place = placeOf f p; left = n }) (s .clock)) (takeTimer (placeOf f p) (heldAt s (placeOf f p)) s)
@@ -103,20 +103,42 @@ unfoldable pub endAll : List ℕ → Alloc → Alloc
 endAll [] s = s
 endAll (i ∷ l) s = endAll l (endsAt i s)
 
--- time is no fold over the files' happenings: it passes in all files at once, and the due timers go in the order of the desk's clock; the others
--- lose e
+-- time passes in all files at once: the due timers go in the order of the desk's clock (`told`); the others lose e
 unfoldable pub allocTime : ℕ → Alloc → Alloc
 allocTime e s = let t : Alloc = endAll (due e (s .clock)) s in withClock (map (minus e) (t .clock)) t
 
 unfoldable pub allocAsked : Desk → Asked → Alloc → Alloc
-allocAsked d (on f q) s = cond (ltb f files) (allotAll f (happens f d (on f q)) s) s
+allocAsked d (on f q) s = allotAll f (happens f d (on f q)) s
 allocAsked d (time e) s = allocTime e s
 allocAsked d bad s = s
 
--- the allocation after a run from desk d
+-- a happening of the desk: the file that it is of, and what happens to it
+pub record Happening : Type 0 where
+  pub file : ℕ
+  pub hap : Hap
+
+unfoldable pub happening : ℕ → Hap → Happening
+happening f h = record { file = f; hap = h }
+
+-- the request at place i of the desk ends by time
+unfoldable pub timesOut : ℕ → Happening
+timesOut i = happening (i / places) (ends (i % places) 22)
+
+-- what a call does to the desk, in order: time's ends come in the order of the clock. What it says of a file is what happens to that file, and the
+-- allocation is a fold over it (laws `told-of`, `allocated-as-told`)
+unfoldable pub told : Desk → Alloc → Asked → List Happening
+told d s (on f q) = map (happening f) (happens f d (on f q))
+told d s (time e) = map timesOut (due e (s .clock))
+told d s bad = []
+
+-- the allocation after a run from desk d, and what happened to the desk
 unfoldable pub allocAfter : Desk → List Call → Alloc → Alloc
 allocAfter d [] s = s
 allocAfter d (c ∷ cs) s = allocAfter (respond d c .desk) cs (allocAsked d (asked c) s)
+
+unfoldable pub annals : Desk → List Call → Alloc → List Happening
+annals d [] s = []
+annals d (c ∷ cs) s = told d s (asked c) ++ annals (respond d c .desk) cs (allocAsked d (asked c) s)
 
 -- the lists
 
@@ -139,10 +161,10 @@ queueOf q f (built b) s = map (λ p. ownEntry (heldAt s (placeOf f p))) (q b)
 -- "an accessor's reply port": a completed request's entry
 unfoldable pub portOf : Req → ℕ → Alloc → List ℕ
 portOf idle i s = []
-portOf (reading w l k) i s = []
-portOf (writing w d) i s = []
-portOf (readDone st l d) i s = ownEntry (heldAt s i) ∷ []
-portOf (writeDone st l) i s = ownEntry (heldAt s i) ∷ []
+portOf (reading q) i s = []
+portOf (writing q) i s = []
+portOf (readDone q) i s = ownEntry (heldAt s i) ∷ []
+portOf (writeDone q) i s = ownEntry (heldAt s i) ∷ []
 
 -- "or the timer list"
 unfoldable pub timerList : Alloc → List ℕ

@@ -37,7 +37,7 @@ closed p a b = elim (a .writer) [ false ↦ vacate p b | true ↦ putRec (closeR
 -- "Closing: a waiting request is cancelled"; 33 "close with a completed one uncollected"
 unfoldable pub close : ℕ → Acc → Req → Built → Out
 close p a idle b = answering Closed (settle (closed p a b))
-close p a (reading w l k) b = answering Closed (settle (closed p a (cancel p b)))
-close p a (writing w d) b = answering Closed (settle (closed p a (cancel p b)))
-close p a (readDone st l d) b = status 7 33 b
-close p a (writeDone st l) b = status 7 33 b
+close p a (reading q) b = answering Closed (settle (closed p a (cancel p b)))
+close p a (writing q) b = answering Closed (settle (closed p a (cancel p b)))
+close p a (readDone q) b = status 7 33 b
+close p a (writeDone q) b = status 7 33 b

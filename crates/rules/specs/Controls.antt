@@ -34,10 +34,10 @@ ofReader a b o = elim (a .writer) [ true ↦ status 5 34 b | false ↦ o ]
 -- nothing outstanding
 unfoldable pub abort : ℕ → Req → Built → Out
 abort p idle b = status 5 39 b
-abort p (reading w l k) b = answering Controlled (cancel p b)
-abort p (writing w d) b = answering Controlled (cancel p b)
-abort p (readDone st l d) b = status 5 2 b
-abort p (writeDone st l) b = status 5 2 b
+abort p (reading q) b = answering Controlled (cancel p b)
+abort p (writing q) b = answering Controlled (cancel p b)
+abort p (readDone q) b = status 5 2 b
+abort p (writeDone q) b = status 5 2 b
 
 -- 33: "control (not 43) while a request is outstanding"
 unfoldable pub whileIdle : Acc → Built → Out → Out

@@ -1,5 +1,5 @@
 -- The desk: eight files; `respond` to a call; runs from a fresh desk; the event program.
-use mathlib.Core.Bool.{true, false}
+use mathlib.Core.Bool.{true, false, _&&_}
 use mathlib.Core.List.{List, [], _∷_, _++_, map}
 use mathlib.Core.Option.{none, some}
 use Prim.Native.Nat.{ℕ}
@@ -101,9 +101,9 @@ unfoldable pub after : Desk → List Call → Desk
 after d [] = d
 after d (c ∷ cs) = after (respond d c .desk) cs
 
--- what a call does to file f, in order
+-- what a call does to file f, in order; to a file above 7 nothing
 unfoldable pub happens : ℕ → Desk → Asked → List Hap
-happens f d (on g q) = elim (eqb g f) [ true ↦ ask (fileOf d f) q .haps | false ↦ [] ]
+happens f d (on g q) = elim (eqb g f && ltb g files) [ true ↦ ask (fileOf d f) q .haps | false ↦ [] ]
 happens f d (time e) = timeHaps e (fileOf d f)
 happens f d bad = []
 

@@ -17,10 +17,10 @@ lookFile b = elim (oldest (b .store .recs)) [ none ↦ leaves (shows 39 []) b | 
 -- "It shows the record lying in that reader's buffer as it will be answered, else the data bytes of the file's oldest data record"
 unfoldable pub lookReq : Req → Built → Out
 lookReq idle b = lookFile b
-lookReq (reading w l k) b = lookFile b
-lookReq (writing w d) b = lookFile b
-lookReq (readDone st l d) b = elim (eqb st 0) [ true ↦ leaves (shows 0 d) b | false ↦ lookFile b ]
-lookReq (writeDone st l) b = lookFile b
+lookReq (reading q) b = lookFile b
+lookReq (writing q) b = lookFile b
+lookReq (readDone q) b = elim (eqb (q .status) 0) [ true ↦ leaves (shows 0 (q .bytes)) b | false ↦ lookFile b ]
+lookReq (writeDone q) b = lookFile b
 
 -- look: 34 by a writer, 39 no record
 unfoldable pub look : Acc → Built → Out

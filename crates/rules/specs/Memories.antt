@@ -24,10 +24,10 @@ blocks d = parts files (λ f. shareOf (fileOf d f))
 -- "A completed read's record, or a waiting write's data, lies at the start of the accessor's buffer, which is otherwise zero."
 unfoldable pub lies : Req → List ℕ
 lies idle = []
-lies (reading w l k) = []
-lies (writing w d) = d
-lies (readDone st l d) = d
-lies (writeDone st l) = []
+lies (reading q) = []
+lies (writing q) = q .bytes
+lies (readDone q) = q .bytes
+lies (writeDone q) = []
 
 unfoldable pub buffer : Option Acc → List ℕ
 buffer none = zeros bufferBytes

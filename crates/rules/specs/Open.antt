@@ -9,15 +9,15 @@ use Rattle.kinds.specs.declared.Answer.the-variants.{Opened, Status}
 use Rattle.kinds.specs.declared.Answer.the-variants as answer
 use Rattle.rules.specs.Limits.{places, mostMode}
 use Rattle.rules.specs.Geometry.{dataBlocks, capacity, inRange, fitsShare}
-use Rattle.rules.specs.State.{Rec, idle, Acc, Geo, Store, purges, Built}
+use Rattle.rules.specs.State.{Rec, idle, Acc, Geo, Store, made, purges, Built}
 use Rattle.rules.specs.Store.{used, emptyStore, purge}
 use Rattle.rules.specs.Requests.{countAcc, writers, readers, opened, capacityOf, withStore, withAccs, say, putRec}
 use Rattle.rules.specs.Settle.{settle}
 use Rattle.rules.specs.Reply.{answers, Out, answering, status, unmade}
 
--- a new file, with no accessor
+-- a new file, with no accessor; that it was made is told first
 unfoldable pub newFile : Geo → Store → Built
-newFile g s = record { geo = g; store = s; accs = replicate places none; rq = []; wq = []; timers = []; past = [] }
+newFile g s = record { geo = g; store = s; accs = replicate places none; rq = []; wq = []; timers = []; past = made g ∷ [] }
 
 unfoldable pub geoOf : ℕ → ℕ → ℕ → Geo
 geoOf r b d = record { words = r; factor = b; blocks = d }

@@ -6,7 +6,7 @@ use Prim.Native.Nat.{ℕ, zero, suc, _+_}
 use lib.Dec.{leb, eqb}
 use lib.ListN.{getD}
 use Rattle.rules.specs.Geometry.{capacity}
-use Rattle.rules.specs.State.{Rec, Req, idle, reading, writing, readDone, writeDone, Acc, Store, Timer, Hap, puts, gone, waits, arms, ends, cancels, collects, Built}
+use Rattle.rules.specs.State.{Rec, Req, idle, reading, writing, readDone, writeDone, Acc, Store, Timer, Hap, puts, takes, drops, waits, arms, ends, cancels, collects, Built}
 use Rattle.rules.specs.Store.{used, put, Found}
 
 -- who is open
@@ -76,18 +76,23 @@ alterAcc p f b = withAccs (alter f (b .accs) p) b
 unfoldable pub putRec : Rec → Built → Built
 putRec r b = say (puts r ∷ []) (withStore (put (b .geo) r (b .store)) b)
 
--- behind what a read found
-unfoldable pub behind : Found → Built → Built
-behind f b = say (map gone (f .went)) (withStore (f .store) b)
+-- what the read at p took, told
+unfoldable pub tookBy : ℕ → Option Rec → List Hap
+tookBy p none = []
+tookBy p (some r) = takes p r ∷ []
+
+-- behind what the read at p found
+unfoldable pub behind : ℕ → Found → Built → Built
+behind p f b = say (map drops (f .went) ++ tookBy p (f .took)) (withStore (f .store) b)
 
 -- requests
 
 unfoldable pub isIdle : Req → Bool
 isIdle idle = true
-isIdle (reading w l k) = false
-isIdle (writing w d) = false
-isIdle (readDone st l d) = false
-isIdle (writeDone st l) = false
+isIdle (reading q) = false
+isIdle (writing q) = false
+isIdle (readDone q) = false
+isIdle (writeDone q) = false
 
 unfoldable pub withReq : Req → Acc → Acc
 withReq q a = record { writer = a .writer; ident = a .ident; sharing = a .sharing; timeout = a .timeout; extended = a .extended; typed = a .typed; keep = a .keep; first = a .first; req = q }
@@ -124,13 +129,20 @@ finish p st q b = say (ends p st ∷ []) (leave p q b)
 unfoldable pub cancel : ℕ → Built → Built
 cancel p b = say (cancels p ∷ []) (leave p idle b)
 
--- a waiting request completes with a status other than 0, and brings nothing; any other stays as it is
+-- what a read and a write become that complete with a status other than 0, and bring nothing
+abbrev pub readFails : ℕ → Req
+readFails st = readDone (record { status = st; log = 0; bytes = [] })
+
+abbrev pub writeFails : ℕ → Req
+writeFails st = writeDone (record { status = st; log = 0 })
+
+-- so does a waiting request; any other stays as it is
 unfoldable pub failReq : ℕ → ℕ → Req → Built → Built
 failReq p st idle b = b
-failReq p st (reading w l k) b = finish p st (readDone st 0 []) b
-failReq p st (writing w d) b = finish p st (writeDone st 0) b
-failReq p st (readDone s l d) b = b
-failReq p st (writeDone s l) b = b
+failReq p st (reading q) b = finish p st (readFails st) b
+failReq p st (writing q) b = finish p st (writeFails st) b
+failReq p st (readDone q) b = b
+failReq p st (writeDone q) b = b
 
 unfoldable pub fail : ℕ → ℕ → Built → Built
 fail p st b = elim (accAt b p) [ none ↦ b | some a ↦ failReq p st (a .req) b ]

@@ -5,7 +5,7 @@ use mathlib.Core.Option.{none, some}
 use Prim.Native.Nat.{ℕ, zero, suc, _+_}
 use lib.ListN.{length, take}
 use Rattle.words.specs.Word.{word}
-use Rattle.rules.specs.State.{Rec, Req, idle, reading, writing, readDone, writeDone, Acc, Built}
+use Rattle.rules.specs.State.{Rec, Offered, Req, idle, reading, writing, readDone, writeDone, Acc, Built}
 use Rattle.rules.specs.Store.{fetch, Found}
 use Rattle.rules.specs.Count.{logOf}
 use Rattle.rules.specs.Requests.{accAt, fits, putRec, behind, finish}
@@ -15,7 +15,10 @@ unfoldable pub handed : Bool → ℕ → Rec → List ℕ
 handed typed limit r = take limit (cond typed (word (r .typ) ++ word (r .wid) ++ r .body) (r .body))
 
 unfoldable pub readResult : Bool → List ℕ → Req
-readResult words bytes = readDone 0 (logOf words (length bytes)) bytes
+readResult words bytes = readDone (record { status = 0; log = logOf words (length bytes); bytes = bytes })
+
+unfoldable pub writeResult : Offered → Req
+writeResult q = writeDone (record { status = 0; log = logOf (q .words) (length (q .bytes)) })
 
 unfoldable pub dataRec : Acc → List ℕ → Rec
 dataRec a bytes = record { typ = 0; wid = a .ident; body = bytes }
@@ -31,29 +34,29 @@ still b = record { file = b; moved = false }
 unfoldable pub onward : Built → Turn
 onward b = record { file = b; moved = true }
 
--- the waiting read q of the accessor a at p; "as first waiting reader whenever the file settles" open and close records at the head go
+-- the waiting read of the accessor a at p; "as first waiting reader whenever the file settles" open and close records at the head go
 unfoldable pub serveReader : ℕ → Acc → Req → Built → Turn
-serveReader p a (reading words limit keep) b =
-    let f : Found = fetch (b .geo) (a .typed) keep (b .store) in
+serveReader p a (reading q) b =
+    let f : Found = fetch (b .geo) (a .typed) (q .keep) (b .store) in
     elim (f .got) [
-      | none ↦ still (behind f b)
-      | some r ↦ onward (finish p 0 (readResult words (handed (a .typed) limit r)) (behind f b))
+      | none ↦ still (behind p f b)
+      | some r ↦ onward (finish p 0 (readResult (q .words) (handed (a .typed) (q .limit) r)) (behind p f b))
     ]
 serveReader p a idle b = still b
-serveReader p a (writing words bytes) b = still b
-serveReader p a (readDone s l d) b = still b
-serveReader p a (writeDone s l) b = still b
+serveReader p a (writing q) b = still b
+serveReader p a (readDone q) b = still b
+serveReader p a (writeDone q) b = still b
 
 unfoldable pub serveWriter : ℕ → Acc → Req → Built → Turn
-serveWriter p a (writing words bytes) b =
+serveWriter p a (writing q) b =
     elim (fits b) [
-      | true ↦ onward (finish p 0 (writeDone 0 (logOf words (length bytes))) (putRec (dataRec a bytes) b))
+      | true ↦ onward (finish p 0 (writeResult q) (putRec (dataRec a (q .bytes)) b))
       | false ↦ still b
     ]
 serveWriter p a idle b = still b
-serveWriter p a (reading words limit keep) b = still b
-serveWriter p a (readDone s l d) b = still b
-serveWriter p a (writeDone s l) b = still b
+serveWriter p a (reading q) b = still b
+serveWriter p a (readDone q) b = still b
+serveWriter p a (writeDone q) b = still b
 
 -- the accessor at the head of a queue, handed to `serve`
 unfoldable pub atHead : (ℕ → Acc → Req → Built → Turn) → List ℕ → Built → Turn

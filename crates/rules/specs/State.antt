@@ -24,17 +24,35 @@ pub record Store : Type 0 where
   pub recs : List Rec
   pub share : List ℕ
 
+-- a waiting read: whether it counts in words, at most how many bytes, whether under control 47
+pub record Wanted : Type 0 where
+  pub words : Bool
+  pub limit : ℕ
+  pub keep : Bool
+
+-- a waiting write: whether it counts in words, and the data
+pub record Offered : Type 0 where
+  pub words : Bool
+  pub bytes : List ℕ
+
+-- a completed read: how it ended, its log, and the bytes as they will be answered
+pub record Brought : Type 0 where
+  pub status : ℕ
+  pub log : ℕ
+  pub bytes : List ℕ
+
+-- a completed write
+pub record Wrote : Type 0 where
+  pub status : ℕ
+  pub log : ℕ
+
 -- "One outstanding request per accessor, until collected."
 pub data Req : Type 0 where
   idle : Req
-  -- a waiting read: whether it counts in words, at most how many bytes, whether under control 47
-  reading : (words : Bool) (limit : ℕ) (keep : Bool) → Req
-  -- a waiting write: whether it counts in words, and the data
-  writing : (words : Bool) (bytes : List ℕ) → Req
-  -- a completed read
-  readDone : (status log : ℕ) (bytes : List ℕ) → Req
-  -- a completed write
-  writeDone : (status log : ℕ) → Req
+  reading : Wanted → Req
+  writing : Offered → Req
+  readDone : Brought → Req
+  writeDone : Wrote → Req
 
 pub record Acc : Type 0 where
   pub writer : Bool
@@ -56,12 +74,15 @@ pub record Timer : Type 0 where
   pub place : ℕ
   pub left : ℕ
 
--- what happens to a file in a call, in order; what is stated beside the definition is a fold over it, but for the passing of time, which goes over
--- all files at once (`Allocation.allocTime`)
+-- what happens to a file in a call, in order; what is stated beside the definition is a fold over it. Time passes in all files at once: what it
+-- does to the desk, in order, is `Allocation.told`
 pub data Hap : Type 0 where
-  -- a record was put; was handed to a read or discarded; all records were purged
+  -- the file was made, by build or load
+  made : Geo → Hap
+  -- a record was put; the read at a place took it; it was discarded at the head; all records were purged
   puts : Rec → Hap
-  gone : Rec → Hap
+  takes : ℕ → Rec → Hap
+  drops : Rec → Hap
   purges : Hap
   -- the request at a place began to wait, armed its timer, completed with a status, was cancelled, was collected
   waits : ℕ → Hap

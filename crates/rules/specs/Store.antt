@@ -90,24 +90,25 @@ discard g s = advanceBy (length (dropped (s .recs))) g s
 unfoldable pub purge : Geo → Store → Store
 purge g s = record { block = (s .block + dividedUp (used s) (g .factor)) % g .blocks; spent = 0; recs = []; share = s .share }
 
--- what a read finds: the store behind it, the record, if there is one, and the records that went, in their order
+-- what a read finds: the store behind it, the record, if there is one, the records that it discarded, in their order, and the one that it took
 pub record Found : Type 0 where
   pub store : Store
   pub got : Option Rec
   pub went : List Rec
+  pub took : Option Rec
 
 unfoldable pub headOf : List Rec → Option Rec
 headOf [] = none
 headOf (r ∷ l) = some r
 
--- the head record is taken, behind those that went; under control 47 it stays
+-- the head record is taken, behind those that went; under control 47 it stays, and nothing is taken
 unfoldable pub takeHead : Geo → Bool → List Rec → Store → Found
 takeHead g keep went s =
     elim (headOf (s .recs)) [
-      | none ↦ record { store = s; got = none; went = went }
+      | none ↦ record { store = s; got = none; went = went; took = none }
       | some r ↦ elim keep [
-        | true ↦ record { store = s; got = some r; went = went }
-        | false ↦ record { store = advance g s; got = some r; went = went ++ (r ∷ []) }
+        | true ↦ record { store = s; got = some r; went = went; took = none }
+        | false ↦ record { store = advance g s; got = some r; went = went; took = some r }
       ]
     ]
 

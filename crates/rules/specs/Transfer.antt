@@ -21,13 +21,13 @@ mayWait others a = ltb 0 others || a .extended || a .first
 unfoldable pub readOn : ℕ → Acc → ℕ → Built → Out
 readOn p a n b =
     let f : Found = fetch (b .geo) (a .typed) (a .keep) (b .store) in
-    let c : Built = alterAcc p begun (behind f b) in
+    let c : Built = alterAcc p begun (behind p f b) in
     elim (f .got) [
       | some r ↦
           let d : List ℕ = handed (a .typed) (countBytes n) r in
           leaves (answers (Read (logOf (inWords n) (length d))) d) (settle c)
       | none ↦ elim (mayWait (writers b) a) [
-        | true ↦ status 3 1 (settle (wait false p (a .timeout) (reading (inWords n) (countBytes n) (a .keep)) c))
+        | true ↦ status 3 1 (settle (wait false p (a .timeout) (reading (record { words = inWords n; limit = countBytes n; keep = a .keep })) c))
         | false ↦ status 3 2 (settle c)
       ]
     ]
@@ -53,7 +53,7 @@ writeOn p a n d b =
     elim (fits b && isNil (b .wq)) [
       | true ↦ answering (Written (logOf (inWords n) (length d))) (settle (alterAcc p begun (putRec (dataRec a d) b)))
       | false ↦ elim (mayWait (readers b) a) [
-        | true ↦ status 4 1 (settle (wait true p (a .timeout) (writing (inWords n) d) (alterAcc p begun b)))
+        | true ↦ status 4 1 (settle (wait true p (a .timeout) (writing (record { words = inWords n; bytes = d })) (alterAcc p begun b)))
         | false ↦ status 4 2 (settle (alterAcc p begun b))
       ]
     ]
@@ -80,7 +80,7 @@ collected st log d p b =
 -- collect: 39 nothing outstanding
 unfoldable pub collect : ℕ → Req → Built → Out
 collect p idle b = status 6 39 b
-collect p (reading w l k) b = status 6 1 b
-collect p (writing w d) b = status 6 1 b
-collect p (readDone st log d) b = collected st log d p b
-collect p (writeDone st log) b = collected st log [] p b
+collect p (reading q) b = status 6 1 b
+collect p (writing q) b = status 6 1 b
+collect p (readDone q) b = collected (q .status) (q .log) (q .bytes) p b
+collect p (writeDone q) b = collected (q .status) (q .log) [] p b

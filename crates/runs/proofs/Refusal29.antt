@@ -46,10 +46,10 @@ file-other b = opt OtherOut (oldest (b .store .recs)) (λ _. refl) (λ r _. refl
 req-other : (q : Req) (b : Built) → OtherOut (lookReq q b)
 unfolding lookReq leaves Other replyStatus
 req-other idle b = file-other b
-req-other (reading w l k) b = file-other b
-req-other (writing w d) b = file-other b
-req-other (readDone st l d) b = both OtherOut (eqb st 0) (λ _. refl) (λ _. file-other b)
-req-other (writeDone st l) b = file-other b
+req-other (reading q) b = file-other b
+req-other (writing q) b = file-other b
+req-other (readDone q) b = both OtherOut (eqb (q .status) 0) (λ _. refl) (λ _. file-other b)
+req-other (writeDone q) b = file-other b
 
 look-other : (p : ℕ) (b : Built) → OtherOut (onAcc (calls.look p) p (λ a. looking.look a b) b)
 unfolding onAcc refusal looking.look leaves Other replyStatus

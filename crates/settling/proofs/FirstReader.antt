@@ -8,7 +8,7 @@ use native.Mathlib.Omega.{arith}
 use lib.Dec.{eqb}
 use Rattle.occurrences.specs.Count.{bit}
 use Rattle.rules.specs.Limits.{places, entries, mostReadBytes}
-use Rattle.rules.specs.State.{reading, Acc, Built}
+use Rattle.rules.specs.State.{Wanted, reading, Acc, Built}
 use Rattle.rules.specs.Requests.{accAt}
 use Rattle.rules.specs.Allocation.{placeOf}
 use Rattle.laws.specs.Outstanding.{reqOf}
@@ -38,26 +38,22 @@ pub record Reader (xs : List ℕ) (f : ℕ) (b : Built) : Type 0 where
   pub place : ℕ
   pub rest : List ℕ
   pub acc : Acc
-  pub words : Bool
-  pub limit : ℕ
-  pub keep : Bool
+  pub wanted : Wanted
   pub first : b .rq ≡ place ∷ rest
   pub opens : accAt b place ≡ some acc
-  pub asks : acc .req ≡ reading words limit keep
-  pub entry : entryAt xs (nth xs (readQueue f)) ≡ record { place = placeOf f place; unit = bit words; limit = limit; keep = bit keep; status = 0; log = 0; size = 0; seconds = 0 }
+  pub asks : acc .req ≡ reading wanted
+  pub entry : entryAt xs (nth xs (readQueue f)) ≡ record { place = placeOf f place; unit = bit (wanted .words); limit = wanted .limit; keep = bit (wanted .keep); status = 0; log = 0; size = 0; seconds = 0 }
 
 module _ {f : ℕ} {o : Start} {xs blocks buffers : List ℕ} {x : hand.File} {b : Built} (M : Mid Fine f o xs blocks buffers x b) where
   reader-at : (p : ℕ) (rest : List ℕ) → b .rq ≡ p ∷ rest → Reader xs f b
   unfolding entryOf reqWords reqOf
   reader-at p rest q =
-      let (a, w, l, k, e, r) = reads-at b p rest (M .good .queues) q in
+      let (a, w, e, r) = reads-at b p rest (M .good .queues) q in
       record {
         place = p;
         rest = rest;
         acc = a;
-        words = w;
-        limit = l;
-        keep = k;
+        wanted = w;
         first = q;
         opens = e;
         asks = r;
@@ -90,7 +86,7 @@ module _ {f : ℕ} {o : Start} {xs blocks buffers : List ℕ} {x : hand.File} {b
         (u ∙ ap (placeAt xs) (ap (λ (n : Entry). n .place) (e ∙ r .entry)) ∙ mid-place M (r .place) reader-below ∙ ap (λ (z : Option Acc). placeRowOf (placeWords z)) (r .opens))
         ∙ bit-one (r .acc .typed)
 
-    pub reader-short : r .limit ≤ mostReadBytes
+    pub reader-short : r .wanted .limit ≤ mostReadBytes
     unfolding Bounded
     reader-short = bounds-at (r .place) (r .acc) _ b (r .opens) (r .asks) (M .good .bounds)
 

@@ -10,7 +10,7 @@ use lib.Seq.{take-append-seam}
 use Rattle.occurrences.specs.Count.{bit}
 use Rattle.words.specs.Word.{zeros}
 use Rattle.rules.specs.Limits.{places, entries, bufferBytes}
-use Rattle.rules.specs.State.{Req, writing, Acc, Built}
+use Rattle.rules.specs.State.{Offered, Req, writing, Acc, Built}
 use Rattle.rules.specs.Requests.{accAt, fits, capacityOf}
 use Rattle.rules.specs.Store.{used}
 use Rattle.rules.specs.Allocation.{placeOf}
@@ -43,24 +43,22 @@ pub record Writer (xs : List ℕ) (f : ℕ) (b : Built) : Type 0 where
   pub place : ℕ
   pub rest : List ℕ
   pub acc : Acc
-  pub words : Bool
-  pub bytes : List ℕ
+  pub offered : Offered
   pub first : b .wq ≡ place ∷ rest
   pub opens : accAt b place ≡ some acc
-  pub asks : acc .req ≡ writing words bytes
-  pub entry : entryAt xs (nth xs (writeQueue f)) ≡ record { place = placeOf f place; unit = bit words; limit = 0; keep = 0; status = 0; log = 0; size = length bytes; seconds = 0 }
+  pub asks : acc .req ≡ writing offered
+  pub entry : entryAt xs (nth xs (writeQueue f)) ≡ record { place = placeOf f place; unit = bit (offered .words); limit = 0; keep = 0; status = 0; log = 0; size = length (offered .bytes); seconds = 0 }
 
 module _ {f : ℕ} {o : Start} {xs blocks buffers : List ℕ} {x : hand.File} {b : Built} (M : Mid Fine f o xs blocks buffers x b) where
   writer-at : (p : ℕ) (rest : List ℕ) → b .wq ≡ p ∷ rest → Writer xs f b
   unfolding entryOf reqWords reqOf
   writer-at p rest q =
-      let (a, w, d, e, r) = writes-at b p rest (M .good .queues) q in
+      let (a, w, e, r) = writes-at b p rest (M .good .queues) q in
       record {
         place = p;
         rest = rest;
         acc = a;
-        words = w;
-        bytes = d;
+        offered = w;
         first = q;
         opens = e;
         asks = r;
@@ -97,7 +95,7 @@ module _ {f : ℕ} {o : Start} {xs blocks buffers : List ℕ} {x : hand.File} {b
         ap (λ (y : PlaceRow). y .id)
         (u ∙ ap (placeAt xs) (ap (λ (n : Entry). n .place) (e ∙ r .entry)) ∙ mid-place M (r .place) writer-below ∙ ap (λ (z : Option Acc). placeRowOf (placeWords z)) (r .opens))
 
-    pub writer-short : length (r .bytes) ≤ 2 * b .geo .words
+    pub writer-short : length (r .offered .bytes) ≤ 2 * b .geo .words
     unfolding Bounded
     writer-short = bounds-at (r .place) (r .acc) _ b (r .opens) (r .asks) (M .good .bounds)
 
@@ -109,7 +107,7 @@ module _ {f : ℕ} {o : Start} {xs blocks buffers : List ℕ} {x : hand.File} {b
         (λ y k. length-buffer (b .geo .words) (getD (b .accs) y none) (M .good .room .geo .words-high) (M .good .bounds y)) (M .buffer) (r .place) writer-below
 
     module _ (e : ℕ) (m : Entry) (at : e ≡ nth xs (writeQueue f)) (em : m ≡ entryAt xs e) where
-      pub writer-is : m ≡ record { place = placeOf f (r .place); unit = bit (r .words); limit = 0; keep = 0; status = 0; log = 0; size = length (r .bytes); seconds = 0 }
+      pub writer-is : m ≡ record { place = placeOf f (r .place); unit = bit (r .offered .words); limit = 0; keep = 0; status = 0; log = 0; size = length (r .offered .bytes); seconds = 0 }
       writer-is = em ∙ ap (entryAt xs) at ∙ r .entry
 
       pub writer-under : m .place < deskPlaces
@@ -118,9 +116,9 @@ module _ {f : ℕ} {o : Start} {xs blocks buffers : List ℕ} {x : hand.File} {b
       pub writer-size : m .size ≤ bufferBytes
       writer-size = omega (arith, ap (λ (n : Entry). n .size) writer-is, writer-short, M .good .room .geo .words-high)
 
-      pub writer-data : dataOf m buffers ≡ r .bytes
+      pub writer-data : dataOf m buffers ≡ r .offered .bytes
       unfolding bufferAt buffer lies
       writer-data =
           ap (λ (n : Entry). take (n .size) (code.bufferAt (n .place) buffers)) writer-is
-          ∙ ap (take (length (r .bytes))) (writer-buffer ∙ ap buffer (r .opens) ∙ ap (λ (q : Req). lies q ++ zeros (bufferBytes - length (lies q))) (r .asks))
-          ∙ take-append-seam (r .bytes) (zeros (bufferBytes - length (r .bytes)))
+          ∙ ap (take (length (r .offered .bytes))) (writer-buffer ∙ ap buffer (r .opens) ∙ ap (λ (q : Req). lies q ++ zeros (bufferBytes - length (lies q))) (r .asks))
+          ∙ take-append-seam (r .offered .bytes) (zeros (bufferBytes - length (r .offered .bytes)))

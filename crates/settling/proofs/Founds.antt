@@ -68,15 +68,15 @@ module _ {f : ℕ} {o : Start} {xs blocks buffers : List ℕ} {x : hand.File} {b
   count : length (t .recs) ≡ ring .held
   count = ap (λ (z : Ring). z .held) (sym ring-is)
 
-  -- the file behind what a read finds, under control 47 or not
-  abbrev then : Bool → Built
-  then keep = behind (fetch g typed keep (b .store)) b
+  -- the file behind what the read at p finds, under control 47 or not
+  abbrev then : ℕ → Bool → Built
+  then p keep = behind p (fetch g typed keep (b .store)) b
 
-  found-behind : (keep : Bool) (z : Ring) → z ≡ ringOf g (fetch g typed keep (b .store) .store) → Mid Fine f o xs blocks buffers (inHold (x .words) z) (then keep)
+  found-behind : (p : ℕ) (keep : Bool) (z : Ring) → z ≡ ringOf g (fetch g typed keep (b .store) .store) → Mid Fine f o xs blocks buffers (inHold (x .words) z) (then p keep)
   unfolding behind say withStore
-  found-behind keep z e =
-      subst (λ (y : hand.File). Mid Fine f o xs blocks buffers y (then keep)) (sym (ap₂ {C = hand.File} inHold words-is e))
-      (mid-behind M typed keep (fine-walks .fetches typed keep b (M .good)))
+  found-behind p keep z e =
+      subst (λ (y : hand.File). Mid Fine f o xs blocks buffers y (then p keep)) (sym (ap₂ {C = hand.File} inHold words-is e))
+      (mid-behind M p typed keep (fine-walks .fetches p typed keep b (M .good)))
 
   -- nothing
   module _ (keep : Bool) (z : ring .held ≤ 0) where
@@ -86,8 +86,8 @@ module _ {f : ℕ} {o : Start} {xs blocks buffers : List ℕ} {x : hand.File} {b
     pub found-none : fetch g typed keep (b .store) .got ≡ none
     found-none = fetch-none g typed keep (b .store) empty .0
 
-    pub none-mid : Mid Fine f o xs blocks buffers (inHold (x .words) (k .ring)) (behind (fetch g typed keep (b .store)) b)
-    none-mid = found-behind keep ring (ring-is ∙ ap (ringOf g) (sym (fetch-none g typed keep (b .store) empty .1)))
+    pub none-mid : (p : ℕ) → Mid Fine f o xs blocks buffers (inHold (x .words) (k .ring)) (behind p (fetch g typed keep (b .store)) b)
+    none-mid p = found-behind p keep ring (ring-is ∙ ap (ringOf g) (sym (fetch-none g typed keep (b .store) empty .1)))
 
   -- something
   pub found-first : 0 < k .ring .held → (d : Rec) × (rest : List Rec) × (ahead (b .geo) typed (b .store) .recs ≡ d ∷ rest)
@@ -121,5 +121,5 @@ module _ {f : ℕ} {o : Start} {xs blocks buffers : List ℕ} {x : hand.File} {b
         taken-ring true = unfold takenRing in refl
         taken-ring false = unfold takenRing in sym (ring-advance g t d rest (holds-ahead typed .block) some-rec)
 
-    pub some-mid : (keep : Bool) → Mid Fine f o xs blocks buffers (inHold (x .words) (takenRing keep (k .ring))) (behind (fetch g typed keep (b .store)) b)
-    some-mid keep = found-behind keep (takenRing keep ring) (ring-behind keep)
+    pub some-mid : (p : ℕ) (keep : Bool) → Mid Fine f o xs blocks buffers (inHold (x .words) (takenRing keep (k .ring))) (behind p (fetch g typed keep (b .store)) b)
+    some-mid p keep = found-behind p keep (takenRing keep ring) (ring-behind keep)

@@ -86,7 +86,7 @@ module _ {f : ℕ} {o : Start} {xs blocks buffers : List ℕ} {x : hand.File} {b
     abbrev typed : Bool
     typed = r .acc .typed
 
-    entry-is : m ≡ record { place = placeOf f (r .place); unit = bit (r .words); limit = r .limit; keep = bit (r .keep); status = 0; log = 0; size = 0; seconds = 0 }
+    entry-is : m ≡ record { place = placeOf f (r .place); unit = bit (r .wanted .words); limit = r .wanted .limit; keep = bit (r .wanted .keep); status = 0; log = 0; size = 0; seconds = 0 }
     entry-is = v .entry ∙ ap (entryAt xs) (v .first) ∙ r .entry
 
     is-typed : eqb (row .typed) 1 ≡ typed
@@ -100,8 +100,8 @@ module _ {f : ℕ} {o : Start} {xs blocks buffers : List ℕ} {x : hand.File} {b
     turn-nothing z =
         let l : k .ring .held ≤ 0 = omega (arith, z) in
         subst (Served f o xs blocks buffers (record { moved = false; file = inHold (x .words) (k .ring) }))
-        (sym (reads-none b (r .place) (r .rest) (r .acc) (r .opens) (r .words) (r .limit) (r .keep) (r .first) (r .asks) (found-none M typed k finds (r .keep) l)))
-        (still-served f o xs blocks buffers (inHold (x .words) (k .ring)) (behind (fetch g typed (r .keep) (b .store)) b) (none-mid M typed k finds (r .keep) l))
+        (sym (reads-none b (r .place) (r .rest) (r .acc) (r .opens) (r .wanted) (r .first) (r .asks) (found-none M typed k finds (r .wanted .keep) l)))
+        (still-served f o xs blocks buffers (inHold (x .words) (k .ring)) (behind (r .place) (fetch g typed (r .wanted .keep) (b .store)) b) (none-mid M typed k finds (r .wanted .keep) l (r .place)))
 
     -- it finds a record, d
     module _ (some-held : 0 < k .ring .held) where
@@ -112,17 +112,17 @@ module _ {f : ℕ} {o : Start} {xs blocks buffers : List ℕ} {x : hand.File} {b
       d = found .0
 
       abbrev B : Built
-      B = behind (fetch g typed (r .keep) (b .store)) b
+      B = behind (r .place) (fetch g typed (r .wanted .keep) (b .store)) b
 
       abbrev q : Req
-      q = readResult (r .words) (handed typed (r .limit) d)
+      q = readResult (r .wanted .words) (handed typed (r .wanted .limit) d)
 
-      ends : Ends 0 (reading (r .words) (r .limit) (r .keep)) q
+      ends : Ends 0 (reading (r .wanted)) q
       unfolding readResult
-      ends = readEnds (length-handed typed (r .limit) d) (omega arith)
+      ends = readEnds refl (length-handed typed (r .wanted .limit) d) (omega arith)
 
       open-behind : accAt B (r .place) ≡ some (r .acc)
-      open-behind = behind-at (r .place) (fetch g typed (r .keep) (b .store)) b ∙ r .opens
+      open-behind = behind-at (r .place) (fetch g typed (r .wanted .keep) (b .store)) b ∙ r .opens
 
       -- the bytes that the code hands over are those of d
       module _ (bytes : List ℕ) (given : bytes ≡ handed (eqb (row .typed) 1) (m .limit) (recAt own (k .at))) where
@@ -131,28 +131,28 @@ module _ {f : ℕ} {o : Start} {xs blocks buffers : List ℕ} {x : hand.File} {b
             let e = own-share f blocks own (v .share) in
             ap (λ (zs : List ℕ). recAt zs (k .at)) e ∙ found-rec M typed k finds d (found .1) (found .2) (subst (λ (zs : List ℕ). Stands (x .words) zs k) e (v .stands))
 
-        bytes-are : bytes ≡ handed typed (r .limit) d
+        bytes-are : bytes ≡ handed typed (r .wanted .limit) d
         bytes-are = given ∙ ap₂ {C = List ℕ} (λ (w : Bool) (z : Rec). handed w (m .limit) z) is-typed rec-is ∙ ap (λ (n : Entry). handed typed (n .limit) d) entry-is
 
         pub handed-short : length bytes ≤ bufferBytes
-        handed-short = omega (arith, ap length bytes-are, length-handed typed (r .limit) d, reader-short M r)
+        handed-short = omega (arith, ap length bytes-are, length-handed typed (r .wanted .limit) d, reader-short M r)
 
         pub served : (xs′ buffers′ : List ℕ) → xs′ ≡ completed xs (readQueue f) (m .place) (readWords m (length bytes)) → buffers′ ≡ sets buffers (bufferBytes * m .place) (filled bytes)
             → Served f o xs′ blocks buffers′ (record { moved = true; file = inHold (x .words) (takenRing (eqb (m .keep) 1) (k .ring)) }) (atHead serveReader (b .rq) b)
         served xs′ buffers′ ex ey =
             subst (Served f o xs′ blocks buffers′ (record { moved = true; file = inHold (x .words) (takenRing (eqb (m .keep) 1) (k .ring)) }))
-            (sym (reads-some b (r .place) (r .rest) (r .acc) (r .opens) (r .words) (r .limit) (r .keep) (r .first) (r .asks) d (found-some M typed k finds d (found .1) (found .2) (r .keep))))
+            (sym (reads-some b (r .place) (r .rest) (r .acc) (r .opens) (r .wanted) (r .first) (r .asks) d (found-some M typed k finds d (found .1) (found .2) (r .wanted .keep))))
             (onward-served f o xs′ blocks buffers′ (inHold (x .words) (takenRing (eqb (m .keep) 1) (k .ring))) (finish (r .place) 0 q B)
             (subst (λ (w : Bool). Mid Fine f o xs′ blocks buffers′ (inHold (x .words) (takenRing w (k .ring))) (finish (r .place) 0 q B)) (sym keep-is)
-            (subst (λ (zs : List ℕ). Mid Fine f o zs blocks buffers′ (inHold (x .words) (takenRing (r .keep) (k .ring))) (finish (r .place) 0 q B)) (sym (ex ∙ entry-words))
-            (step-finish fine-knows (some-mid M typed k finds d (found .1) (found .2) (r .keep)) (r .place) (r .acc) open-behind false 0 (reading (r .words) (r .limit) (r .keep)) q
+            (subst (λ (zs : List ℕ). Mid Fine f o zs blocks buffers′ (inHold (x .words) (takenRing (r .wanted .keep) (k .ring))) (finish (r .place) 0 q B)) (sym (ex ∙ entry-words))
+            (step-finish fine-knows (some-mid M typed k finds d (found .1) (found .2) (r .place) (r .wanted .keep)) (r .place) (r .acc) open-behind false 0 (reading (r .wanted)) q
             (r .asks) waits ends [] (r .rest) (unfold behind withStore say in r .first) (unfold occurrences.count in refl) buffers′
-            (fine-walks .finishes (r .place) 0 q (r .acc) (reading (r .words) (r .limit) (r .keep)) B open-behind (r .asks) ends (fine-walks .fetches typed (r .keep) b (M .good))) (put laid)))))
+            (fine-walks .finishes (r .place) 0 q (r .acc) (reading (r .wanted)) B open-behind (r .asks) ends (fine-walks .fetches (r .place) typed (r .wanted .keep) b (M .good))) (put laid)))))
           where
-            keep-is : eqb (m .keep) 1 ≡ r .keep
-            keep-is = ap (λ (n : Entry). eqb (n .keep) 1) entry-is ∙ bit-one (r .keep)
+            keep-is : eqb (m .keep) 1 ≡ r .wanted .keep
+            keep-is = ap (λ (n : Entry). eqb (n .keep) 1) entry-is ∙ bit-one (r .wanted .keep)
 
-            waits : waitsAt false (reading (r .words) (r .limit) (r .keep)) ≡ 1
+            waits : waitsAt false (reading (r .wanted)) ≡ 1
             waits = unfold waitsRead in refl
 
             laid : buffers′ ≡ sets buffers (bufferBytes * placeOf f (r .place)) (filled (lies q))
@@ -161,4 +161,4 @@ module _ {f : ℕ} {o : Start} {xs blocks buffers : List ℕ} {x : hand.File} {b
             entry-words : completed xs (readQueue f) (m .place) (readWords m (length bytes)) ≡ completed xs (readQueue f) (placeOf f (r .place)) (reqWords (placeOf f (r .place)) q)
             entry-words =
                 ap (λ (n : Entry). completed xs (readQueue f) (n .place) (readWords n (length bytes))) entry-is
-                ∙ ap (completed xs (readQueue f) (placeOf f (r .place))) (unfold readWords reqWords readResult in rw (bytes-are, bit-one (r .words)) refl)
+                ∙ ap (completed xs (readQueue f) (placeOf f (r .place))) (unfold readWords reqWords readResult in rw (bytes-are, bit-one (r .wanted .words)) refl)

@@ -10,15 +10,14 @@ use lib.Seq.{sets}
 use Rattle.words.specs.Word.{zeros}
 use Rattle.occurrences.specs.Count.{count}
 use Rattle.rules.specs.Limits.{entries, bufferBytes, shareBytes}
-use Rattle.rules.specs.State.{Rec, Req, writing, writeDone, Built}
-use Rattle.rules.specs.Count.{logOf}
+use Rattle.rules.specs.State.{Rec, Req, writing, Built}
 use Rattle.rules.specs.Requests.{accAt, fits, withStore, say, putRec, finish}
-use Rattle.rules.specs.Settle.{dataRec, serveWriter, atHead}
+use Rattle.rules.specs.Settle.{writeResult, dataRec, serveWriter, atHead}
 use Rattle.rules.specs.Allocation.{placeOf}
 use Rattle.rules.specs.Memories.{lies}
 use Rattle.shares.proofs.Image.{recordWords-most}
 use Rattle.laws.specs.Outstanding.{waitsWrite}
-use Rattle.laws.specs.Changes.{writeEnds}
+use Rattle.laws.specs.Changes.{Ends, writeEnds}
 use Rattle.laws.proofs.Walk.{put-at}
 use Rattle.laws.proofs.Midst.{mid-walks}
 use Rattle.segment.specs.declared.Entry.{Entry}
@@ -62,7 +61,7 @@ module _ {f : ℕ} {o : Start} {xs blocks buffers : List ℕ} {x : hand.File} {b
     pub turn-full : fitsRing (x .ring) (countSide xs f 2) ≡ false → Served f o xs blocks buffers (record { moved = false; file = x }) (atHead serveWriter (b .wq) b)
     turn-full h =
         subst (Served f o xs blocks buffers (record { moved = false; file = x }))
-        (sym (writes-none b (r .place) (r .rest) (r .acc) (r .opens) (r .words) (r .bytes) (r .first) (r .asks) (sym (fits-is M) ∙ h)))
+        (sym (writes-none b (r .place) (r .rest) (r .acc) (r .opens) (r .offered) (r .first) (r .asks) (sym (fits-is M) ∙ h)))
         (still-served f o xs blocks buffers x b M)
 
     -- what a put of its data asks
@@ -70,7 +69,7 @@ module _ {f : ℕ} {o : Start} {xs blocks buffers : List ℕ} {x : hand.File} {b
       pub data-ready : Ready (x .words) (x .ring) (shareAt f blocks) (length (dataOf m buffers))
       unfolding dataRec
       data-ready =
-          let d : Rec = dataRec (r .acc) (r .bytes) in
+          let d : Rec = dataRec (r .acc) (r .offered .bytes) in
           let w : x .words ≡ b .geo .words = ap (λ (y : hand.File). y .words) (M .row) in
           subst (λ (zs : List ℕ). Ready (x .words) (x .ring) (shareAt f blocks) (length zs)) (sym (writer-data M r e m at em))
           (held-ready (x .words) (x .ring) (shareAt f blocks) (mid-held M (M .good .room .geo) (M .good .room .holds)) d
@@ -79,19 +78,19 @@ module _ {f : ℕ} {o : Start} {xs blocks buffers : List ℕ} {x : hand.File} {b
       -- it is served
       module _ (row : PlaceRow) (er : row ≡ placeAt xs (m .place)) (fit : fitsRing (x .ring) (countSide xs f 2) ≡ true) where
         abbrev d : Rec
-        d = dataRec (r .acc) (r .bytes)
+        d = dataRec (r .acc) (r .offered .bytes)
 
         abbrev B : Built
         B = putRec d b
 
         abbrev q : Req
-        q = writeDone 0 (logOf (r .words) (length (r .bytes)))
+        q = writeResult (r .offered)
 
         fits-now : fits b ≡ true
         fits-now = sym (fits-is M) ∙ fit
 
         fine-put : Fine B
-        fine-put = fine-walks .serves (r .place) (r .acc) (r .words) (r .bytes) b (r .opens) (r .asks) fits-now (M .good)
+        fine-put = fine-walks .serves (r .place) (r .acc) (r .offered) b (r .opens) (r .asks) fits-now (M .good)
 
         rec-is : recOf 0 (row .id) (dataOf m buffers) ≡ d
         unfolding dataRec
@@ -106,25 +105,28 @@ module _ {f : ℕ} {o : Start} {xs blocks buffers : List ℕ} {x : hand.File} {b
             → Served f o xs′ blocks′ buffers′ (record { moved = true; file = inHold (x .words) z }) (atHead serveWriter (b .wq) b)
         served xs′ blocks′ buffers′ z ez eb ey ex =
             subst (Served f o xs′ blocks′ buffers′ (record { moved = true; file = inHold (x .words) z }))
-            (sym (writes-some b (r .place) (r .rest) (r .acc) (r .opens) (r .words) (r .bytes) (r .first) (r .asks) fits-now))
+            (sym (writes-some b (r .place) (r .rest) (r .acc) (r .opens) (r .offered) (r .first) (r .asks) fits-now))
             (onward-served f o xs′ blocks′ buffers′ (inHold (x .words) z) (finish (r .place) 0 q B)
             (subst (λ (y : Ring). Mid Fine f o xs′ blocks′ buffers′ (inHold (x .words) y) (finish (r .place) 0 q B)) (sym ez)
             (subst (λ (zs : List ℕ). Mid Fine f o zs blocks′ buffers′ (inHold (x .words) (ring.put (x .ring))) (finish (r .place) 0 q B)) (sym (ex ∙ entry-words))
             (subst (λ (zs : List ℕ). Mid Fine f o (completed xs (writeQueue f) (placeOf f (r .place)) (reqWords (placeOf f (r .place)) q)) zs buffers′ (inHold (x .words) (ring.put (x .ring))) (finish (r .place) 0 q B))
             (sym (eb ∙ ap (λ (y : Rec). sets blocks (shareBytes * f) (inscribed (x .words) (x .ring) y (shareAt f blocks))) rec-is))
-            (step-finish fine-knows put-mid (r .place) (r .acc) open-put true 0 (writing (r .words) (r .bytes)) q (r .asks) waits (writeEnds (omega arith)) [] (r .rest) (unfold putRec say withStore in r .first) (unfold count in refl) buffers′
-            (fine-walks .finishes (r .place) 0 q (r .acc) (writing (r .words) (r .bytes)) B open-put (r .asks) (writeEnds (omega arith)) fine-put) (clear none-lies laid))))))
+            (step-finish fine-knows put-mid (r .place) (r .acc) open-put true 0 (writing (r .offered)) q (r .asks) waits ends [] (r .rest) (unfold putRec say withStore in r .first) (unfold count in refl) buffers′
+            (fine-walks .finishes (r .place) 0 q (r .acc) (writing (r .offered)) B open-put (r .asks) ends fine-put) (clear none-lies laid))))))
           where
             put-mid : Mid Fine f o xs (sets blocks (shareBytes * f) (inscribed (x .words) (x .ring) d (shareAt f blocks))) buffers (inHold (x .words) (ring.put (x .ring))) B
             put-mid =
                 mid-put M (M .good .room .geo) (M .good .room .holds) d fine-put
-                (mid-walks f (M .file) (o .alloc) .serves (r .place) (r .acc) (r .words) (r .bytes) b (r .opens) (r .asks) fits-now (M .allots))
+                (mid-walks f (M .file) (o .alloc) .serves (r .place) (r .acc) (r .offered) b (r .opens) (r .asks) fits-now (M .allots))
 
-            waits : waitsAt true (writing (r .words) (r .bytes)) ≡ 1
+            waits : waitsAt true (writing (r .offered)) ≡ 1
             waits = unfold waitsWrite in refl
 
+            ends : Ends 0 (writing (r .offered)) q
+            ends = unfold writeResult in writeEnds refl (omega arith)
+
             none-lies : lies q ≡ []
-            none-lies = unfold lies in refl
+            none-lies = unfold lies writeResult in refl
 
             laid : buffers′ ≡ sets buffers (bufferBytes * placeOf f (r .place)) (zeros bufferBytes)
             laid = ey ∙ ap (λ (n : Entry). sets buffers (bufferBytes * n .place) (zeros bufferBytes)) (writer-is M r e m at em)
@@ -132,4 +134,4 @@ module _ {f : ℕ} {o : Start} {xs blocks buffers : List ℕ} {x : hand.File} {b
             entry-words : completed xs (writeQueue f) (m .place) (wroteWords m) ≡ completed xs (writeQueue f) (placeOf f (r .place)) (reqWords (placeOf f (r .place)) q)
             entry-words =
                 ap (λ (n : Entry). completed xs (writeQueue f) (n .place) (wroteWords n)) (writer-is M r e m at em)
-                ∙ ap (completed xs (writeQueue f) (placeOf f (r .place))) (unfold wroteWords reqWords in rw (bit-one (r .words)) refl)
+                ∙ ap (completed xs (writeQueue f) (placeOf f (r .place))) (unfold wroteWords reqWords writeResult in rw (bit-one (r .offered .words)) refl)

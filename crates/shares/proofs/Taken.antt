@@ -2,7 +2,7 @@
 use Prim.Native.Nat.{ℕ, zero, suc, _+_, _%_}
 use mathlib.Core.Bool.{Bool, true, false, _||_}
 use mathlib.Core.Path.{_≡_, refl, ap, _∙_}
-use mathlib.Core.List.{List, [], _∷_, _++_}
+use mathlib.Core.List.{List, [], _∷_}
 use mathlib.Core.Option.{Option, none, some}
 use native.Mathlib.Omega.{arith}
 use lib.Dec.{eqb}
@@ -55,14 +55,14 @@ module _ (g : Geo) (keep : Bool) (went : List Rec) (s : Store) where
   abbrev finds : Option Rec → Found
   finds o =
       elim o as (λ (x : Option Rec). Found) [
-        | none ↦ record { store = s; got = none; went = went }
+        | none ↦ record { store = s; got = none; went = went; took = none }
         | some r ↦ elim keep as (λ (b : Bool). Found) [
-          | true ↦ record { store = s; got = some r; went = went }
-          | false ↦ record { store = advance g s; got = some r; went = went ++ (r ∷ []) }
+          | true ↦ record { store = s; got = some r; went = went; took = none }
+          | false ↦ record { store = advance g s; got = some r; went = went; took = some r }
         ]
       ]
 
-  pub takeHead-none : s .recs ≡ [] → takeHead g keep went s ≡ record { store = s; got = none; went = went }
+  pub takeHead-none : s .recs ≡ [] → takeHead g keep went s ≡ record { store = s; got = none; went = went; took = none }
   unfolding takeHead headOf
   takeHead-none e = ap (λ (l : List Rec). finds (headOf l)) e
 

@@ -1,12 +1,12 @@
 -- A request that waits, and how it fails: with a status, and with nothing in its buffer.
 use Prim.Native.Nat.{ℕ, _≤_}
 use mathlib.Core.Path.{_≡_, refl, sym, _∙_}
-use mathlib.Core.Bool.{Bool, true, false, true≢false}
-use mathlib.Core.List.{List, []}
+use mathlib.Core.Bool.{true, false, true≢false}
+use mathlib.Core.List.{[]}
 use mathlib.Core.Option.{Option, none, some}
 use native.Mathlib.Omega.{arith}
-use Rattle.rules.specs.State.{Req, idle, reading, writing, readDone, writeDone, Acc, Built}
-use Rattle.rules.specs.Requests.{accAt, finish, failReq, fail}
+use Rattle.rules.specs.State.{Wanted, Offered, Req, idle, reading, writing, readDone, writeDone, Acc, Built}
+use Rattle.rules.specs.Requests.{accAt, finish, readFails, writeFails, failReq, fail}
 use Rattle.rules.specs.Memories.{lies}
 use Rattle.laws.specs.Outstanding.{reqOf, reqAt, waitsRead, waitsWrite, uncollected, awaits}
 use Rattle.laws.specs.Changes.{Ends, readEnds, writeEnds}
@@ -31,14 +31,16 @@ pub record Ripe (p : ℕ) (b : Built) : Type 0 where
   pub bare : acc .writer ≡ false → lies (acc .req) ≡ []
 
 module _ (p : ℕ) (b : Built) (S : Steady b) where
-  reads : (a : Acc) → accAt b p ≡ some a → (w k : Bool) (l : ℕ) → a .req ≡ reading w l k → Ripe p b
-  reads a e w k l r =
+  reads : (a : Acc) → accAt b p ≡ some a → (w : Wanted) → a .req ≡ reading w → Ripe p b
+  reads a e w r =
       let side : a .writer ≡ false = unfold Fitting in rw r at (S .sides p a e .request) in
+      let short : 0 ≤ w .limit = omega arith in
+      let late : Ends 22 (reading w) (readFails 22) = readEnds {x = w} refl short (omega arith) in
       record {
         acc = a;
         at = e;
-        done = readDone 22 0 [];
-        ends = rw r (readEnds {l = l} {d = []} (omega arith) (omega arith));
+        done = readFails 22;
+        ends = rw r late;
         fails = unfold fail in rw (e, fail) (unfold failReq in rw (r, failReq));
         words = λ i. unfold reqWords lateWords in refl;
         empty = unfold lies in refl;
@@ -47,14 +49,15 @@ module _ (p : ℕ) (b : Built) (S : Steady b) where
         bare = λ _. rw r (unfold lies in refl);
       }
 
-  writes : (a : Acc) → accAt b p ≡ some a → (w : Bool) (m : List ℕ) → a .req ≡ writing w m → Ripe p b
-  writes a e w m r =
+  writes : (a : Acc) → accAt b p ≡ some a → (w : Offered) → a .req ≡ writing w → Ripe p b
+  writes a e w r =
       let side : a .writer ≡ true = unfold Fitting in rw r at (S .sides p a e .request) in
+      let late : Ends 22 (writing w) (writeFails 22) = writeEnds {x = w} refl (omega arith) in
       record {
         acc = a;
         at = e;
-        done = writeDone 22 0;
-        ends = rw r (writeEnds (omega arith));
+        done = writeFails 22;
+        ends = rw r late;
         fails = unfold fail in rw (e, fail) (unfold failReq in rw (r, failReq));
         words = λ i. unfold reqWords lateWords in refl;
         empty = unfold lies in refl;
@@ -71,10 +74,10 @@ module _ (p : ℕ) (b : Built) (S : Steady b) where
 
       by-request : (a : Acc) → accAt b p ≡ some a → (q : Req) → a .req ≡ q → 1 ≤ awaits q → Ripe p b
       by-request a e idle r k = absurd (none-waits idle (unfold waitsRead waitsWrite in refl) k)
-      by-request a e (reading w l t) r k = reads a e w t l r
-      by-request a e (writing w m) r k = writes a e w m r
-      by-request a e (readDone st l m) r k = absurd (none-waits (readDone st l m) (unfold waitsRead waitsWrite in refl) k)
-      by-request a e (writeDone st l) r k = absurd (none-waits (writeDone st l) (unfold waitsRead waitsWrite in refl) k)
+      by-request a e (reading q) r k = reads a e q r
+      by-request a e (writing q) r k = writes a e q r
+      by-request a e (readDone q) r k = absurd (none-waits (readDone q) (unfold waitsRead waitsWrite in refl) k)
+      by-request a e (writeDone q) r k = absurd (none-waits (writeDone q) (unfold waitsRead waitsWrite in refl) k)
 
       go : (o : Option Acc) → accAt b p ≡ o → 1 ≤ awaits (reqOf o) → Ripe p b
       go none e k = absurd (none-waits idle (unfold waitsRead waitsWrite in refl) (unfold reqOf in k))

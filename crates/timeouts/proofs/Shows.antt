@@ -74,10 +74,10 @@ module _ (ts : List Timer) (t : Alloc) where
   pub port-clock : (q : Req) (i : ℕ) → portOf q i (withClock ts t) ≡ portOf q i t
   unfolding portOf withClock heldAt
   port-clock idle i = refl
-  port-clock (reading w l k) i = refl
-  port-clock (writing w m) i = refl
-  port-clock (readDone st l m) i = refl
-  port-clock (writeDone st l) i = refl
+  port-clock (reading q) i = refl
+  port-clock (writing q) i = refl
+  port-clock (readDone q) i = refl
+  port-clock (writeDone q) i = refl
 
   pub free-clock : withClock ts t .free ≡ t .free
   unfolding withClock

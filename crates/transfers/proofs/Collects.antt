@@ -10,9 +10,10 @@ use lib.ListN.{length, take}
 use lib.Seq.{sets}
 use Rattle.words.specs.Word.{zeros, Bytes}
 use Rattle.kinds.specs.declared.Answer.the-variants.{Status, Collected}
-use Rattle.rules.specs.Limits.{entries, bufferBytes}
+use Rattle.rules.specs.Limits.{entries, bufferBytes, answerHead}
 use Rattle.rules.specs.Requests.{freed}
 use Rattle.rules.specs.Memories.{lies}
+use Rattle.rules.specs.Answers.{answerBytes}
 use Rattle.rules.specs.Reply.{Reply, answers, leaves, answering, status}
 use Rattle.rules.specs.Transfer.{collected, collect}
 use Rattle.rules.specs.Calls.{ask}
@@ -110,16 +111,16 @@ module _ {xs blocks buffers : List ℕ} {d : Desk} {s : Alloc} (S : StandsFor xs
 
     -- or its log, and the bytes that lie in the buffer
     pub collect-gives : (memory buffers′ memory′ : List ℕ) → C .status ≡ 0 → buffers′ ≡ sets buffers (bufferBytes * placeOf f p) (zeros bufferBytes)
-        → memory′ ≡ sets memory 4 (take (length (C .bytes)) (bufferAt (placeOf f p) buffers)) → Bytes (moves.collected xs (placeOf f p)) → Bytes buffers′
+        → memory′ ≡ sets memory answerHead (take (length (C .bytes)) (bufferAt (placeOf f p) buffers)) → Bytes (moves.collected xs (placeOf f p)) → Bytes buffers′
         → Gave f d s (ask (fileOf d f) (calls.collect p)) blocks buffers memory (moves.collected xs (placeOf f p)) blocks buffers′ memory′ (Collected (C .log)) (length (C .bytes))
-    unfolding collected leaves
+    unfolding collected leaves answerBytes
     collect-gives memory buffers′ memory′ z e m bytes bytes′ = rw (out ∙ pick-true (eqb (C .status) 0) _ _ (eq-eqb (C .status) 0 z)) (record {
       outcome = freed-outcome (answers (Collected (C .log)) (C .bytes)) buffers′ e bytes bytes′;
       bytes = C .bytes;
       reply = refl;
       size = refl;
       most = C .short;
-      behind = m ∙ ap (sets memory 4) (C .lie);
+      behind = m ∙ ap (sets memory answerHead) (C .lie);
     })
 
 -- as the code has it: e is what the reply port has, m is entry e
@@ -146,13 +147,13 @@ module _ {xs blocks buffers : List ℕ} {d : Desk} {s : Alloc} (S : StandsFor xs
         (subst (λ (k : Entry). Gave f d s (ask (fileOf d f) (calls.collect p)) blocks buffers memory (moves.collected xs (placeOf f p)) blocks buffers′ memory (Status 6 (k .status)) 0) (sym is)
         (collect-ends S f p A C memory buffers′ (λ z. n (ap (λ (k : Entry). k .status) is ∙ z)) cleared (subst Bytes freed-is bytes) bytes′))
 
-    pub entry-gives : (memory′ : List ℕ) → m .status ≡ 0 → memory′ ≡ sets memory 4 (take (m .size) (bufferAt (placeOf f p) buffers))
+    pub entry-gives : (memory′ : List ℕ) → m .status ≡ 0 → memory′ ≡ sets memory answerHead (take (m .size) (bufferAt (placeOf f p) buffers))
         → Gave f d s (ask (fileOf d f) (calls.collect p)) blocks buffers memory xs′ blocks buffers′ memory′ (Collected (m .log)) (m .size)
     entry-gives memory′ z u =
         subst (λ (y : List ℕ). Gave f d s (ask (fileOf d f) (calls.collect p)) blocks buffers memory y blocks buffers′ memory′ (Collected (m .log)) (m .size)) (sym freed-is)
         (subst (λ (k : Entry). Gave f d s (ask (fileOf d f) (calls.collect p)) blocks buffers memory (moves.collected xs (placeOf f p)) blocks buffers′ memory′ (Collected (k .log)) (k .size)) (sym is)
         (collect-gives S f p A C memory buffers′ memory′ (ap (λ (k : Entry). k .status) (sym is) ∙ z) cleared
-        (u ∙ ap (λ (k : Entry). sets memory 4 (take (k .size) (bufferAt (placeOf f p) buffers))) is) (subst Bytes freed-is bytes) bytes′))
+        (u ∙ ap (λ (k : Entry). sets memory answerHead (take (k .size) (bufferAt (placeOf f p) buffers))) is) (subst Bytes freed-is bytes) bytes′))
 
 -- from what the call requires
 pub collect-fit : (xs buffers : List ℕ) (f p : ℕ) → (R : (blocks : List ℕ) × Sound xs blocks buffers × outcome.Accepted f (calls.collect p) xs blocks buffers) → Fit xs (R .0) buffers f p

@@ -5,7 +5,7 @@ use mathlib.Core.List.{List}
 use mathlib.Core.Option.{some}
 use native.Mathlib.Omega.{arith}
 use lib.ListN.{length, take, length-take}
-use Rattle.rules.specs.Limits.{files, places, bufferBytes, answerRoom}
+use Rattle.rules.specs.Limits.{files, places, bufferBytes, answerHead, answerRoom}
 use Rattle.rules.specs.State.{Acc, Built, built}
 use Rattle.rules.specs.Requests.{accAt}
 use Rattle.rules.specs.Desk.{Desk, fileOf}
@@ -36,7 +36,7 @@ fit S f p h b is a at = record {
 }
 
 -- bytes that fit a buffer have room behind the answer's own
-pub has-room : (v w : List ℕ) (m : ℕ) → v ≡ w → length w ≤ bufferBytes → m ≡ answerRoom → 4 + length v ≤ m
+pub has-room : (v w : List ℕ) (m : ℕ) → v ≡ w → length w ≤ bufferBytes → m ≡ answerRoom → answerHead + length v ≤ m
 has-room v w m e h k = omega (arith, ap length e)
 
 pub few : (v w : List ℕ) → v ≡ w → length w ≤ bufferBytes → length v ≤ bufferBytes

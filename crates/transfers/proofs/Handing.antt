@@ -10,12 +10,13 @@ use lib.ListN.{length}
 use lib.Seq.{sets}
 use Rattle.occurrences.specs.Count.{bit}
 use Rattle.kinds.specs.declared.Answer.the-variants.{Read, Status}
-use Rattle.rules.specs.Limits.{entries, bufferBytes, mostReadBytes}
-use Rattle.rules.specs.State.{Rec, reading, idle, Acc, Store, Built}
+use Rattle.rules.specs.Limits.{entries, bufferBytes, answerHead, mostReadBytes}
+use Rattle.rules.specs.State.{Rec, Wanted, reading, idle, Acc, Store, Built}
 use Rattle.rules.specs.Store.{fetch, Found}
 use Rattle.rules.specs.Count.{inWords, countBytes, logOf}
 use Rattle.rules.specs.Requests.{writers, accAt, withStore, withAccs, alterAcc, say, behind, begun, wait}
 use Rattle.rules.specs.Settle.{handed, settle}
+use Rattle.rules.specs.Answers.{answerBytes}
 use Rattle.rules.specs.Reply.{answers, Out, leaves, answering, status}
 use Rattle.rules.specs.Transfer.{mayWait, readOn}
 use Rattle.rules.specs.Calls.{ask}
@@ -116,12 +117,12 @@ module _ {xs blocks buffers : List ℕ} {d : Desk} {s : Alloc} (S : StandsFor xs
 
     -- the file behind what it finds
     abbrev c : Built
-    c = behind F b₁
+    c = behind p F b₁
 
     N : Mid Fine f o xs₁ blocks buffers x b₁
     N = begun-mid S f p (known .file) b (known .stands) a (known .known .at) row (v .place) x (v .file) xs₁ began
 
-    opens : accAt (behind F b₁) p ≡ some (begun a)
+    opens : accAt (behind p F b₁) p ≡ some (begun a)
     opens = behind-at p F b₁ ∙ at-begun S f p (known .file) b (known .stands) a (known .known .at)
 
     typed-is : eqb (row .typed) 1 ≡ a .typed
@@ -160,38 +161,38 @@ module _ {xs blocks buffers : List ℕ} {d : Desk} {s : Alloc} (S : StandsFor xs
         read-short = omega (arith, ap length bytes-are, length-handed (a .typed) (countBytes n) (first .0), read-limit)
 
         handed-out : ask (fileOf d f) (calls.read p n)
-            ≡ leaves (answers (Read (logOf (inWords n) (length (handed (a .typed) (countBytes n) (first .0))))) (handed (a .typed) (countBytes n) (first .0))) (settle (behind F b₁))
+            ≡ leaves (answers (Read (logOf (inWords n) (length (handed (a .typed) (countBytes n) (first .0))))) (handed (a .typed) (countBytes n) (first .0))) (settle (behind p F b₁))
         unfolding readOn behind say withStore alterAcc withAccs
         handed-out = known .known .out ∙ pick-some (F .got) _ _ (first .0) (found-some N (a .typed) cursor finds (first .0) (first .1) (first .2) (a .keep))
 
         pub read-gives : (memory memory′ : List ℕ) (size log : ℕ) (t : Bool) (z : Ring)
             → size ≡ length (handed (eqb (row .typed) 1) limit (recAt own (cursor .at)))
-            → memory′ ≡ sets memory 4 (handed (eqb (row .typed) 1) limit (recAt own (cursor .at)))
+            → memory′ ≡ sets memory answerHead (handed (eqb (row .typed) 1) limit (recAt own (cursor .at)))
             → log ≡ logOf t size → t ≡ inWords n → z ≡ takenRing (eqb (row .keep) 1) ring
             → Hands f o (ask (fileOf d f) (calls.read p n)) xs₁ blocks buffers memory memory′ (inHold (x .words) z) (Read log) size
-        unfolding behind say withStore alterAcc withAccs
+        unfolding behind say withStore alterAcc withAccs answerBytes
         read-gives memory memory′ size log t z es em el et ez = record {
           bytes = D;
           acts = record {
             acted = c;
             mid =
                 subst (λ (y : Ring). Mid Fine f o xs₁ blocks buffers (inHold (x .words) y) c) (sym (ez ∙ ap (λ (k : ℕ). takenRing (eqb k 1) ring) keep-is ∙ ap (λ (w : Bool). takenRing w ring) (bit-one (a .keep))))
-                (some-mid N (a .typed) cursor finds (first .0) (first .1) (first .2) (a .keep));
+                (some-mid N (a .typed) cursor finds (first .0) (first .1) (first .2) p (a .keep));
             out = handed-out ∙ ap (λ (k : ℕ). leaves (answers (Read k) D) (settle c)) (sym (el ∙ ap₂ {C = ℕ} logOf et (es ∙ ap length bytes-are)));
           };
           size = es ∙ ap length bytes-are;
           most = omega (arith, es, read-short);
-          behind = em ∙ ap (sets memory 4) bytes-are;
+          behind = em ∙ ap (sets memory answerHead) bytes-are;
         }
 
     -- none
     module _ (empty : ring .held ≤ 0) where
-      abbrev w : Bool
-      w = inWords n
+      abbrev wanted : Wanted
+      wanted = record { words = inWords n; limit = countBytes n; keep = a .keep }
 
-      B : Mid Fine f o xs₁ blocks buffers (inHold (x .words) ring) (behind F b₁)
+      B : Mid Fine f o xs₁ blocks buffers (inHold (x .words) ring) (behind p F b₁)
       unfolding alterAcc withAccs
-      B = none-mid N (a .typed) cursor finds (a .keep) empty
+      B = none-mid N (a .typed) cursor finds (a .keep) empty p
 
       nothing : F .got ≡ none
       unfolding alterAcc withAccs
@@ -206,22 +207,22 @@ module _ {xs blocks buffers : List ℕ} {d : Desk} {s : Alloc} (S : StandsFor xs
 
       -- it waits
       module _ (t : Bool) (limit : ℕ) (et : t ≡ inWords n) (counted : limit ≡ countBytes n) where
-        entry-is : readEntry (placeOf f p) t limit (row .keep) ≡ reqWords (placeOf f p) (reading w (countBytes n) (a .keep))
+        entry-is : readEntry (placeOf f p) t limit (row .keep) ≡ reqWords (placeOf f p) (reading wanted)
         unfolding readEntry reqWords
         entry-is = rw (et, counted, keep-is) refl
 
         pub read-free : (length xs₁ ≡ segmentBytes) × (nth xs₁ freeList < entries) × (nth (queued xs₁ (readQueue f) (readEntry (placeOf f p) t limit (row .keep))) freeList < entries)
         unfolding waitsRead waitsWrite
         read-free =
-            let e = step-wait-free fine-knows B p (begun a) opens (stands-rest S f) false (row .timeout) (reading w (countBytes n) (a .keep)) still refl in
+            let e = step-wait-free fine-knows B p (begun a) opens (stands-rest S f) false (row .timeout) (reading wanted) still refl in
             (mid-lengths B, e .0, subst (λ (m : List ℕ). nth (queued xs₁ (readQueue f) m) freeList < entries) (sym entry-is) (e .1))
 
-        fine-wait : Fine (wait false p (a .timeout) (reading w (countBytes n) (a .keep)) (behind F b₁))
+        fine-wait : Fine (wait false p (a .timeout) (reading wanted) (behind p F b₁))
         unfolding begun
-        fine-wait = fine-walks .readWaits p (a .timeout) (countBytes n) w (a .keep) (begun a) c opens still (known .known .side) read-limit (B .good)
+        fine-wait = fine-walks .readWaits p (a .timeout) wanted (begun a) c opens still (known .known .side) read-limit (B .good)
 
         wait-out : mayWait (writers b) a ≡ true
-            → ask (fileOf d f) (calls.read p n) ≡ leaves (answers (Status 3 1) []) (settle (wait false p (a .timeout) (reading w (countBytes n) (a .keep)) (behind F b₁)))
+            → ask (fileOf d f) (calls.read p n) ≡ leaves (answers (Status 3 1) []) (settle (wait false p (a .timeout) (reading wanted) (behind p F b₁)))
         unfolding readOn status answering behind say withStore alterAcc withAccs
         wait-out m = known .known .out ∙ pick-none (F .got) _ _ nothing ∙ pick-true (mayWait (writers b) a) _ _ m
 
@@ -231,12 +232,12 @@ module _ {xs blocks buffers : List ℕ} {d : Desk} {s : Alloc} (S : StandsFor xs
         read-waits m memory xs₂ e = record {
           bytes = [];
           acts = record {
-            acted = wait false p (a .timeout) (reading w (countBytes n) (a .keep)) c;
+            acted = wait false p (a .timeout) (reading wanted) c;
             mid =
-                subst (λ (ys : List ℕ). Mid Fine f o ys blocks buffers (inHold (x .words) ring) (wait false p (a .timeout) (reading w (countBytes n) (a .keep)) c))
+                subst (λ (ys : List ℕ). Mid Fine f o ys blocks buffers (inHold (x .words) ring) (wait false p (a .timeout) (reading wanted) c))
                 (sym (e ∙ ap₂ {C = List ℕ} (λ (k : List ℕ) (i : ℕ). waiting xs₁ (readQueue f) k (placeOf f p) i) entry-is
                 (row-timeout S f p (known .file) b (known .stands) a (known .known .at) row (v .place))))
-                (step-wait-read fine-knows B p (begun a) opens (stands-rest S f) (a .timeout) still (countBytes n) w (a .keep) fine-wait);
+                (step-wait-read fine-knows B p (begun a) opens (stands-rest S f) (a .timeout) still wanted fine-wait);
             out = wait-out (sym (m ∙ row-waits S f p (known .file) b (known .stands) a (known .known .at) row (v .place) _ _ others));
           };
           size = refl;
@@ -244,7 +245,7 @@ module _ {xs blocks buffers : List ℕ} {d : Desk} {s : Alloc} (S : StandsFor xs
           behind = refl;
         }
 
-      ends-out : mayWait (writers b) a ≡ false → ask (fileOf d f) (calls.read p n) ≡ leaves (answers (Status 3 2) []) (settle (behind F b₁))
+      ends-out : mayWait (writers b) a ≡ false → ask (fileOf d f) (calls.read p n) ≡ leaves (answers (Status 3 2) []) (settle (behind p F b₁))
       unfolding readOn status answering behind say withStore alterAcc withAccs
       ends-out m = known .known .out ∙ pick-none (F .got) _ _ nothing ∙ pick-false (mayWait (writers b) a) _ _ m
 

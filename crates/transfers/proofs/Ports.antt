@@ -113,35 +113,35 @@ module _ {xs blocks buffers : List ℕ} {d : Desk} {s : Alloc} (S : StandsFor xs
   pub shows : (q : Req) → a .req ≡ q → (q ≡ idle → ⊥) → Shows xs buffers f p b q
   unfolding collect portOf reqWords entryOf uncollected lies Bounded
   shows idle e n = absurd (n refl)
-  shows (reading w l k) e n = inl (port-none (reading w l k) e refl, refl)
-  shows (writing w v) e n = inl (port-none (writing w v) e refl, refl)
-  shows (readDone st log v) e n =
+  shows (reading q) e n = inl (port-none (reading q) e refl, refl)
+  shows (writing q) e n = inl (port-none (writing q) e refl, refl)
+  shows (readDone q) e n =
       inr (
         port-full (ap uncollected e),
         record {
-          status = st;
-          log = log;
-          bytes = v;
+          status = q .status;
+          log = q .log;
+          bytes = q .bytes;
           ended = refl;
           rule = refl;
           entry = port-entry (ap uncollected e) ∙ ap (λ (r : Req). entryOf (reqWords i r)) e;
-          lie = taken v (ap lies e);
-          short = bounds-at p a (readDone st log v) b at e (mid-begin S f b hf is .good .bounds) .0;
-          low = bounds-at p a (readDone st log v) b at e (mid-begin S f b hf is .good .bounds) .1;
+          lie = taken (q .bytes) (ap lies e);
+          short = bounds-at p a (readDone q) b at e (mid-begin S f b hf is .good .bounds) .0;
+          low = bounds-at p a (readDone q) b at e (mid-begin S f b hf is .good .bounds) .1;
         },
       )
-  shows (writeDone st log) e n =
+  shows (writeDone q) e n =
       inr (
         port-full (ap uncollected e),
         record {
-          status = st;
-          log = log;
+          status = q .status;
+          log = q .log;
           bytes = [];
           ended = refl;
           rule = refl;
           entry = port-entry (ap uncollected e) ∙ ap (λ (r : Req). entryOf (reqWords i r)) e;
           lie = refl;
           short = omega arith;
-          low = bounds-at p a (writeDone st log) b at e (mid-begin S f b hf is .good .bounds);
+          low = bounds-at p a (writeDone q) b at e (mid-begin S f b hf is .good .bounds);
         },
       )

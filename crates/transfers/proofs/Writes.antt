@@ -10,7 +10,7 @@ use lib.ListN.{length}
 use lib.Seq.{sets}
 use Rattle.kinds.specs.declared.Answer.the-variants.{Written, Status}
 use Rattle.rules.specs.Limits.{entries, bufferBytes, shareBytes}
-use Rattle.rules.specs.State.{Rec, writing, idle, Acc, Built}
+use Rattle.rules.specs.State.{Rec, Offered, writing, idle, Acc, Built}
 use Rattle.rules.specs.Count.{inWords, countBytes, logOf}
 use Rattle.rules.specs.Requests.{readers, fits, accAt, withStore, withAccs, alterAcc, say, putRec, begun, wait}
 use Rattle.rules.specs.Settle.{dataRec, settle}
@@ -174,6 +174,9 @@ module _ {xs blocks buffers : List ℕ} {d : Desk} {s : Alloc} (S : StandsFor xs
         abbrev w : Bool
         w = inWords n
 
+        abbrev offered : Offered
+        offered = record { words = inWords n; bytes = v }
+
         still : begun a .req ≡ idle
         unfolding begun
         still = known .known .idles
@@ -181,7 +184,7 @@ module _ {xs blocks buffers : List ℕ} {d : Desk} {s : Alloc} (S : StandsFor xs
         -- it waits
         free : (nth xs₁ freeList < entries) × (nth (queued xs₁ (writeQueue f) (writeEntry (placeOf f p) w (length v))) freeList < entries)
         unfolding writeEntry reqWords waitsRead waitsWrite
-        free = step-wait-free fine-knows N p (begun a) opens (stands-rest S f) true (row .timeout) (writing w v) still refl
+        free = step-wait-free fine-knows N p (begun a) opens (stands-rest S f) true (row .timeout) (writing offered) still refl
 
         pub write-free : (t : Bool) → t ≡ inWords n
             → (length xs₁ ≡ segmentBytes) × (nth xs₁ freeList < entries) × (nth (queued xs₁ (writeQueue f) (writeEntry (placeOf f p) t (length v))) freeList < entries)
@@ -189,11 +192,11 @@ module _ {xs blocks buffers : List ℕ} {d : Desk} {s : Alloc} (S : StandsFor xs
             (mid-lengths N, free .0, subst (λ (u : Bool). nth (queued xs₁ (writeQueue f) (writeEntry (placeOf f p) u (length v))) freeList < entries) (sym et) (free .1))
 
         module _ (waits : true ≡ mayWaitRow (countSide xs₁ f 1) row) where
-          fine-wait : Fine (wait true p (a .timeout) (writing w v) b₁)
+          fine-wait : Fine (wait true p (a .timeout) (writing offered) b₁)
           unfolding begun alterAcc withAccs
-          fine-wait = fine-walks .writeWaits p (a .timeout) w v (begun a) b₁ opens still (known .known .side) write-short (N .good)
+          fine-wait = fine-walks .writeWaits p (a .timeout) offered (begun a) b₁ opens still (known .known .side) write-short (N .good)
 
-          wait-out : ask (fileOf d f) (calls.write p n v) ≡ leaves (answers (Status 4 1) []) (settle (wait true p (a .timeout) (writing w v) b₁))
+          wait-out : ask (fileOf d f) (calls.write p n v) ≡ leaves (answers (Status 4 1) []) (settle (wait true p (a .timeout) (writing offered) b₁))
           unfolding writeOn status answering
           wait-out =
               known .known .out ∙ pick-false (fits b && isNil (b .wq)) _ _ never
@@ -204,12 +207,12 @@ module _ {xs blocks buffers : List ℕ} {d : Desk} {s : Alloc} (S : StandsFor xs
               → Acts f o (ask (fileOf d f) (calls.write p n v)) xs₂ blocks buffers₂ x (Status 4 1) []
           unfolding writeEntry reqWords
           write-waits xs₂ buffers₂ t et ex eb = record {
-            acted = wait true p (a .timeout) (writing w v) b₁;
+            acted = wait true p (a .timeout) (writing offered) b₁;
             mid =
-                subst (λ (ys : List ℕ). Mid Fine f o ys blocks buffers₂ x (wait true p (a .timeout) (writing w v) b₁))
+                subst (λ (ys : List ℕ). Mid Fine f o ys blocks buffers₂ x (wait true p (a .timeout) (writing offered) b₁))
                 (sym (ex ∙ ap₂ {C = List ℕ} (λ (u : Bool) (k : ℕ). waiting xs₁ (writeQueue f) (writeEntry (placeOf f p) u (length v)) (placeOf f p) k) et
                 (row-timeout S f p (known .file) b (known .stands) a (known .known .at) row read)))
-                (step-wait-write fine-knows N p (begun a) opens (stands-rest S f) (a .timeout) still w v buffers₂ write-bytes fine-wait eb);
+                (step-wait-write fine-knows N p (begun a) opens (stands-rest S f) (a .timeout) still offered buffers₂ write-bytes fine-wait eb);
             out = wait-out;
           }
 

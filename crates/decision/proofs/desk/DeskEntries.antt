@@ -12,7 +12,7 @@ use Rattle.words.proofs.Runs.{length-zeros}
 use Rattle.occurrences.specs.Count.{bit}
 use Rattle.occurrences.proofs.Counts.{bit-le}
 use Rattle.rules.specs.Limits.{files, places, mostWords, bufferBytes, mostReadBytes}
-use Rattle.rules.specs.State.{Req, idle, reading, writing, readDone, writeDone, Acc, Timer}
+use Rattle.rules.specs.State.{Wanted, Offered, Brought, Wrote, Req, idle, reading, writing, readDone, writeDone, Acc, Timer}
 use Rattle.rules.specs.Memories.{lies, buffer}
 use Rattle.segment.specs.Layout.{dataAt, dataWords}
 use Rattle.segment.specs.Table.{nth, dataOf}
@@ -71,10 +71,10 @@ timer-entry s e t h q = (
 pub lies-short : (words : ℕ) (q : Req) → words ≤ mostWords → Bounded words q → length (lies q) ≤ bufferBytes
 unfolding Bounded lies
 lies-short n idle h b = omega arith
-lies-short n (reading w l k) h b = omega arith
-lies-short n (writing w d) h b = omega arith
-lies-short n (readDone st g d) h b = b .0
-lies-short n (writeDone st g) h b = omega arith
+lies-short n (reading q) h b = omega arith
+lies-short n (writing q) h b = omega arith
+lies-short n (readDone q) h b = b .0
+lies-short n (writeDone q) h b = omega arith
 
 pub buffer-size : (o : Option Acc) → length (lies (reqOf o)) ≤ bufferBytes → length (buffer o) ≡ bufferBytes
 unfolding buffer reqOf
@@ -94,38 +94,38 @@ module _ (s bufs : List ℕ) (size : length bufs ≡ places * bufferBytes * file
   pub writer-side : a .writer ≡ true → sideAt s i ≡ 2
   writer-side u = some-side s i a r ∙ ap (λ (t : Bool). 1 + bit t) u
 
-  pub read-entry : (f l : ℕ) (w k : Bool) → i / places ≡ f → a .req ≡ reading w l k → l ≤ mostReadBytes → ReadEntry s bufs f e × (placeIn s e ≡ i)
+  pub read-entry : (f : ℕ) (x : Wanted) → i / places ≡ f → a .req ≡ reading x → x .limit ≤ mostReadBytes → ReadEntry s bufs f e × (placeIn s e ≡ i)
   unfolding reqWords Fitting lies
-  read-entry f l w k g u b =
-      let q : dataOf s e ≡ i ∷ bit w ∷ l ∷ bit k ∷ 0 ∷ 0 ∷ 0 ∷ 0 ∷ 0 ∷ [] = holds ∙ ap (reqWords i) u in
+  read-entry f x g u b =
+      let q : dataOf s e ≡ i ∷ bit (x .words) ∷ x .limit ∷ bit (x .keep) ∷ 0 ∷ 0 ∷ 0 ∷ 0 ∷ 0 ∷ [] = holds ∙ ap (reqWords i) u in
       let pl : placeIn s e ≡ i = place-in s e _ q in
       let sd : a .writer ≡ false = rw u at (sided .request) in (
         record {
           place = omega (arith, pl);
           file = ap (λ (j : ℕ). j / places) pl ∙ g;
           side = ap (sideAt s) pl ∙ reader-side sd;
-          unit = omega (arith, word-in s e _ q 1 (omega arith), bit-le w);
+          unit = omega (arith, word-in s e _ q 1 (omega arith), bit-le (x .words));
           limit = omega (arith, word-in s e _ q 2 (omega arith));
-          keep = omega (arith, word-in s e _ q 3 (omega arith), bit-le k);
+          keep = omega (arith, word-in s e _ q 3 (omega arith), bit-le (x .keep));
           rest = zeros-in s e _ q 4 5 (omega arith) refl;
           buffer = rw pl (rw u at (rest (rw u (omega arith))));
         },
         pl,
       )
 
-  pub write-entry : (f words : ℕ) (w : Bool) (d : List ℕ) → i / places ≡ f → a .req ≡ writing w d → length d ≤ 2 * words → words ≤ mostWords → fileWord s f 0 ≡ words
+  pub write-entry : (f words : ℕ) (x : Offered) → i / places ≡ f → a .req ≡ writing x → length (x .bytes) ≤ 2 * words → words ≤ mostWords → fileWord s f 0 ≡ words
       → WriteEntry s bufs f e × (placeIn s e ≡ i)
   unfolding reqWords Fitting lies
-  write-entry f words w d g u b c fw =
-      let q : dataOf s e ≡ i ∷ bit w ∷ 0 ∷ 0 ∷ 0 ∷ 0 ∷ length d ∷ 0 ∷ 0 ∷ [] = holds ∙ ap (reqWords i) u in
+  write-entry f words x g u b c fw =
+      let q : dataOf s e ≡ i ∷ bit (x .words) ∷ 0 ∷ 0 ∷ 0 ∷ 0 ∷ length (x .bytes) ∷ 0 ∷ 0 ∷ [] = holds ∙ ap (reqWords i) u in
       let pl : placeIn s e ≡ i = place-in s e _ q in
-      let sz : sizeIn s e ≡ length d = size-in s e _ q in
+      let sz : sizeIn s e ≡ length (x .bytes) = size-in s e _ q in
       let sd : a .writer ≡ true = rw u at (sided .request) in (
         record {
           place = omega (arith, pl);
           file = ap (λ (j : ℕ). j / places) pl ∙ g;
           side = ap (sideAt s) pl ∙ writer-side sd;
-          unit = omega (arith, word-in s e _ q 1 (omega arith), bit-le w);
+          unit = omega (arith, word-in s e _ q 1 (omega arith), bit-le (x .words));
           middle = zeros-in s e _ q 2 4 (omega arith) refl;
           size = omega (arith, sz, fw);
           rest = zeros-in s e _ q 7 2 (omega arith) refl;
@@ -134,12 +134,12 @@ module _ (s bufs : List ℕ) (size : length bufs ≡ places * bufferBytes * file
         pl,
       )
 
-  pub read-done : (st log : ℕ) (d : List ℕ) → a .req ≡ readDone st log d → length d ≤ mostReadBytes → st < leastRefusal → PortEntry s bufs i e
+  pub read-done : (x : Brought) → a .req ≡ readDone x → length (x .bytes) ≤ mostReadBytes → x .status < leastRefusal → PortEntry s bufs i e
   unfolding reqWords Fitting lies
-  read-done st log d u b n =
-      let q : dataOf s e ≡ i ∷ 0 ∷ 0 ∷ 0 ∷ st ∷ log ∷ length d ∷ 0 ∷ 0 ∷ [] = holds ∙ ap (reqWords i) u in
+  read-done x u b n =
+      let q : dataOf s e ≡ i ∷ 0 ∷ 0 ∷ 0 ∷ x .status ∷ x .log ∷ length (x .bytes) ∷ 0 ∷ 0 ∷ [] = holds ∙ ap (reqWords i) u in
       let pl : placeIn s e ≡ i = place-in s e _ q in
-      let sz : sizeIn s e ≡ length d = size-in s e _ q in
+      let sz : sizeIn s e ≡ length (x .bytes) = size-in s e _ q in
       let sd : sideAt s i ≡ 1 = reader-side (rw u at (sided .request)) in
       record {
         place = pl;
@@ -151,10 +151,10 @@ module _ (s bufs : List ℕ) (size : length bufs ≡ places * bufferBytes * file
         buffer = rw sz (rw u at (rest (rw u b)));
       }
 
-  pub write-done : (st log : ℕ) → a .req ≡ writeDone st log → st < leastRefusal → PortEntry s bufs i e
+  pub write-done : (x : Wrote) → a .req ≡ writeDone x → x .status < leastRefusal → PortEntry s bufs i e
   unfolding reqWords Fitting lies
-  write-done st log u n =
-      let q : dataOf s e ≡ i ∷ 0 ∷ 0 ∷ 0 ∷ st ∷ log ∷ 0 ∷ 0 ∷ 0 ∷ [] = holds ∙ ap (reqWords i) u in
+  write-done x u n =
+      let q : dataOf s e ≡ i ∷ 0 ∷ 0 ∷ 0 ∷ x .status ∷ x .log ∷ 0 ∷ 0 ∷ 0 ∷ [] = holds ∙ ap (reqWords i) u in
       let pl : placeIn s e ≡ i = place-in s e _ q in
       let sz : sizeIn s e ≡ 0 = size-in s e _ q in
       let sd : sideAt s i ≡ 2 = writer-side (rw u at (sided .request)) in

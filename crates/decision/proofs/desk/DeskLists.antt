@@ -62,10 +62,10 @@ module _ (s : List ℕ) (g : Timer → ℕ) where
 pub port-length : (q : Req) (i : ℕ) (a : Alloc) → length (portOf q i a) ≡ uncollected q
 unfolding portOf uncollected
 port-length idle i a = refl
-port-length (reading w l k) i a = refl
-port-length (writing w d) i a = refl
-port-length (readDone st g d) i a = refl
-port-length (writeDone st g) i a = refl
+port-length (reading q) i a = refl
+port-length (writing q) i a = refl
+port-length (readDone q) i a = refl
+port-length (writeDone q) i a = refl
 
 module _ (s blocks bufs : List ℕ) (a : Alloc) (f : ℕ) where
   abbrev entry : ℕ → ℕ
@@ -128,7 +128,7 @@ module _ (s blocks bufs : List ℕ) (a : Alloc) (f : ℕ) where
 
       go : (q : Req) → reqOf (accAt b p) ≡ q → map (dataOf s) (portOf q (places * f + p) a) ≡ portWords (places * f + p) q → Each (PortEntry s bufs (places * f + p)) (portOf q (places * f + p) a)
       go idle u k = tt
-      go (reading w l r) u k = tt
-      go (writing w d) u k = tt
-      go (readDone st g d) u k = (one (readDone st g d) u (unfold uncollected in omega arith) (unfold portWords in cc), tt)
-      go (writeDone st g) u k = (one (writeDone st g) u (unfold uncollected in omega arith) (unfold portWords in cc), tt)
+      go (reading q) u k = tt
+      go (writing q) u k = tt
+      go (readDone q) u k = (one (readDone q) u (unfold uncollected in omega arith) (unfold portWords in cc), tt)
+      go (writeDone q) u k = (one (writeDone q) u (unfold uncollected in omega arith) (unfold portWords in cc), tt)

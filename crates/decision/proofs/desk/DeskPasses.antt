@@ -178,10 +178,10 @@ module _ (s blocks bufs : List ℕ) (d : Desk) (a : Alloc) (S : StandsFor s bloc
   zero-lies : (q : Req) → outstanding q ≡ 0 → lies q ≡ []
   unfolding waitsRead waitsWrite uncollected lies
   zero-lies idle h = refl
-  zero-lies (reading w l k) h = refl
-  zero-lies (writing w l) h = absurd (omega arith)
-  zero-lies (readDone st g l) h = absurd (omega arith)
-  zero-lies (writeDone st g) h = refl
+  zero-lies (reading q) h = refl
+  zero-lies (writing q) h = absurd (omega arith)
+  zero-lies (readDone q) h = absurd (omega arith)
+  zero-lies (writeDone q) h = refl
 
   idle-buffer : (o : Option Acc) → outstanding (reqOf o) ≡ 0 → buffer o ≡ [] ++ zeros (bufferBytes - 0)
   unfolding buffer reqOf

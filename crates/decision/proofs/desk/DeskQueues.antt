@@ -124,45 +124,45 @@ module _ (s blocks bufs : List ℕ) (a : Alloc) (f : ℕ) where
       read-of h = go (reqAt (b .accs) p) refl h
         where
           go : (q : Req) → reqAt (b .accs) p ≡ q → 1 ≤ waitsRead q → ReadEntry s bufs f e × (placeIn s e ≡ places * f + p)
-          go (reading w l k) u h =
-              let o : outstanding (reading w l k) ≡ 1 = refl in
-              read-entry s bufs (F .size) (places * f + p) e (small (reading w l k) u o) (busy (reading w l k) u o .acc) (sided (reading w l k) u o) (rowed (reading w l k) u o)
-              (body (reading w l k) u o) (words (reading w l k) u o) f l w k (omega (arith, low (reading w l k) u o)) (busy (reading w l k) u o .req) (bound (reading w l k) u o)
+          go (reading q) u h =
+              let o : outstanding (reading q) ≡ 1 = refl in
+              read-entry s bufs (F .size) (places * f + p) e (small (reading q) u o) (busy (reading q) u o .acc) (sided (reading q) u o) (rowed (reading q) u o)
+              (body (reading q) u o) (words (reading q) u o) f q (omega (arith, low (reading q) u o)) (busy (reading q) u o .req) (bound (reading q) u o)
           go idle u h = absurd (omega arith)
-          go (writing w d) u h = absurd (omega arith)
-          go (readDone st g d) u h = absurd (omega arith)
-          go (writeDone st g) u h = absurd (omega arith)
+          go (writing q) u h = absurd (omega arith)
+          go (readDone q) u h = absurd (omega arith)
+          go (writeDone q) u h = absurd (omega arith)
 
       pub write-of : 1 ≤ waitsWrite (reqAt (b .accs) p) → WriteEntry s bufs f e × (placeIn s e ≡ places * f + p)
       unfolding Bounded waitsRead waitsWrite uncollected fileWords
       write-of h = go (reqAt (b .accs) p) refl h
         where
           go : (q : Req) → reqAt (b .accs) p ≡ q → 1 ≤ waitsWrite q → WriteEntry s bufs f e × (placeIn s e ≡ places * f + p)
-          go (writing w d) u h =
-              let o : outstanding (writing w d) ≡ 1 = refl in
-              write-entry s bufs (F .size) (places * f + p) e (small (writing w d) u o) (busy (writing w d) u o .acc) (sided (writing w d) u o) (rowed (writing w d) u o)
-              (body (writing w d) u o) (words (writing w d) u o) f (b .geo .words) w d (omega (arith, low (writing w d) u o)) (busy (writing w d) u o .req)
-              (bound (writing w d) u o) (fine .room .geo .words-high) (F .row 0 (omega arith))
+          go (writing q) u h =
+              let o : outstanding (writing q) ≡ 1 = refl in
+              write-entry s bufs (F .size) (places * f + p) e (small (writing q) u o) (busy (writing q) u o .acc) (sided (writing q) u o) (rowed (writing q) u o)
+              (body (writing q) u o) (words (writing q) u o) f (b .geo .words) q (omega (arith, low (writing q) u o)) (busy (writing q) u o .req)
+              (bound (writing q) u o) (fine .room .geo .words-high) (F .row 0 (omega arith))
           go idle u h = absurd (omega arith)
-          go (reading w l k) u h = absurd (omega arith)
-          go (readDone st g d) u h = absurd (omega arith)
-          go (writeDone st g) u h = absurd (omega arith)
+          go (reading q) u h = absurd (omega arith)
+          go (readDone q) u h = absurd (omega arith)
+          go (writeDone q) u h = absurd (omega arith)
 
       pub done-of : 1 ≤ uncollected (reqAt (b .accs) p) → PortEntry s bufs (places * f + p) e
       unfolding Bounded waitsRead waitsWrite uncollected fileWords
       done-of h = go (reqAt (b .accs) p) refl h
         where
           go : (q : Req) → reqAt (b .accs) p ≡ q → 1 ≤ uncollected q → PortEntry s bufs (places * f + p) e
-          go (readDone st g d) u h =
-              let o : outstanding (readDone st g d) ≡ 1 = refl in
-              read-done s bufs (F .size) (places * f + p) e (small (readDone st g d) u o) (busy (readDone st g d) u o .acc) (sided (readDone st g d) u o)
-              (rowed (readDone st g d) u o) (body (readDone st g d) u o) (words (readDone st g d) u o) st g d (busy (readDone st g d) u o .req)
-              (bound (readDone st g d) u o .0) (bound (readDone st g d) u o .1)
-          go (writeDone st g) u h =
-              let o : outstanding (writeDone st g) ≡ 1 = refl in
-              write-done s bufs (F .size) (places * f + p) e (small (writeDone st g) u o) (busy (writeDone st g) u o .acc) (sided (writeDone st g) u o)
-              (rowed (writeDone st g) u o) (body (writeDone st g) u o) (words (writeDone st g) u o) st g (busy (writeDone st g) u o .req)
-              (bound (writeDone st g) u o)
+          go (readDone q) u h =
+              let o : outstanding (readDone q) ≡ 1 = refl in
+              read-done s bufs (F .size) (places * f + p) e (small (readDone q) u o) (busy (readDone q) u o .acc) (sided (readDone q) u o)
+              (rowed (readDone q) u o) (body (readDone q) u o) (words (readDone q) u o) q (busy (readDone q) u o .req)
+              (bound (readDone q) u o .0) (bound (readDone q) u o .1)
+          go (writeDone q) u h =
+              let o : outstanding (writeDone q) ≡ 1 = refl in
+              write-done s bufs (F .size) (places * f + p) e (small (writeDone q) u o) (busy (writeDone q) u o .acc) (sided (writeDone q) u o)
+              (rowed (writeDone q) u o) (body (writeDone q) u o) (words (writeDone q) u o) q (busy (writeDone q) u o .req)
+              (bound (writeDone q) u o)
           go idle u h = absurd (omega arith)
-          go (reading w l k) u h = absurd (omega arith)
-          go (writing w d) u h = absurd (omega arith)
+          go (reading q) u h = absurd (omega arith)
+          go (writing q) u h = absurd (omega arith)

@@ -6,7 +6,7 @@ use mathlib.Core.Option.{Option, none, some}
 use lib.Dec.{eqb}
 use lib.ListN.{getD, take}
 use Rattle.rules.specs.Limits.{files, places}
-use Rattle.rules.specs.State.{Req, idle, reading, writing, readDone, writeDone, Acc, Timer, Built, File, unbuilt, built}
+use Rattle.rules.specs.State.{Wanted, Offered, Brought, Wrote, Req, idle, reading, writing, readDone, writeDone, Acc, Timer, Built, File, unbuilt, built}
 use Rattle.rules.specs.Desk.{Desk}
 use Rattle.rules.specs.Allocation.{Held, nothing, own, timed, Alloc, upFrom}
 use Rattle.segment.specs.Layout.{freeList, readQueue, writeQueue, replyPort, timerList}
@@ -33,12 +33,24 @@ writesAt s ls i = named s i (getD ls (writeQueue (i / places)) [])
 unfoldable pub entryOf : List ℕ → List (List ℕ) → ℕ → ℕ
 entryOf s ls i = theEntry s i (getD ls (readQueue (i / places)) [] ++ (getD ls (writeQueue (i / places)) [] ++ getD ls (replyPort i) []))
 
+-- what the entry e, of place i, says of a request of each kind
+abbrev pub wantedBy : List ℕ → ℕ → Wanted
+wantedBy s e = record { words = eqb (entryWord s e 1) 1; limit = entryWord s e 2; keep = eqb (entryWord s e 3) 1 }
+
+abbrev pub offeredBy : List ℕ → List ℕ → ℕ → ℕ → Offered
+offeredBy s bufs i e = record { words = eqb (entryWord s e 1) 1; bytes = take (sizeIn s e) (bufferAt i bufs) }
+
+abbrev pub broughtBy : List ℕ → List ℕ → ℕ → ℕ → Brought
+broughtBy s bufs i e = record { status = entryWord s e 4; log = entryWord s e 5; bytes = take (sizeIn s e) (bufferAt i bufs) }
+
+abbrev pub wroteBy : List ℕ → ℕ → Wrote
+wroteBy s e = record { status = entryWord s e 4; log = entryWord s e 5 }
+
 -- the request at place i whose entry is e, by how many wait as reads, wait as writes, are completed
 unfoldable pub reqBy : List ℕ → List ℕ → ℕ → ℕ → ℕ → ℕ → ℕ → Req
-reqBy s bufs i e (suc r) w c = reading (eqb (entryWord s e 1) 1) (entryWord s e 2) (eqb (entryWord s e 3) 1)
-reqBy s bufs i e zero (suc w) c = writing (eqb (entryWord s e 1) 1) (take (sizeIn s e) (bufferAt i bufs))
-reqBy s bufs i e zero zero (suc c) =
-    cond (eqb (sideAt s i) 1) (readDone (entryWord s e 4) (entryWord s e 5) (take (sizeIn s e) (bufferAt i bufs))) (writeDone (entryWord s e 4) (entryWord s e 5))
+reqBy s bufs i e (suc r) w c = reading (wantedBy s e)
+reqBy s bufs i e zero (suc w) c = writing (offeredBy s bufs i e)
+reqBy s bufs i e zero zero (suc c) = cond (eqb (sideAt s i) 1) (readDone (broughtBy s bufs i e)) (writeDone (wroteBy s e))
 reqBy s bufs i e zero zero zero = idle
 
 unfoldable pub reqFor : List ℕ → List ℕ → List (List ℕ) → ℕ → Req

@@ -5,29 +5,27 @@ use mathlib.Core.List.{List, [], _∷_, _++_}
 use native.Mathlib.Omega.{arith}
 use native.Mathlib.Decide.{ℕ-discrete}
 use borrow.Author.Tests.{eq-eqb, ne-eqb}
-use lib.Dec.{eqb}
-use lib.ListN.{length, getD, take}
+use lib.ListN.{length, getD}
 use Rattle.rules.specs.Limits.{files, places}
 use Rattle.rules.specs.State.{Req, idle, reading, writing, readDone, writeDone}
 use Rattle.segment.specs.Layout.{readQueue, writeQueue, replyPort}
-use Rattle.memory.specs.Stands.{bufferAt}
 use Rattle.sound.specs.Rows.{sideAt}
-use Rattle.sound.specs.Walks.{entryWord, placeIn, sizeIn}
+use Rattle.sound.specs.Walks.{placeIn}
 use Rattle.decision.specs.Survey.{Each, ReadEntry, WriteEntry, PortEntry, named, waitingAt, completedAt, Survey}
-use Rattle.decision.proofs.desk.MadeDesk.{theEntry, readsAt, writesAt, entryOf, reqBy, reqFor}
+use Rattle.decision.proofs.desk.MadeDesk.{wantedBy, offeredBy, broughtBy, wroteBy, theEntry, readsAt, writesAt, entryOf, reqBy, reqFor}
 use Rattle.decision.proofs.desk.MadeEntries.{each-at, entry-in, entry-left, entry-right}
 
 -- one request at most, and what its entry holds
 pub data View (s bufs : List ℕ) (ls : List (List ℕ)) (i : ℕ) : Req → Type 0 where
   idles : readsAt s ls i ≡ 0 → writesAt s ls i ≡ 0 → completedAt ls i ≡ 0 → View s bufs ls i idle
   reads : readsAt s ls i ≡ 1 → writesAt s ls i ≡ 0 → completedAt ls i ≡ 0 → ReadEntry s bufs (i / places) (entryOf s ls i) → placeIn s (entryOf s ls i) ≡ i
-      → View s bufs ls i (reading (eqb (entryWord s (entryOf s ls i) 1) 1) (entryWord s (entryOf s ls i) 2) (eqb (entryWord s (entryOf s ls i) 3) 1))
+      → View s bufs ls i (reading (wantedBy s (entryOf s ls i)))
   writes : readsAt s ls i ≡ 0 → writesAt s ls i ≡ 1 → completedAt ls i ≡ 0 → WriteEntry s bufs (i / places) (entryOf s ls i) → placeIn s (entryOf s ls i) ≡ i
-      → View s bufs ls i (writing (eqb (entryWord s (entryOf s ls i) 1) 1) (take (sizeIn s (entryOf s ls i)) (bufferAt i bufs)))
+      → View s bufs ls i (writing (offeredBy s bufs i (entryOf s ls i)))
   readsDone : readsAt s ls i ≡ 0 → writesAt s ls i ≡ 0 → completedAt ls i ≡ 1 → getD ls (replyPort i) [] ≡ entryOf s ls i ∷ [] → PortEntry s bufs i (entryOf s ls i) → sideAt s i ≡ 1
-      → View s bufs ls i (readDone (entryWord s (entryOf s ls i) 4) (entryWord s (entryOf s ls i) 5) (take (sizeIn s (entryOf s ls i)) (bufferAt i bufs)))
+      → View s bufs ls i (readDone (broughtBy s bufs i (entryOf s ls i)))
   writesDone : readsAt s ls i ≡ 0 → writesAt s ls i ≡ 0 → completedAt ls i ≡ 1 → getD ls (replyPort i) [] ≡ entryOf s ls i ∷ [] → PortEntry s bufs i (entryOf s ls i) → sideAt s i ≡ 2
-      → View s bufs ls i (writeDone (entryWord s (entryOf s ls i) 4) (entryWord s (entryOf s ls i) 5))
+      → View s bufs ls i (writeDone (wroteBy s (entryOf s ls i)))
 
 module _ (s bufs : List ℕ) (ls : List (List ℕ)) (U : Survey s bufs ls) (i : ℕ) (h : i < files * places) (sides : sideAt s i ≤ 2) where
   abbrev readers : List ℕ

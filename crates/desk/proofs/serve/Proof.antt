@@ -43,7 +43,8 @@ returns c =
     let start : tie.Start = search in
     λ d s S.
     served (act .ensures d s S) (c .before .before .before .encode .ensures .0)
-    (c .before .before .before .encode .ensures .1 .0) (omega (arith, start .pre .0 .1))
+    (c .before .before .before .encode .ensures .1 .0)
+    (omega (arith, start .pre .0 .1, c .before .before .before .encode .ensures .0, c .before .before .before .encode .ensures .1 .1))
 
 pub serve-spec : {M : Type 1} → statement M
 serve-spec =

@@ -3,6 +3,7 @@ use Rattle.transfers.proofs.Fits.{Fit, has-room, cut-short}
 use lib.Seq.{sets}
 use mathlib.Core.Path.{ap, _∙_}
 use Rattle.words.specs.Word.{Bytes}
+use Rattle.rules.specs.Limits.{answerHead}
 use Rattle.rules.specs.Allocation.{placeOf}
 use Rattle.transfers.proofs.Collects.{collect-fit, collect-waits, entry-status, entry-size, entry-ends, entry-gives}
 use native.Mathlib.Omega.{arith}
@@ -152,7 +153,7 @@ returns-3 c =
     λ blocks d s S A.
     entry-gives S _ _ A _ _ (get .ensures) (omega (arith, if1 .left)) (read-entry .ensures) _ _ _
     (free2 .ensures .0) (free2 .ensures .1) (λ i. c .before .before .slice-known7 .given i .fits)
-    (λ i. c .slice-known8 .given i .fits) _ (if2 .left) (copy .ensures ∙ ap (sets _ 4) (lies .ensures))
+    (λ i. c .slice-known8 .given i .fits) _ (if2 .left) (copy .ensures ∙ ap (sets _ answerHead) (lies .ensures))
 
 pub collect-spec : {M : Type 1} → statement M
 collect-spec =

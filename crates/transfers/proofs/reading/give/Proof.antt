@@ -3,6 +3,7 @@ use Rattle.transfers.proofs.Fits.{has-room, few}
 use lib.Seq.{sets}
 use lib.ListN.{length}
 use mathlib.Core.Path.{ap, _∙_}
+use Rattle.rules.specs.Limits.{answerHead}
 use native.Mathlib.Omega.{arith}
 use borrow.Author.Needs.{needs}
 use Rattle.transfers.proofs.reading.give.Statement.{statement}
@@ -29,7 +30,7 @@ same-length c = search needs
 returns : tie.Need-returns
 returns c =
     let given : tie.After-handed = search in
-    (ap length (given .handed .ensures), c .before .before .copy .ensures ∙ ap (sets _ 4) (given .handed .ensures))
+    (ap length (given .handed .ensures), c .before .before .copy .ensures ∙ ap (sets _ answerHead) (given .handed .ensures))
 
 pub give-spec : {M : Type 1} → statement M
 give-spec = tie.close (tie.spec handed-requires copy-requires cast-result same-length returns)
