@@ -63,27 +63,31 @@ pub head-numbers : (h : List ℕ) (n : ℕ) → goodHead h n ≡ (eqb (length h)
 unfolding goodHead goodNumbers
 head-numbers h n = regroup (eqb (length h) 8 && eqb (getD h 0 0) 1) (within 1 mostWords (wordAt h 1)) (within 1 mostFactor (getD h 3 0)) (leb leastCapacity (capacity (getD h 3 0) (wordAt h 4))) (fitsShare (wordAt h 1) (getD h 3 0) (wordAt h 4)) (leb n (capacity (getD h 3 0) (wordAt h 4))) (eqb (wordAt h 6) n)
 
-head-parts : (h : List ℕ) (n : ℕ) → goodHead h n ≡ true → (length h ≡ 8) × (goodNumbers (wordAt h 1) (getD h 3 0) (wordAt h 4) n ≡ true) × (wordAt h 6 ≡ n)
+head-parts : (h : List ℕ) (n : ℕ) → goodHead h n ≡ true → (length h ≡ 8) × (getD h 0 0 ≡ 1) × (goodNumbers (wordAt h 1) (getD h 3 0) (wordAt h 4) n ≡ true) × (wordAt h 6 ≡ n)
 head-parts h n e =
     let first = eqb (length h) 8 && eqb (getD h 0 0) 1 in
     let numbers = goodNumbers (wordAt h 1) (getD h 3 0) (wordAt h 4) n in
     let p = and-true (first && numbers) (eqb (wordAt h 6) n) (sym (head-numbers h n) ∙ e) in
     let q = and-true first numbers (p .0) in
-    (eqb-true (length h) 8 (and-true (eqb (length h) 8) (eqb (getD h 0 0) 1) (q .0) .0), q .1, eqb-true (wordAt h 6) n (p .1))
+    let f = and-true (eqb (length h) 8) (eqb (getD h 0 0) 1) (q .0) in
+    (eqb-true (length h) 8 (f .0), eqb-true (getD h 0 0) 1 (f .1), q .1, eqb-true (wordAt h 6) n (p .1))
 
 pub head-length : (h : List ℕ) (n : ℕ) → goodHead h n ≡ true → length h ≡ 8
 head-length h n e = head-parts h n e .0
 
+pub head-kind : (h : List ℕ) (n : ℕ) → goodHead h n ≡ true → getD h 0 0 ≡ 1
+head-kind h n e = head-parts h n e .1
+
 -- it is good for as many records as it says, and for no other number
 pub head-held : (h : List ℕ) (n : ℕ) → goodHead h n ≡ true → (wordAt h 6 ≡ n) × (goodHead h (wordAt h 6) ≡ true)
-head-held h n e = let k = head-parts h n e .2 in (k, ap (λ (m : ℕ). goodHead h m) k ∙ e)
+head-held h n e = let k = head-parts h n e .3 in (k, ap (λ (m : ℕ). goodHead h m) k ∙ e)
 
 pub head-words : (h : List ℕ) (n : ℕ) → goodHead h n ≡ true → 1 ≤ wordAt h 1
 unfolding goodNumbers
 head-words h n e =
     by-cases (within 1 mostWords (wordAt h 1))
     (λ k. within-is 1 mostWords (wordAt h 1) k .0)
-    (λ k. absurd (true≢false (sym (head-parts h n e .1) ∙ (rw k))))
+    (λ k. absurd (true≢false (sym (head-parts h n e .2) ∙ (rw k))))
 
 -- what it says
 

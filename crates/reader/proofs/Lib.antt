@@ -5,3 +5,4 @@ pub mod Records
 pub mod Rounds
 pub mod Lined
 pub mod Sheets
+pub mod Writing

@@ -15,11 +15,11 @@ use Rattle.reader.proofs.Frames.{length-lf, length-on}
 abbrev pub onto : List ℕ → Lines → Lines
 onto line l = record { whole = line ∷ l .whole; rest = l .rest }
 
-from-lf : (line : List ℕ) (x : ℕ) (t : List ℕ) → eqb x 10 ≡ true → linesFrom line (x ∷ t) ≡ onto line (linesFrom [] t)
+pub from-lf : (line : List ℕ) (x : ℕ) (t : List ℕ) → eqb x 10 ≡ true → linesFrom line (x ∷ t) ≡ onto line (linesFrom [] t)
 unfolding linesFrom
 from-lf line x t e = pick-true (eqb x 10) (onto line (linesFrom [] t)) (linesFrom (line ++ (x ∷ [])) t) e
 
-from-on : (line : List ℕ) (x : ℕ) (t : List ℕ) → eqb x 10 ≡ false → linesFrom line (x ∷ t) ≡ linesFrom (line ++ (x ∷ [])) t
+pub from-on : (line : List ℕ) (x : ℕ) (t : List ℕ) → eqb x 10 ≡ false → linesFrom line (x ∷ t) ≡ linesFrom (line ++ (x ∷ [])) t
 unfolding linesFrom
 from-on line x t e = pick-false (eqb x 10) (onto line (linesFrom [] t)) (linesFrom (line ++ (x ∷ [])) t) e
 

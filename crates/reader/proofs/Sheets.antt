@@ -30,18 +30,18 @@ picked : {A : Type 0} (t : Bool) (x : Option A) (a : A) → elim t as (λ (b : B
 picked true x a e = (refl, e)
 picked false x a e = let z : _≡_ {A = ℕ} 0 1 = cc in absurd (omega arith)
 
-said : List ℕ → List (List ℕ) → Sheet
+unfoldable pub said : List ℕ → List (List ℕ) → Sheet
 said h fs = record { geo = geoOf (wordAt h 1) (getD h 3 0) (wordAt h 4); recs = map recOf fs }
 
-frames-good : (h : List ℕ) (fs : List (List ℕ)) → goodHead h (length fs) ≡ true → goodRecs (wordAt h 1) fs ≡ true → framesSheet (h ∷ fs) ≡ some (said h fs)
+pub frames-good : (h : List ℕ) (fs : List (List ℕ)) → goodHead h (length fs) ≡ true → goodRecs (wordAt h 1) fs ≡ true → framesSheet (h ∷ fs) ≡ some (said h fs)
 unfolding framesSheet said
 frames-good h fs e g = pick-true (goodHead h (length fs) && goodRecs (wordAt h 1) fs) _ _ (true-and _ _ e g)
 
-frames-read : (h : List ℕ) (fs : List (List ℕ)) (s : Sheet) → framesSheet (h ∷ fs) ≡ some s → (goodHead h (length fs) ≡ true) × (goodRecs (wordAt h 1) fs ≡ true)
+pub frames-read : (h : List ℕ) (fs : List (List ℕ)) (s : Sheet) → framesSheet (h ∷ fs) ≡ some s → (goodHead h (length fs) ≡ true) × (goodRecs (wordAt h 1) fs ≡ true)
 unfolding framesSheet
 frames-read h fs s e = and-true (goodHead h (length fs)) (goodRecs (wordAt h 1) fs) (picked (goodHead h (length fs) && goodRecs (wordAt h 1) fs) _ s e .0)
 
-frames-none : (s : Sheet) → framesSheet [] ≡ some s → ⊥
+pub frames-none : (s : Sheet) → framesSheet [] ≡ some s → ⊥
 unfolding framesSheet
 frames-none s e = let z : _≡_ {A = ℕ} 0 1 = cc in omega arith
 
@@ -49,7 +49,7 @@ lines-good : (t : List ℕ) → length (linesOf t .rest) ≡ 0 → allLines (lin
 unfolding readSheet
 lines-good t e k = pick-true (eqb (length (linesOf t .rest)) 0 && allLines (linesOf t .whole)) _ _ (true-and _ _ (eq-eqb (length (linesOf t .rest)) 0 e) k)
 
-lines-read : (t : List ℕ) (s : Sheet) → readSheet t ≡ some s → (length (linesOf t .rest) ≡ 0) × (allLines (linesOf t .whole) ≡ true) × (framesSheet (map bytesOf (linesOf t .whole)) ≡ some s)
+pub lines-read : (t : List ℕ) (s : Sheet) → readSheet t ≡ some s → (length (linesOf t .rest) ≡ 0) × (allLines (linesOf t .whole) ≡ true) × (framesSheet (map bytesOf (linesOf t .whole)) ≡ some s)
 unfolding readSheet
 lines-read t s e =
     let p = picked (eqb (length (linesOf t .rest)) 0 && allLines (linesOf t .whole)) (framesSheet (map bytesOf (linesOf t .whole))) s e in
