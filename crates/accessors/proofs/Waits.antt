@@ -34,7 +34,7 @@ use Rattle.laws.specs.Runs.{OnFile}
 use Rattle.laws.proofs.Files.{on-file}
 use Rattle.memory.specs.Fine.{Fine, StandsFor}
 use Rattle.memory.proofs.Once.{agreed-once}
-use Rattle.accessors.specs.declared.outstanding.Outstanding.the-variants.{Nothing, Waiting, Completed}
+use Rattle.kinds.specs.declared.Outstanding.the-variants.{Nothing, Waiting, Completed}
 use Rattle.accessors.specs.Sides.{sideOf}
 use Rattle.accessors.specs.Outstanding.{queueOf, outstandingAt, outstandingOf}
 

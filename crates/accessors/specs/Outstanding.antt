@@ -8,8 +8,8 @@ use Rattle.rules.specs.State.{Req, idle, reading, writing, readDone, writeDone}
 use Rattle.segment.specs.Layout.{readQueue, writeQueue, replyPort}
 use Rattle.segment.specs.Table.{nth}
 use Rattle.ports.specs.Slots.{seek, has}
-use Rattle.accessors.specs.declared.outstanding.Outstanding.{Outstanding}
-use Rattle.accessors.specs.declared.outstanding.Outstanding.the-variants.{Nothing, Waiting, Completed}
+use Rattle.kinds.specs.declared.Outstanding.{Outstanding}
+use Rattle.kinds.specs.declared.Outstanding.the-variants.{Nothing, Waiting, Completed}
 
 -- the queue of file f where those of that side wait
 abbrev pub queueOf : ℕ → ℕ → ℕ

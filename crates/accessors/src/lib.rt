@@ -2,11 +2,11 @@
 pub mod outstanding;
 pub mod sides;
 
+use kinds::Outstanding;
 use kinds::limits::FILES;
 use kinds::limits::PLACES;
 use kinds::refusals;
 use kinds::sides::CLOSED;
-use outstanding::Outstanding;
 use outstanding::outstanding_at;
 ghost use mathlib.Core.Path.{_≡_};
 ghost use lib.ListN.{length};

@@ -5,16 +5,10 @@ ghost use lib.ListN.{length};
 ghost use Rattle.rules.specs.Limits.{files, places};
 ghost use Rattle.segment.specs.Layout.{segmentBytes, replyPorts};
 ghost use Rattle.accessors.specs.Outstanding.{queueOf, outstandingAt};
+use kinds::Outstanding;
 use kinds::limits::PLACES;
 use kinds::sides::WRITER;
 use segment::layout;
-
-// "One outstanding request per accessor": none, one that waits, or a completed one, not yet collected.
-pub enum Outstanding {
-    Nothing,
-    Waiting,
-    Completed,
-}
 
 // The queue of file f where those of that side wait.
 pub fn queue_of(f: usize, side: u16) -> usize

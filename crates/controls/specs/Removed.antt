@@ -6,8 +6,8 @@ use lib.Dec.{eqb}
 use lib.Seq.{sets}
 use Rattle.words.specs.Word.{zeros}
 use Rattle.rules.specs.Limits.{bufferBytes}
-use Rattle.accessors.specs.declared.outstanding.Outstanding.{Outstanding}
-use Rattle.accessors.specs.declared.outstanding.Outstanding.the-variants.{Nothing, Waiting, Completed}
+use Rattle.kinds.specs.declared.Outstanding.{Outstanding}
+use Rattle.kinds.specs.declared.Outstanding.the-variants.{Nothing, Waiting, Completed}
 
 unfoldable pub isWaiting : Outstanding → Bool
 isWaiting Nothing = false

@@ -8,7 +8,7 @@ ghost use Rattle.buffers.specs.Buffer.{buffersBytes};
 ghost use Rattle.requests.specs.Moves.{entryOf, cancelled};
 ghost use Rattle.accessors.specs.Outstanding.{queueOf, outstandingAt};
 ghost use Rattle.controls.specs.Removed.{isWaiting, emptied};
-use accessors::outstanding::Outstanding;
+use kinds::Outstanding;
 use accessors::outstanding::outstanding_at;
 use accessors::outstanding::queue_of;
 use kinds::limits::PLACES;

@@ -3,6 +3,7 @@ pub mod Accepts
 pub mod Known
 pub mod First
 pub mod Refuses
+pub mod Numbers
 pub mod Writes
 pub mod Events
 pub mod Serves

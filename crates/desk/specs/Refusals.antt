@@ -2,14 +2,16 @@
 use Prim.Native.Nat.{ℕ}
 use mathlib.Core.Path.{_≡_}
 use mathlib.Core.List.{List, [], _∷_}
-use mathlib.Core.Option.{none}
+use mathlib.Core.Option.{Option, none}
 use lib.Seq.{sets}
 use Rattle.kinds.specs.declared.Event.{Event}
 use Rattle.kinds.specs.declared.Event.the-variants.{Build, Open, Read, Write, Control, Collect, Close, Time, Counts}
 use Rattle.kinds.specs.declared.Frame.{Frame}
 use Rattle.kinds.specs.declared.Frame.the-variants as frame
 use Rattle.rules.specs.Calls.{control}
-use Rattle.rules.specs.Desk.{on}
+use Rattle.rules.specs.Desk.{on, Call}
+use Rattle.midst.specs.Outcome.{refusalOf}
+use Rattle.promises.specs.Promise.{Memories, Standing, Seen, replyOf}
 use Rattle.judges.specs.Refused.{Refuses}
 
 -- the operation of an event, with which its frame begins, and its answer
@@ -34,3 +36,7 @@ unfoldable pub Refusal : List ℕ → Frame → List ℕ → List ℕ → ℕ �
 Refusal xs (frame.Event e) memory memory′ n = Twice 0 30 memory memory′ n
 Refusal xs (frame.Code f p) memory memory′ n = (number : ℕ) × Refuses xs (on f (control p none)) number × Twice 5 number memory memory′ n
 Refusal xs frame.Shape memory memory′ n = Twice 0 30 memory memory′ n
+
+-- n is what a call is refused with, whatever the memories are seen as: 29 where they are no desk, 0 where the call is done
+abbrev pub RefusedWith : Memories → Call → ℕ → Type 0
+RefusedWith m c n = (v : Option Standing) → Seen (m .segment) (m .blocks) (m .buffers) v → n ≡ refusalOf (replyOf v c)

@@ -9,6 +9,8 @@ use judges::judge;
 use kinds::Event;
 use kinds::Frame;
 use kinds::limits::ANSWER_ROOM;
+use kinds::refusals::UNSOUND;
+use refusals::number_of;
 use refusals::refuse;
 use refusals::status;
 use sound::sound;
@@ -26,6 +28,7 @@ ghost use Rattle.midst.specs.Outcome.{Sound, refusalOf};
 ghost use Rattle.promises.specs.Promise.{Promise};
 ghost use Rattle.promises.specs.Promise as host;
 ghost use Rattle.desk.specs.Acted.{Responds};
+ghost use Rattle.desk.specs.Refusals.{RefusedWith};
 
 // An accepted event is done and answered.
 fn serve(
@@ -71,4 +74,15 @@ pub fn event(
         return status(frame[0], number, answer);
     }
     serve(segment, blocks, buffers, answer, event, frame)
+}
+
+// What the event call of a frame would be refused with, answer memory of its length given: 29 where the memories are no desk, 0 where it would be done. Nothing changes.
+pub fn refusal_of(segment: &[u8], blocks: &[u8], buffers: &[u8], frame: &[u8]) -> u8
+    ensures { λ r. ⌜ RefusedWith (record { segment = now (segment .entry); blocks = now (blocks .entry); buffers = now (buffers .entry) }) (rules.event (now («frame» .entry))) r ⌝ }
+{
+    if !sound(segment, blocks, buffers) {
+        return UNSOUND;
+    }
+    let said = decode(frame);
+    number_of(segment, said)
 }

@@ -1,14 +1,17 @@
 // A refused call is answered: operation and status, and nothing else is written.
 use frames::encode;
 use judges::control_codes::judge_code;
+use judges::judge;
 use kinds::Answer;
 use kinds::Frame;
 use kinds::operations;
 use kinds::refusals;
-ghost use Prim.Native.Nat.{_≤_};
+ghost use mathlib.Core.List.{List};
+ghost use Prim.Native.Nat.{ℕ, _≤_};
 ghost use lib.ListN.{length};
 ghost use Rattle.rules.specs.Answers.{mostAnswer};
-ghost use Rattle.judges.specs.Refused.{Stood};
+ghost use Rattle.judges.specs.Refused.{Stood, Refuses};
+ghost use Rattle.rules.specs.Desk.{frameAsks};
 ghost use Rattle.desk.specs.Refusals.{Twice, Refusal};
 
 // 30: "answer 00 1E"
@@ -35,4 +38,16 @@ pub fn refuse(segment: &[u8], said: Frame, answer: &mut [u8]) -> usize
         return status(NO_EVENT, refusals::SHAPE, answer);
     };
     status(operations::CONTROL, judge_code(segment, file, acc), answer)
+}
+
+// The refusal number of what a frame says; 0 where it is not refused. Whatever the data of a write are.
+pub fn number_of(segment: &[u8], said: Frame) -> u8
+    requires { ⌜ Stood (now segment) ⌝ }
+    ensures { λ r. ⌜ ((t : List ℕ) → Refuses (now (segment .entry)) (frameAsks said t) r) ⌝ }
+{
+    match said {
+        Frame::Event(event) => judge(segment, event),
+        Frame::Code { file, acc } => judge_code(segment, file, acc),
+        Frame::Shape => refusals::SHAPE,
+    }
 }

@@ -14,7 +14,8 @@ use Rattle.midst.specs.Outcome.{refusalOf, replyStatus, statusOf}
 use Rattle.midst.proofs.Judged.{refusal-back}
 use Rattle.accessors.specs.Accessors.{wordsAt}
 use Rattle.accessors.specs.Shown.{Shown}
-use Rattle.judges.specs.Verdicts.{buildRefusal, openRefusal}
+use Rattle.judges.specs.Verdicts.{openRefusal}
+use Rattle.refusing.specs.Verdicts.{buildRefusal}
 use Rattle.judges.specs.Refused.{Refuses}
 use Rattle.accessors.proofs.Stood.{shown}
 use Rattle.accessors.proofs.Names.{words-low, is-built, not-built}

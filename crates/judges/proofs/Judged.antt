@@ -27,11 +27,12 @@ use Rattle.midst.specs.Outcome.{refusalOf}
 use Rattle.midst.specs.Accepted.{endOf, Ended}
 use Rattle.midst.proofs.Judged.{refusal-back}
 use Rattle.midst.proofs.Refused.{fine-ended}
-use Rattle.accessors.specs.declared.outstanding.Outstanding.{Outstanding}
+use Rattle.kinds.specs.declared.Outstanding.{Outstanding}
 use Rattle.accessors.specs.Sides.{sideOf}
 use Rattle.accessors.specs.Outstanding.{outstandingOf}
 use Rattle.accessors.specs.Accessors.{accessorIn, accessorOn, accessorOf}
-use Rattle.judges.specs.Verdicts.{judged, writeRefusal, controlRefusal, nothingRefusal, readRefusal, closeRefusal, codeRefusal}
+use Rattle.judges.specs.Verdicts.{judged}
+use Rattle.refusing.specs.Verdicts.{writeRefusal, controlRefusal, nothingRefusal, readRefusal, closeRefusal, codeRefusal}
 use Rattle.judges.proofs.Verdicts.{read-comes, write-comes, collect-comes, control-comes, code-comes, close-comes}
 
 -- in file f no request completed with a refusal's number, as in every file of a desk that a segment stands for

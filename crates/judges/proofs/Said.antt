@@ -7,11 +7,12 @@ use Rattle.kinds.specs.declared.Control.{Control}
 use Rattle.rules.specs.Calls.{Ask, read, write, control, collect, close}
 use Rattle.rules.specs.Desk.{Desk, on, answered}
 use Rattle.midst.specs.Outcome.{refusalOf}
-use Rattle.accessors.specs.declared.outstanding.Outstanding.{Outstanding}
+use Rattle.kinds.specs.declared.Outstanding.{Outstanding}
 use Rattle.accessors.specs.declared.Accessor.{Accessor}
 use Rattle.accessors.specs.declared.Accessor.the-variants.{Refused, Open}
 use Rattle.accessors.specs.Accessors.{accessorAt, accessorOf}
-use Rattle.judges.specs.Verdicts.{judged, writeRefusal, controlRefusal, nothingRefusal, readRefusal, closeRefusal, codeRefusal}
+use Rattle.judges.specs.Verdicts.{judged}
+use Rattle.refusing.specs.Verdicts.{writeRefusal, controlRefusal, nothingRefusal, readRefusal, closeRefusal, codeRefusal}
 use Rattle.judges.specs.Refused.{Refuses}
 use Rattle.accessors.proofs.Names.{accessor-is}
 use Rattle.judges.proofs.Judged.{Ends, stands-ends, read-judged, write-judged, control-judged, code-judged, close-judged, collect-judged}

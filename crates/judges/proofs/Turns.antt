@@ -1,10 +1,10 @@
 -- One turn of the loop that looks for another share: n places are left, from place i on.
 use Prim.Native.Nat.{ℕ, zero, suc, _+_, _-_, _≤_, _<_}
-use mathlib.Core.Path.{_≡_, refl, sym, _∙_}
-use mathlib.Core.Bool.{Bool, true, false, not}
+use mathlib.Core.Path.{_≡_, refl}
+use mathlib.Core.Bool.{true, false}
 use mathlib.Core.List.{List}
 use native.Mathlib.Omega.{arith}
-use borrow.Author.Tests.{lt-ltb, le-ltb, not-true, not-false}
+use borrow.Author.Tests.{lt-ltb, le-ltb}
 use lib.Dec.{ltb}
 use Rattle.judges.specs.Sharing.{differs, othersFrom}
 
@@ -24,13 +24,6 @@ pub others-end : (s : List ℕ) (share i n : ℕ) → n ≤ 0 → othersFrom s s
 unfolding othersFrom
 others-end s share i zero h = refl
 others-end s share i (suc n) h = absurd (omega arith)
-
--- a test that a function made
-pub held : {t x : Bool} → t ≡ x → not t ≡ false → x ≡ true
-held {t} e k = sym e ∙ not-false t k
-
-pub failed : {t x : Bool} → t ≡ x → not t ≡ true → x ≡ false
-failed {t} e k = sym e ∙ not-true t k
 
 -- a number that is 0, or is not
 pub is-nought : (n : ℕ) → n ≡ 0 → ltb 0 n ≡ false

@@ -26,7 +26,8 @@ use Rattle.midst.specs.Outcome.{refusalOf, replyStatus, statusOf}
 use Rattle.midst.specs.Accepted.{endOf}
 use Rattle.accessors.specs.Sides.{sideOf}
 use Rattle.accessors.specs.Outstanding.{outstandingOf}
-use Rattle.judges.specs.Verdicts.{free, whileFree, readRefusal, writeRefusal, switchRefusal, readerRefusal, nothingRefusal, controlRefusal, codeRefusal, closeRefusal, buildRefusal, modesInRange, forbidden, openRefusal}
+use Rattle.judges.specs.Verdicts.{forbidden, openRefusal}
+use Rattle.refusing.specs.Verdicts.{free, whileFree, readRefusal, writeRefusal, switchRefusal, readerRefusal, nothingRefusal, controlRefusal, codeRefusal, closeRefusal, buildRefusal, modesInRange}
 
 -- n is the refusal number of what a call comes to
 abbrev Comes : ℕ → Out → Type 0

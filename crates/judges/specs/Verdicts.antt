@@ -1,78 +1,22 @@
--- The refusal numbers of each event, by what is found out: 0 where it is not refused.
-use Prim.Native.Nat.{ℕ, _*_}
-use mathlib.Core.Bool.{Bool, true, false, cond, _&&_, _||_}
+-- What a call of an accessor comes to, by the accessor that it names; and the refusal number of an open, by what is open in its file.
+use Prim.Native.Nat.{ℕ}
+use mathlib.Core.Bool.{Bool, cond, _||_}
 use lib.Dec.{ltb, leb, eqb}
-use Rattle.kinds.specs.declared.Control.{Control}
-use Rattle.kinds.specs.declared.Control.the-variants.{Timeout, Verify, Abort, Extended, Typed, Keep}
-use Rattle.rules.specs.Limits.{places, mostMode}
-use Rattle.rules.specs.Geometry.{dataBlocks, inRange, fitsShare}
-use Rattle.rules.specs.Count.{countBytes, readable}
+use Rattle.kinds.specs.declared.Outstanding.{Outstanding}
+use Rattle.rules.specs.Limits.{places}
 use Rattle.rules.specs.State.{Built}
 use Rattle.rules.specs.Requests.{countAcc, opened}
 use Rattle.rules.specs.Open.{sharingOf, otherShare, crowded, roomToOpen}
 use Rattle.accessors.specs.declared.Accessor.{Accessor}
 use Rattle.accessors.specs.declared.Accessor.the-variants.{Refused, Open}
-use Rattle.accessors.specs.declared.outstanding.Outstanding.{Outstanding}
-use Rattle.accessors.specs.declared.outstanding.Outstanding.the-variants.{Nothing, Waiting, Completed}
+use Rattle.refusing.specs.Verdicts.{modesInRange}
 
 -- a refusal, or what is said of an open accessor
 unfoldable pub judged : (ℕ → ℕ → Outstanding → ℕ) → Accessor → ℕ
 judged g (Refused n) = n
 judged g (Open words side request) = g words side request
 
-unfoldable pub free : Outstanding → Bool
-free Nothing = true
-free Waiting = false
-free Completed = false
-
--- 33 while a request is outstanding, else n
-unfoldable pub whileFree : Outstanding → ℕ → ℕ
-whileFree o n = cond (free o) n 33
-
-unfoldable pub readRefusal : ℕ → ℕ → Outstanding → ℕ
-readRefusal count side o = whileFree o (cond (eqb side 2) 34 (cond (readable count) 0 35))
-
-unfoldable pub writeRefusal : ℕ → ℕ → ℕ → Outstanding → ℕ
-writeRefusal count words side o = whileFree o (cond (eqb side 2) (cond (leb (countBytes count) (2 * words)) 0 35) 34)
-
--- a setting, "with 0 or 1"
-unfoldable pub switchRefusal : ℕ → ℕ
-switchRefusal v = cond (leb v 1) 0 35
-
--- "46 or 47 by a writer"
-unfoldable pub readerRefusal : ℕ → ℕ → ℕ
-readerRefusal side v = cond (eqb side 2) 34 (switchRefusal v)
-
--- "collect or 43 with nothing outstanding"
-unfoldable pub nothingRefusal : Outstanding → ℕ
-nothingRefusal o = cond (free o) 39 0
-
-unfoldable pub controlRefusal : Control → ℕ → Outstanding → ℕ
-controlRefusal (Timeout v) side o = whileFree o 0
-controlRefusal (Verify v) side o = whileFree o 0
-controlRefusal (Abort v) side o = nothingRefusal o
-controlRefusal (Extended v) side o = whileFree o (switchRefusal v)
-controlRefusal (Typed v) side o = whileFree o (readerRefusal side v)
-controlRefusal (Keep v) side o = whileFree o (readerRefusal side v)
-
--- "Any other code, 48 too, is refused 35"
-unfoldable pub codeRefusal : Outstanding → ℕ
-codeRefusal o = whileFree o 35
-
--- "close with a completed one uncollected"
-unfoldable pub closeRefusal : Outstanding → ℕ
-closeRefusal Nothing = 0
-closeRefusal Waiting = 0
-closeRefusal Completed = 33
-
--- of a file that is not built
-unfoldable pub buildRefusal : ℕ → ℕ → ℕ → ℕ → ℕ
-buildRefusal r b n x = cond (inRange r b n x) (cond (fitsShare r b (dataBlocks n b x)) 0 38) 35
-
--- the numbers of an open are in their ranges; a second accessor that the share forbids
-unfoldable pub modesInRange : ℕ → ℕ → ℕ → Bool
-modesInRange access share multi = leb access mostMode && leb share mostMode && leb multi mostMode
-
+-- multiaccess 3, another share, or a second accessor that the share forbids
 unfoldable pub forbidden : ℕ → ℕ → ℕ → Built → Bool
 forbidden access share multi b = eqb multi 3 || ltb 0 (countAcc (otherShare (sharingOf share)) (b .accs)) || crowded (ltb 0 access) (sharingOf share) b
 

@@ -1,77 +1,15 @@
 // Read, write, collect and close.
 use accessors::Accessor;
 use accessors::accessor_of;
-use accessors::outstanding::Outstanding;
-use kinds::refusals;
-use kinds::sides::WRITER;
-ghost use mathlib.Core.Path.{_≡_};
+use refusing::close_refusal;
+use refusing::nothing_refusal;
+use refusing::read_refusal;
+use refusing::write_refusal;
 ghost use mathlib.Core.List.{List};
 ghost use Prim.Native.Nat.{ℕ};
 ghost use Rattle.rules.specs.Calls as calls;
 ghost use Rattle.rules.specs.Desk.{on};
-ghost use Rattle.judges.specs.Verdicts.{free, nothingRefusal, readRefusal, writeRefusal, closeRefusal};
 ghost use Rattle.judges.specs.Refused.{Stood, Refuses};
-
-pub fn is_free(request: Outstanding) -> bool
-    ensures { λ r. ⌜ r ≡ free request ⌝ }
-{
-    match request {
-        Outstanding::Nothing => true,
-        Outstanding::Waiting => false,
-        Outstanding::Completed => false,
-    }
-}
-
-fn read_refusal(side: u16, request: Outstanding, count: u16) -> u8
-    ensures { λ r. ⌜ r ≡ readRefusal count side request ⌝ }
-{
-    if !is_free(request) {
-        return refusals::OUTSTANDING;
-    }
-    if side == WRITER {
-        return refusals::SIDE;
-    }
-    if !transfer_counts::readable(count) {
-        return refusals::RANGE;
-    }
-    refusals::NONE
-}
-
-// A write has at most 2R bytes.
-fn write_refusal(words: u16, side: u16, request: Outstanding, count: u16) -> u8
-    ensures { λ r. ⌜ r ≡ writeRefusal count words side request ⌝ }
-{
-    if !is_free(request) {
-        return refusals::OUTSTANDING;
-    }
-    if side != WRITER {
-        return refusals::SIDE;
-    }
-    if 2 * (words as u32) < transfer_counts::count_bytes(count) {
-        return refusals::RANGE;
-    }
-    refusals::NONE
-}
-
-// Of collect, and of control 43.
-pub fn nothing_refusal(request: Outstanding) -> u8
-    ensures { λ r. ⌜ r ≡ nothingRefusal request ⌝ }
-{
-    if is_free(request) {
-        return refusals::NOTHING;
-    }
-    refusals::NONE
-}
-
-fn close_refusal(request: Outstanding) -> u8
-    ensures { λ r. ⌜ r ≡ closeRefusal request ⌝ }
-{
-    match request {
-        Outstanding::Nothing => refusals::NONE,
-        Outstanding::Waiting => refusals::NONE,
-        Outstanding::Completed => refusals::OUTSTANDING,
-    }
-}
 
 pub fn judge_read(segment: &[u8], file: u8, acc: u8, count: u16) -> u8
     requires { ⌜ Stood (now segment) ⌝ }

@@ -6,6 +6,8 @@ use accessors::words_of;
 use kinds::limits::FILES;
 use kinds::refusals;
 use kinds::sides::CLOSED;
+use refusing::build_refusal;
+use refusing::modes_in_range;
 ghost use mathlib.Core.Path.{_≡_};
 ghost use Prim.Native.Nat.{_<_};
 ghost use lib.ListN.{length};
@@ -15,24 +17,8 @@ ghost use Rattle.rules.specs.Calls as calls;
 ghost use Rattle.rules.specs.Desk.{on};
 ghost use Rattle.segment.specs.Layout.{segmentBytes};
 ghost use Rattle.accessors.specs.Shown.{Shown};
-ghost use Rattle.judges.specs.Verdicts.{buildRefusal, modesInRange, openRefusal};
+ghost use Rattle.judges.specs.Verdicts.{openRefusal};
 ghost use Rattle.judges.specs.Refused.{Stood, Refuses};
-
-// "access, share and multiaccess: 0 to 3"
-const MOST_MODE: u8 = 3;
-
-fn build_refusal(words: u16, factor: u8, records: u16, extents: u8) -> u8
-    ensures { λ r. ⌜ r ≡ buildRefusal words factor records extents ⌝ }
-{
-    if !geometry::in_range(words, factor, records, extents) {
-        return refusals::RANGE;
-    }
-    let blocks = geometry::data_blocks(records, factor, extents);
-    if !geometry::fits_share(words, factor, blocks) {
-        return refusals::SIZE;
-    }
-    refusals::NONE
-}
 
 pub fn judge_build(
     segment: &[u8],
@@ -52,18 +38,6 @@ pub fn judge_build(
         return refusals::FILE;
     }
     build_refusal(words, factor, records, extents)
-}
-
-fn modes_in_range(access: u8, share: u8, multi: u8) -> bool
-    ensures { λ r. ⌜ r ≡ modesInRange access share multi ⌝ }
-{
-    if MOST_MODE < access {
-        return false;
-    }
-    if MOST_MODE < share {
-        return false;
-    }
-    multi <= MOST_MODE
 }
 
 // Of a built file f.

@@ -64,6 +64,13 @@ pub enum Event {
     },
 }
 
+// "One outstanding request per accessor": none, one that waits, or a completed one, not yet collected.
+pub enum Outstanding {
+    Nothing,
+    Waiting,
+    Completed,
+}
+
 // What the bytes of a frame are.
 pub enum Frame {
     Event(Event),

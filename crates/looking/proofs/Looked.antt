@@ -16,7 +16,7 @@ use Rattle.rules.specs.Calls.{refusal, askBuilt, askUnbuilt, ask, onAcc}
 use Rattle.rules.specs.Calls as calls
 use Rattle.rules.specs.Desk.{Desk, look, asked, fileOf, answered, respond}
 use Rattle.rules.proofs.Split.{by-cases}
-use Rattle.accessors.specs.declared.outstanding.Outstanding.{Outstanding}
+use Rattle.kinds.specs.declared.Outstanding.{Outstanding}
 use Rattle.accessors.specs.declared.Accessor.{Accessor}
 use Rattle.accessors.specs.declared.Accessor.the-variants.{Refused, Open}
 use Rattle.accessors.specs.Outstanding.{outstandingOf}

@@ -24,8 +24,8 @@ use Rattle.memory.specs.Image.{reqWords}
 use Rattle.memory.specs.Fine.{StandsFor}
 use Rattle.midst.specs.Outcome.{replyStatus}
 use Rattle.midst.proofs.Lists.{place-under}
-use Rattle.accessors.specs.declared.outstanding.Outstanding.{Outstanding}
-use Rattle.accessors.specs.declared.outstanding.Outstanding.the-variants.{Completed}
+use Rattle.kinds.specs.declared.Outstanding.{Outstanding}
+use Rattle.kinds.specs.declared.Outstanding.the-variants.{Completed}
 use Rattle.accessors.specs.declared.Accessor.{Accessor}
 use Rattle.accessors.specs.declared.Accessor.the-variants.{Refused, Open}
 use Rattle.accessors.specs.Outstanding.{outstandingOf}

@@ -11,7 +11,7 @@ use Rattle.blocks.specs.Memory.{blocksBytes}
 use Rattle.buffers.specs.Buffer.{buffersBytes}
 use Rattle.memory.specs.Fine.{StandsFor}
 use Rattle.midst.specs.Outcome.{replyStatus, Sound}
-use Rattle.accessors.specs.declared.outstanding.Outstanding.{Outstanding}
+use Rattle.kinds.specs.declared.Outstanding.{Outstanding}
 use Rattle.accessors.specs.declared.Accessor.the-variants.{Open}
 use Rattle.accessors.specs.Accessors.{accessorAt}
 use Rattle.promises.specs.Parts.{Part, nothing, ofBlocks, ofBuffers, ofFile, partOn}

@@ -1,7 +1,7 @@
 // What look shows, found as numbers: a refusal, or where the bytes lie and how many there are.
 use accessors::Accessor;
 use accessors::accessor_of;
-use accessors::outstanding::Outstanding;
+use kinds::Outstanding;
 use kinds::limits::BUFFER_BYTES;
 use kinds::limits::PLACES;
 use kinds::limits::SHARE_BYTES;
@@ -10,7 +10,7 @@ use kinds::sides::WRITER;
 use records::reading::Found;
 use ring::layout::RECORD_HEAD;
 use segment::layout;
-ghost use Rattle.accessors.specs.declared.outstanding.Outstanding.the-variants.{Completed};
+ghost use Rattle.kinds.specs.declared.Outstanding.the-variants.{Completed};
 ghost use Rattle.midst.specs.FileStands.{FileStands};
 ghost use Rattle.looking.specs.Shown.{OfFile, OfReader, Finds, Stood, Opens, ReaderOpens};
 

@@ -1,6 +1,5 @@
 -- `control_codes::judge_code` meets its contract: an answer to each need, in the order of the code.
 use Rattle.judges.proofs.Refused.{stood-size}
-use Rattle.judges.specs.Verdicts.{codeRefusal}
 use Rattle.judges.proofs.Said.{code-refused, code-said}
 use borrow.Author.Needs.{needs}
 use Rattle.judges.proofs.control_codes.judge_code.Statement.{statement}
@@ -15,18 +14,17 @@ enum-known-named c = c .match .keys1
 enum-known-named-2 : tie.Need-enum-known-named-2
 enum-known-named-2 c = c .match .keys2
 
-while-free-requires : tie.Need-while-free-requires
-while-free-requires c κs = search needs
+code-refusal-requires : tie.Need-code-refusal-requires
+code-refusal-requires c κs = search needs
 
 returns : tie.Need-returns
 returns c = code-refused _ _ _ _ (c .before .before .before .accessor-of .ensures) _ (c .before .named .given .1)
 
 returns-2 : tie.Need-returns-2
-unfolding codeRefusal
 returns-2 c =
     let here : tie.After-accessor-of = search in let accessor-of = here .accessor-of in
     code-said _ _ _ _ (accessor-of .ensures) _ _ _ _ (c .before .before .named2 .given .1)
-    (c .while-free .ensures)
+    (c .code-refusal .ensures)
 
 pub judge-code-spec : {M : Type 1} → statement M
 judge-code-spec =
@@ -35,6 +33,6 @@ judge-code-spec =
     accessor-of-requires
     enum-known-named
     enum-known-named-2
-    while-free-requires
+    code-refusal-requires
     returns
     returns-2)

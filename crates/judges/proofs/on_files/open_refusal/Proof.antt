@@ -1,7 +1,8 @@
 -- `on_files::open_refusal` meets its contract: an answer to each need, in the order of the code.
 use mathlib.Core.Path.{sym, _∙_}
 use Rattle.judges.proofs.Together as together
-use Rattle.judges.proofs.Turns.{held, failed, is-nought, not-nought}
+use Rattle.judges.proofs.Turns.{is-nought, not-nought}
+use Rattle.refusing.proofs.Tests.{held, failed}
 use Rattle.judges.specs.Verdicts.{openRefusal}
 use borrow.Author.Needs.{needs}
 use Rattle.judges.proofs.on_files.open_refusal.Statement.{statement}

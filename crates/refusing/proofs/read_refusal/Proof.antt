@@ -1,0 +1,45 @@
+-- `read_refusal` meets its contract: an answer to each need, in the order of the code.
+use Rattle.refusing.proofs.Tests.{held, failed}
+use borrow.Author.Tests.{eq-eqb, ne-eqb}
+use Rattle.refusing.specs.Verdicts.{readRefusal, whileFree}
+use borrow.Author.Needs.{needs}
+use Rattle.refusing.proofs.read_refusal.Statement.{statement}
+use Rattle.refusing.proofs.read_refusal.Tie as tie
+
+is-free-requires : tie.Need-is-free-requires
+is-free-requires c κs = search needs
+
+returns : tie.Need-returns
+unfolding readRefusal whileFree
+returns c = rw (failed (c .before .is-free .ensures) (c .if1 .taken))
+
+returns-2 : tie.Need-returns-2
+unfolding readRefusal whileFree
+returns-2 c = rw (held (c .before .before .is-free .ensures) (c .before .if1 .left), eq-eqb _ _ (c .if2 .taken))
+
+readable-requires : tie.Need-readable-requires
+readable-requires c κs = search needs
+
+returns-3 : tie.Need-returns-3
+unfolding readRefusal whileFree
+returns-3 c =
+    let here : tie.After-is-free = search in let is-free = here .is-free in
+    rw (
+      held (is-free .ensures) (c .before .before .before .if1 .left),
+      ne-eqb _ _ (c .before .before .if2 .left),
+      failed (c .before .readable .ensures) (c .if3 .taken),
+    )
+
+returns-4 : tie.Need-returns-4
+unfolding readRefusal whileFree
+returns-4 c =
+    let here : tie.After-is-free = search in let is-free = here .is-free in
+    rw (
+      held (is-free .ensures) (c .before .before .before .if1 .left),
+      ne-eqb _ _ (c .before .before .if2 .left),
+      held (c .before .readable .ensures) (c .if3 .left),
+    )
+
+pub read-refusal-spec : {M : Type 1} → statement M
+read-refusal-spec =
+    tie.close (tie.spec is-free-requires returns returns-2 readable-requires returns-3 returns-4)
