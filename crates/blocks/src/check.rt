@@ -19,7 +19,7 @@ ghost use Prim.Native.Nat.{_+_, _*_, _≤_, _<_, min};
 ghost use lib.Dec.{ltb, eqb};
 ghost use lib.ListN.{length};
 ghost use Rattle.words.specs.Word.{wordAt};
-ghost use Rattle.rules.specs.Limits.{mostWords, shareBytes};
+ghost use Rattle.rules.specs.Limits.{roomWords, shareBytes};
 ghost use Rattle.shares.specs.Laid.{fair, walk};
 ghost use Rattle.shares.specs.Sound.{sweep, sound};
 ghost use Rattle.ring.specs.Ring.{geo, Fitted};
@@ -27,7 +27,7 @@ ghost use Rattle.blocks.specs.Check.{laidAt};
 
 // Whether a proper record with at most `words` words of data stands at p, whole before e.
 fn fair(share: &[u8], words: u16, e: usize, p: usize) -> bool
-    requires { ⌜ (length (now share) ≡ shareBytes) × (e ≤ shareBytes) × (p ≤ shareBytes) × (words ≤ mostWords) ⌝ }
+    requires { ⌜ (length (now share) ≡ shareBytes) × (e ≤ shareBytes) × (p ≤ shareBytes) × (words ≤ roomWords) ⌝ }
     ensures { λ r. ⌜ r ≡ fair words (now (share .entry)) e p ⌝ }
 {
     if p + RECORD_HEAD > e {
@@ -61,7 +61,7 @@ fn fair(share: &[u8], words: u16, e: usize, p: usize) -> bool
 
 // Whether n such records stand from `at` on, the last ends at `end`, and all is zero from there to e.
 fn walk(share: &[u8], words: u16, e: usize, end: usize, at: usize, n: u16) -> bool
-    requires { ⌜ (length (now share) ≡ shareBytes) × (e ≤ shareBytes) × (at ≤ e) × (words ≤ mostWords) ⌝ }
+    requires { ⌜ (length (now share) ≡ shareBytes) × (e ≤ shareBytes) × (at ≤ e) × (words ≤ roomWords) ⌝ }
     ensures { λ r. ⌜ r ≡ walk words (now (share .entry)) e end at n ⌝ }
 {
     let mut p = at;
@@ -86,7 +86,7 @@ fn walk(share: &[u8], words: u16, e: usize, end: usize, at: usize, n: u16) -> bo
 
 // Whether the block's bytes are laid out, with so many records.
 fn holds(share: &[u8], words: u16, block: Span, count: u16) -> bool
-    requires { ⌜ (length (now share) ≡ shareBytes) × (4 ≤ block .size) × (block .at + block .size ≤ shareBytes) × (words ≤ mostWords) ⌝ }
+    requires { ⌜ (length (now share) ≡ shareBytes) × (4 ≤ block .size) × (block .at + block .size ≤ shareBytes) × (words ≤ roomWords) ⌝ }
     ensures { λ r. ⌜ r ≡ laidAt words (now (share .entry)) block && eqb (wordAt (now (share .entry)) (block .at)) count ⌝ }
 {
     let at = block.at;

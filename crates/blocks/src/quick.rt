@@ -9,7 +9,7 @@ ghost use mathlib.Core.Path.{_≡_};
 ghost use mathlib.Core.Bool.{true};
 ghost use Prim.Native.Nat.{_+_, _*_, _≤_};
 ghost use lib.ListN.{length};
-ghost use Rattle.rules.specs.Limits.{mostWords, shareBytes};
+ghost use Rattle.rules.specs.Limits.{roomWords, shareBytes};
 ghost use Rattle.shares.specs.Back.{next};
 ghost use Rattle.shares.specs.Laid.{fair};
 
@@ -18,7 +18,7 @@ const WORD: u32 = 65536;
 
 // Whether a data record of the full size stands at p, whole before e.
 pub fn whole(share: &[u8], words: u16, e: usize, p: usize) -> bool
-    requires { ⌜ (length (now share) ≡ shareBytes) × (e ≤ shareBytes) × (p ≤ shareBytes) × (words ≤ mostWords) ⌝ }
+    requires { ⌜ (length (now share) ≡ shareBytes) × (e ≤ shareBytes) × (p ≤ shareBytes) × (words ≤ roomWords) ⌝ }
     ensures { λ r. ⌜ (r ≡ true → (fair words (now (share .entry)) e p ≡ true) × (next (now (share .entry)) p ≡ p + (6 + 2 * words)) × (p + (6 + 2 * words) ≤ e)) ⌝ }
 {
     if p + (RECORD_HEAD + 2 * words as usize) > e {

@@ -8,9 +8,9 @@ ghost use Rattle.buffers.specs.Buffer.{buffersBytes};
 ghost use Rattle.requests.specs.Moves.{entryOf, cancelled};
 ghost use Rattle.accessors.specs.Outstanding.{queueOf, outstandingAt};
 ghost use Rattle.controls.specs.Removed.{isWaiting, emptied};
-use kinds::Outstanding;
 use accessors::outstanding::outstanding_at;
 use accessors::outstanding::queue_of;
+use kinds::Outstanding;
 use kinds::limits::PLACES;
 use kinds::sides::WRITER;
 

@@ -6,7 +6,7 @@ use mathlib.Core.List.{List, [], _∷_, map}
 use lib.Dec.{ltb, eqb}
 use lib.ListN.{length, getD}
 use Rattle.occurrences.specs.Count.{bit, count, total}
-use Rattle.rules.specs.Limits.{files, places, entries, mostReadBytes}
+use Rattle.rules.specs.Limits.{files, places, entries, bufferBytes}
 use Rattle.laws.specs.Bounds.{leastRefusal}
 use Rattle.segment.specs.Layout.{listCount, dataAt, freeList, readQueue, writeQueue, replyPort, timerList}
 use Rattle.ports.specs.Lists.{Chain}
@@ -23,7 +23,7 @@ pub record ReadEntry (s bufs : List ℕ) (f e : ℕ) : Type 0 where
   pub file : placeIn s e / places ≡ f
   pub side : sideAt s (placeIn s e) ≡ 1
   pub unit : entryWord s e 1 ≤ 1
-  pub limit : entryWord s e 2 ≤ mostReadBytes
+  pub limit : entryWord s e 2 ≤ bufferBytes
   pub keep : entryWord s e 3 ≤ 1
   pub rest : zeroWords s (dataAt e + 4) 5 ≡ true
   pub buffer : restZero bufs (placeIn s e) 0 ≡ true
@@ -43,7 +43,7 @@ pub record PortEntry (s bufs : List ℕ) (i e : ℕ) : Type 0 where
   pub side : 1 ≤ sideAt s i
   pub middle : zeroWords s (dataAt e + 1) 3 ≡ true
   pub status : entryWord s e 4 < leastRefusal
-  pub size : sizeIn s e ≤ cond (eqb (sideAt s i) 1) mostReadBytes 0
+  pub size : sizeIn s e ≤ cond (eqb (sideAt s i) 1) bufferBytes 0
   pub rest : zeroWords s (dataAt e + 7) 2 ≡ true
   pub buffer : restZero bufs i (sizeIn s e) ≡ true
 

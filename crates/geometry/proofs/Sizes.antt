@@ -2,12 +2,13 @@
 use Prim.Native.Nat.{ℕ, zero, suc, _+_, _-_, _*_, _<_, _≤_}
 use mathlib.Core.Bool.{Bool, true, false, _&&_}
 use mathlib.Core.Path.{_≡_, refl, sym, _∙_}
-use native.Mathlib.Nat.{div-le-self, div-add-mod', mod-lt, mul-comm, mul-le-mul}
+use native.Mathlib.Nat.{le-trans, div-le-self, div-add-mod', mod-lt, mul-comm, mul-le-mul}
 use native.Mathlib.Omega.{arith}
 use lib.Dec.{leb}
 use borrow.Author.Tests.{leb-true}
-use Rattle.rules.specs.Limits.{mostWords, mostFactor, mostRecords, mostExtents, shareWords}
+use Rattle.rules.specs.Limits.{mostWords, mostFactor, mostRecords, mostExtents, mostShare, roomWords, shareWords}
 use Rattle.rules.specs.Geometry.{dividedUp, capacity, blockSize, within, inRange, fitsShare}
+use Rattle.rules.proofs.Fits.{words-fit, share-fits}
 
 -- the test x held, and y decides; or it did not
 pub and-on : {x y t u : Bool} → t ≡ x → t ≡ true → u ≡ y → u ≡ (x && y)
@@ -32,8 +33,8 @@ divided-up-least n m g h =
 pub product-most : (a b m n : ℕ) → a ≤ m → b ≤ n → a * b ≤ m * n
 product-most a b m n h k = mul-le-mul h k
 
-pub records-most : (r b : ℕ) → r ≤ mostWords → b ≤ mostFactor → (r + 3) * b ≤ (mostWords + 3) * mostFactor
-records-most r b h k = product-most (r + 3) b (mostWords + 3) mostFactor (omega arith) k
+pub records-most : (r b : ℕ) → r ≤ roomWords → b ≤ mostFactor → (r + 3) * b ≤ (roomWords + 3) * mostFactor
+records-most r b h k = product-most (r + 3) b (roomWords + 3) mostFactor (omega arith) k
 
 -- a share holds no more records than words
 pub fits-capacity : (r b d : ℕ) → fitsShare r b d ≡ true → capacity b d ≤ shareWords
@@ -41,7 +42,7 @@ unfolding fitsShare blockSize capacity
 fits-capacity r b d e =
     let each : 1 * b ≤ (r + 3) * b = product-most 1 b (r + 3) b (omega arith) (omega arith) in
     let all : d * b ≤ d * ((r + 3) * b + 2) = product-most d b d ((r + 3) * b + 2) (omega arith) (omega (arith, each)) in
-    omega (arith, leb-true (d * ((r + 3) * b + 2)) shareWords e, all, mul-comm b d)
+    omega (arith, leb-true (d * ((r + 3) * b + 2)) mostShare e, share-fits, all, mul-comm b d)
 
 -- what the ranges say, for those who are asked for them
 pub and-both : (x y : Bool) → (x && y) ≡ true → (x ≡ true) × (y ≡ true)
@@ -62,3 +63,7 @@ in-range-is r b n x e =
     let q = and-both (R && B) N (p .0) in
     let s = and-both R B (q .0) in
     (within-is 1 mostWords r (s .0), within-is 1 mostFactor b (s .1), within-is 1 mostRecords n (q .1), within-is 1 mostExtents x (p .1))
+
+-- and that they fit the memories
+pub in-range-fits : (r b n x : ℕ) → inRange r b n x ≡ true → (r ≤ roomWords) × (b ≤ mostFactor)
+in-range-fits r b n x e = let k = in-range-is r b n x e in (le-trans (k .0 .1) words-fit, k .1 .1)

@@ -2,11 +2,12 @@
 use kinds::limits::MOST_EXTENTS;
 use kinds::limits::MOST_FACTOR;
 use kinds::limits::MOST_RECORDS;
+use kinds::limits::MOST_SHARE;
 use kinds::limits::MOST_WORDS;
-use kinds::limits::SHARE_WORDS;
 ghost use mathlib.Core.Path.{_≡_};
+ghost use lib.Dec.{leb};
 ghost use Prim.Native.Nat.{_+_, _*_, _≤_, _<_};
-ghost use Rattle.rules.specs.Limits.{mostWords, mostFactor, mostRecords, mostExtents, shareWords};
+ghost use Rattle.rules.specs.Limits.{mostFactor, mostRecords, mostExtents, roomWords};
 ghost use Rattle.rules.specs.Geometry.{dividedUp, dataBlocks, capacity, blockSize, within, inRange, fitsShare};
 
 // The words before a block's first record, and before a record's data.
@@ -45,7 +46,7 @@ pub fn data_blocks(records: u16, factor: u8, extents: u8) -> u16
     requires { ⌜ (1 ≤ factor) × (factor ≤ mostFactor) ⌝ }
     requires { ⌜ (1 ≤ extents) × (extents ≤ mostExtents) ⌝ }
     ensures { λ r. ⌜ r ≡ dataBlocks records factor extents ⌝ }
-    ensures { λ r. ⌜ (1 ≤ r) × (r ≤ shareWords) ⌝ }
+    ensures { λ r. ⌜ (1 ≤ r) × (r ≤ mostRecords + mostFactor + mostExtents) ⌝ }
 {
     let x = extents as u16;
     let blocks = divided_up(records + 2, factor as u16);
@@ -54,9 +55,9 @@ pub fn data_blocks(records: u16, factor: u8, extents: u8) -> u16
 
 // The words of a block.
 pub fn block_size(words: u16, factor: u8) -> u16
-    requires { ⌜ (words ≤ mostWords) × (factor ≤ mostFactor) ⌝ }
+    requires { ⌜ (words ≤ roomWords) × (factor ≤ mostFactor) ⌝ }
     ensures { λ r. ⌜ r ≡ blockSize words factor ⌝ }
-    ensures { λ r. ⌜ r ≤ (mostWords + 3) * mostFactor + 2 ⌝ }
+    ensures { λ r. ⌜ r ≤ (roomWords + 3) * mostFactor + 2 ⌝ }
 {
     (words + RECORD_HEAD) * factor as u16 + BLOCK_HEAD
 }
@@ -68,11 +69,19 @@ pub fn capacity(factor: u8, blocks: u16) -> u32
     factor as u32 * blocks as u32
 }
 
-// Whether so many blocks, any number, fit into a file's share.
-pub fn fits_share(words: u16, factor: u8, blocks: u16) -> bool
-    requires { ⌜ (words ≤ mostWords) × (factor ≤ mostFactor) ⌝ }
-    ensures { λ r. ⌜ r ≡ fitsShare words factor blocks ⌝ }
+// Whether so many blocks, any number, fit into so many words.
+pub fn fits_within(words: u16, factor: u8, blocks: u16, most: u32) -> bool
+    requires { ⌜ (words ≤ roomWords) × (factor ≤ mostFactor) ⌝ }
+    ensures { λ r. ⌜ r ≡ leb (blocks * blockSize words factor) most ⌝ }
 {
     let size = block_size(words, factor);
-    blocks as u32 * size as u32 <= SHARE_WORDS
+    blocks as u32 * size as u32 <= most
+}
+
+// Whether that is within what a file is judged by.
+pub fn fits_share(words: u16, factor: u8, blocks: u16) -> bool
+    requires { ⌜ (words ≤ roomWords) × (factor ≤ mostFactor) ⌝ }
+    ensures { λ r. ⌜ r ≡ fitsShare words factor blocks ⌝ }
+{
+    fits_within(words, factor, blocks, MOST_SHARE)
 }

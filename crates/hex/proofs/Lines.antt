@@ -8,9 +8,9 @@ use native.Mathlib.Numerals.{add-one}
 use lib.ListN.{length, getD, set, drop, drop-of-length-le, length-drop}
 use lib.Seq.{sets, drop-cons}
 use lib.Dec.{ltb, leb, eqb}
-use borrow.Author.Tests.{lt-ltb, le-ltb, ltb-true, leb-true, eqb-true}
-use Rattle.rules.specs.Limits.{lineBytes}
-use Rattle.rules.specs.Line.{valueOf, digitOf, allDigits, bytesOf, digitsOf, isLine, lineFrame}
+use borrow.Author.Tests.{lt-ltb, le-ltb, ltb-true, leb-true, eqb-true, le-leb, lt-leb, eq-eqb, ne-eqb}
+use Rattle.rules.proofs.Split.{bothc}
+use Rattle.rules.specs.Line.{valueOf, digitOf, allDigits, bytesOf, digitsOf, isLine, frameIn}
 
 pub both : (a b : Bool) → cond a b false ≡ true → (a ≡ true) × (b ≡ true)
 both true b e = (refl, e)
@@ -83,10 +83,24 @@ line-is n s e =
     let q = both (eqb (length s % 2) 0) (allDigits s) (p .1) in
     (leb-true _ _ (p .0), eqb-true _ _ (q .0), q .1)
 
-pub frame-line : (s : List ℕ) → isLine lineBytes s ≡ true → lineFrame s ≡ bytesOf s
-unfolding lineFrame
-frame-line s e = rw e
+pub frame-line : (n : ℕ) (s : List ℕ) → isLine n s ≡ true → frameIn n s ≡ bytesOf s
+unfolding frameIn
+frame-line n s e = rw e
 
-pub frame-none : (s : List ℕ) → isLine lineBytes s ≡ false → lineFrame s ≡ []
-unfolding lineFrame
-frame-none s e = rw e
+pub frame-none : (n : ℕ) (s : List ℕ) → isLine n s ≡ false → frameIn n s ≡ []
+unfolding frameIn
+frame-none n s e = rw e
+
+-- by the tests that the code makes
+
+pub line-odd : (n : ℕ) (s : List ℕ) → (length s % 2 ≡ 0 → ⊥) → isLine n s ≡ false
+unfolding isLine
+line-odd n s h = bothc (λ (b : Bool). b ≡ false) (leb (length s) (2 * n)) (λ _. rw (ne-eqb (length s % 2) 0 h)) (λ _. refl)
+
+pub line-long : (n : ℕ) (s : List ℕ) → n < length s / 2 → isLine n s ≡ false
+unfolding isLine
+line-long n s h = rw (lt-leb (length s) (2 * n) (omega arith))
+
+pub line-short : (n : ℕ) (s : List ℕ) → length s % 2 ≡ 0 → length s / 2 ≤ n → isLine n s ≡ allDigits s
+unfolding isLine
+line-short n s e h = rw (le-leb (length s) (2 * n) (omega arith), eq-eqb (length s % 2) 0 e)

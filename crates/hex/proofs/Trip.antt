@@ -6,8 +6,7 @@ use mathlib.Core.Path.{_≡_, refl, _∙_}
 use native.Mathlib.Omega.{arith}
 use lib.ListN.{length, length-append}
 use borrow.Author.Tests.{lt-ltb, le-leb, eq-eqb}
-use Rattle.rules.specs.Limits.{lineBytes}
-use Rattle.rules.specs.Line.{valueOf, digitOf, digitsOf, allDigits, bytesOf, isLine, lineFrame, lineOf}
+use Rattle.rules.specs.Line.{valueOf, digitOf, digitsOf, allDigits, bytesOf, isLine, frameIn, lineOf}
 use Rattle.hex.proofs.Digits.{value-digit, digit-value}
 use Rattle.hex.proofs.Lines.{digits-cons, line-is, frame-line}
 use Rattle.words.specs.Word.{Bytes}
@@ -49,8 +48,8 @@ line-digits n xs h k =
     rw (le-leb (length (digitsOf xs)) (2 * n) (omega arith), eq-eqb (length (digitsOf xs) % 2) 0 (omega arith), digits-digits xs h)
 
 -- a frame, written and read
-pub frame-digits : (xs : List ℕ) → Bytes xs → length xs ≤ lineBytes → lineFrame (digitsOf xs) ≡ xs
-frame-digits xs h k = frame-line (digitsOf xs) (line-digits lineBytes xs h k) ∙ bytes-digits xs h
+pub frame-digits : (n : ℕ) (xs : List ℕ) → Bytes xs → length xs ≤ n → frameIn n (digitsOf xs) ≡ xs
+frame-digits n xs h k = frame-line n (digitsOf xs) (line-digits n xs h k) ∙ bytes-digits xs h
 
 pub digits-bytes : (s : List ℕ) → length s % 2 ≡ 0 → allDigits s ≡ true → digitsOf (bytesOf s) ≡ s
 unfolding digitsOf bytesOf

@@ -1,15 +1,10 @@
 // Events, "a hexadecimal frame a line": upper-case digits, two a byte, most significant first.
-use kinds::limits::LINE_BYTES;
 ghost use mathlib.Core.Path.{_≡_};
 ghost use mathlib.Core.Bool.{true};
 ghost use Prim.Native.Nat.{_+_, _*_, _/_, _≤_, _<_};
 ghost use lib.ListN.{length};
 ghost use lib.Seq.{sets};
-ghost use Rattle.rules.specs.Limits.{lineBytes};
-ghost use Rattle.rules.specs.Line.{digitOf, valueOf, digitsOf, allDigits, bytesOf, isLine, lineFrame, lineOf};
-
-// The digits of the longest frame that a line can hold.
-const LINE_DIGITS: usize = 2 * LINE_BYTES;
+ghost use Rattle.rules.specs.Line.{digitOf, valueOf, digitsOf, allDigits, bytesOf, isLine, frameIn, lineOf};
 
 // A line ends with LF.
 const LF: u8 = 10;
@@ -56,15 +51,18 @@ fn all_digits(s: &[u8]) -> bool
     true
 }
 
-// Whether s, without the LF that ends it, is a line of at most 261 bytes.
-pub fn is_line(s: &[u8]) -> bool
-    ensures { λ r. ⌜ r ≡ isLine lineBytes (now (s .entry)) ⌝ }
+// Whether s, without the LF that ends it, is a line of at most so many bytes.
+pub fn is_line(s: &[u8], most: usize) -> bool
+    ensures { λ r. ⌜ r ≡ isLine most (now (s .entry)) ⌝ }
 {
     let n = s.len();
-    if n > LINE_DIGITS {
+    if n % 2 != 0 {
         return false;
     }
-    if n % 2 == 0 { all_digits(s) } else { false }
+    if n / 2 > most {
+        return false;
+    }
+    all_digits(s)
 }
 
 // The byte of two digits.
@@ -93,14 +91,14 @@ fn fill(s: &[u8], out: &mut [u8])
     }
 }
 
-// The frame that s says stands from the first byte of `out`; its length is the result. Any other line is an empty frame.
-pub fn decode(s: &[u8], out: &mut [u8]) -> usize
-    requires { ⌜ lineBytes ≤ length (now out) ⌝ }
-    ensures size { λ r. ⌜ r ≡ length (lineFrame (now (s .entry))) ⌝ }
-    ensures bytes { λ _. ⌜ now (out .exit) ≡ sets (now (out .entry)) 0 (lineFrame (now (s .entry))) ⌝ }
-    ensures bound { λ r. ⌜ r ≤ lineBytes ⌝ }
+// The frame that a line of at most so many bytes says stands from the first byte of `out`; its length is the result. Any other line is an empty frame.
+pub fn decode(s: &[u8], most: usize, out: &mut [u8]) -> usize
+    requires { ⌜ most ≤ length (now out) ⌝ }
+    ensures size { λ r. ⌜ r ≡ length (frameIn most (now (s .entry))) ⌝ }
+    ensures bytes { λ _. ⌜ now (out .exit) ≡ sets (now (out .entry)) 0 (frameIn most (now (s .entry))) ⌝ }
+    ensures bound { λ r. ⌜ r ≤ most ⌝ }
 {
-    if is_line(s) {
+    if is_line(s, most) {
         fill(s, out);
         s.len() / 2
     } else {

@@ -1,5 +1,5 @@
 // The limits of document 01 in the code, each by its name; the rules have them under the same names, in Limits.
-// What follows from others is computed from them.
+// What follows from others is computed from them. What a call is judged by and how much memory there is are two things, and have names of their own.
 
 // "Eight files, 0 to 7, each with eight accessor places, 0 to 7."
 pub const FILES: usize = 8;
@@ -9,6 +9,8 @@ pub const PLACES: usize = 8;
 // "128 entries of ten 16-bit words"
 pub const ENTRIES: u16 = 128;
 
+// What calls are judged by.
+
 pub const MOST_WORDS: u16 = 128;
 
 pub const MOST_FACTOR: u16 = 16;
@@ -17,15 +19,13 @@ pub const MOST_RECORDS: u16 = 2000;
 
 pub const MOST_EXTENTS: u16 = 32;
 
+// D × block size.
+pub const MOST_SHARE: u32 = 2048;
+
 // "C ≥ 3"
 pub const LEAST_CAPACITY: u32 = 3;
 
-// A file's share of the blocks.
-pub const SHARE_WORDS: u32 = 2048;
-
-pub const SHARE_BYTES: usize = 2 * SHARE_WORDS as usize;
-
-pub const BLOCKS_BYTES: usize = FILES * SHARE_BYTES;
+pub const MOST_TYPE: u16 = 2;
 
 // What a read hands out: under control 46 the type and ID words, and the data.
 pub const HEADER_WORDS: u16 = 2;
@@ -33,16 +33,6 @@ pub const HEADER_WORDS: u16 = 2;
 pub const MOST_READ_WORDS: u16 = HEADER_WORDS + MOST_WORDS;
 
 pub const MOST_READ_BYTES: u32 = 2 * MOST_READ_WORDS as u32;
-
-// An accessor place's record buffer, which holds that.
-pub const BUFFER_BYTES: usize = MOST_READ_BYTES as usize;
-
-pub const BUFFERS_BYTES: usize = FILES * PLACES * BUFFER_BYTES;
-
-// The bytes of an answer before a record's data, "03 00 log(2)", and the memory that is lent for an answer.
-pub const ANSWER_HEAD: usize = 4;
-
-pub const ANSWER_ROOM: usize = ANSWER_HEAD + BUFFER_BYTES;
 
 // The bytes of a write's frame before its data, "04 file acc count(2)", and of the longest frame that a line of the event program holds.
 pub const WRITE_HEAD: usize = 5;
@@ -52,4 +42,27 @@ pub const LINE_BYTES: usize = WRITE_HEAD + 2 * MOST_WORDS as usize;
 // A sheet's lines.
 pub const SHEET_LINE_BYTES: usize = WRITE_HEAD + 2 * MOST_WORDS as usize;
 
-pub const MOST_TYPE: u16 = 2;
+// How much memory there is.
+
+// The longest record that the memories have room for.
+pub const ROOM_WORDS: u16 = 128;
+
+// A file's share of the blocks.
+pub const SHARE_WORDS: u32 = 2048;
+
+pub const SHARE_BYTES: usize = 2 * SHARE_WORDS as usize;
+
+pub const BLOCKS_BYTES: usize = FILES * SHARE_BYTES;
+
+// An accessor place's record buffer: that record, with what control 46 hands out before it.
+pub const BUFFER_BYTES: usize = 2 * (HEADER_WORDS + ROOM_WORDS) as usize;
+
+pub const BUFFERS_BYTES: usize = FILES * PLACES * BUFFER_BYTES;
+
+// The bytes of an answer before a record's data, "03 00 log(2)", and the memory that is lent for an answer.
+pub const ANSWER_HEAD: usize = 4;
+
+pub const ANSWER_ROOM: usize = ANSWER_HEAD + BUFFER_BYTES;
+
+// The memory that is lent for a look's record.
+pub const RECORD_ROOM: usize = BUFFER_BYTES;

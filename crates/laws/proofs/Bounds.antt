@@ -8,7 +8,7 @@ use native.Mathlib.Omega.{arith}
 use lib.ListN.{length, length-append}
 use Rattle.words.specs.Word.{zeros}
 use Rattle.words.proofs.Runs.{length-zeros}
-use Rattle.rules.specs.Limits.{bufferBytes, mostWords}
+use Rattle.rules.specs.Limits.{bufferBytes, roomWords}
 use Rattle.rules.specs.State.{Req, idle, reading, writing, readDone, writeDone, Acc, Built}
 use Rattle.rules.specs.Requests.{accAt, alter, withAccs, withQueues, withTimers, withStore, alterAcc, say, putRec, behind, withReq, requeue, leave, finish, cancel, freed}
 use Rattle.rules.specs.Reply.{hushed}
@@ -85,7 +85,7 @@ pub bounded : (f : ℕ) (cs : List Call) → OnFile Bounds (fileOf (after freshD
 bounded f cs = lifted Bounds (λ n. Bounds) bounds-walks (lapsed Bounds (λ n. Bounds) bounds-walks bounds-lessen) bounds-starts bounds-hushed f cs
 
 -- "which is otherwise zero": a buffer has its 260 bytes
-length-lies : (words : ℕ) (q : Req) → words ≤ mostWords → Bounded words q → length (lies q) ≤ bufferBytes
+length-lies : (words : ℕ) (q : Req) → words ≤ roomWords → Bounded words q → length (lies q) ≤ bufferBytes
 unfolding lies Bounded
 length-lies words idle h k = omega arith
 length-lies words (reading q) h k = omega arith
@@ -93,7 +93,7 @@ length-lies words (writing q) h k = omega arith
 length-lies words (readDone q) h k = k .0
 length-lies words (writeDone q) h k = omega arith
 
-pub length-buffer : (words : ℕ) (o : Option Acc) → words ≤ mostWords → Bounded words (reqOf o) → length (buffer o) ≡ bufferBytes
+pub length-buffer : (words : ℕ) (o : Option Acc) → words ≤ roomWords → Bounded words (reqOf o) → length (buffer o) ≡ bufferBytes
 unfolding buffer reqOf
 length-buffer words none h k = length-zeros bufferBytes
 length-buffer words (some a) h k =

@@ -4,13 +4,14 @@ use mathlib.Core.Bool.{Bool, true, false, _&&_, _||_, true≢false}
 use mathlib.Core.List.{List, []}
 use mathlib.Core.Option.{Option, none, some}
 use Prim.Native.Nat.{ℕ, zero, suc, _+_, _*_, _≤_}
+use native.Mathlib.Nat.{le-trans}
 use native.Mathlib.Omega.{arith}
 use lib.Dec.{ltb, leb, eqb}
 use lib.ListN.{length}
 use borrow.Author.Tests.{leb-true}
 use Rattle.kinds.specs.declared.Control.{Control}
 use Rattle.kinds.specs.declared.Control.the-variants.{Timeout, Verify, Abort, Extended, Typed, Keep}
-use Rattle.rules.specs.Limits.{places, mostMode, mostReadWords, mostReadBytes}
+use Rattle.rules.specs.Limits.{places, mostMode, mostReadWords, mostReadBytes, bufferBytes}
 use Rattle.rules.specs.State.{Req, idle, reading, writing, readDone, writeDone, Acc, Built}
 use Rattle.rules.specs.Store.{fetch}
 use Rattle.rules.specs.Count.{inWords, countBytes, readable}
@@ -27,6 +28,7 @@ use Rattle.rules.specs.Counts.{counts}
 use Rattle.rules.specs.Calls.{Ask, onAcc, askBuilt}
 use Rattle.rules.specs.Calls as calls
 use Rattle.rules.proofs.Split.{by-cases, both, opt, and-left}
+use Rattle.rules.proofs.Fits.{read-fits}
 use Rattle.laws.specs.Runs.{Proper}
 use Rattle.laws.specs.Changes.{Mild, Walks, Settles}
 use Rattle.laws.specs.Outstanding.{waitsRead, waitsWrite, awaits, uncollected}
@@ -53,11 +55,12 @@ is-idle (writing q) e = absurd (true≢false (sym e))
 is-idle (readDone q) e = absurd (true≢false (sym e))
 is-idle (writeDone q) e = absurd (true≢false (sym e))
 
-pub readable-bytes : (n : ℕ) → readable n ≡ true → countBytes n ≤ mostReadBytes
+-- what may be asked for fits a buffer
+pub readable-bytes : (n : ℕ) → readable n ≡ true → countBytes n ≤ bufferBytes
 unfolding readable countBytes
 readable-bytes n = by-cases (inWords n)
-    (λ t. rw t (λ e. omega (arith, leb-true n mostReadWords e)))
-    (λ t. rw t (λ e. leb-true _ _ e))
+    (λ t. rw t (λ e. omega (arith, leb-true n mostReadWords e, read-fits)))
+    (λ t. rw t (λ e. le-trans (leb-true _ mostReadBytes e) read-fits))
 
 pub free-id : (k n : ℕ) (l : List (Option Acc)) → n ≤ freeIdFrom k n l
 unfolding freeIdFrom
@@ -73,7 +76,7 @@ module _ (I R : Built → Type 0) (J : ℕ → Built → Type 0) (w : Walks I J)
   settled-out : (r : Reply) (b : Built) → I b → G (leaves r (settle b))
   settled-out r b s = let k = settles I J w b s in g r _ k (st .rests b k)
 
-  at-read : (p : ℕ) (a : Acc) (n : ℕ) (b : Built) → accAt b p ≡ some a → a .req ≡ idle → a .writer ≡ false → countBytes n ≤ mostReadBytes → I b → G (readOn p a n b)
+  at-read : (p : ℕ) (a : Acc) (n : ℕ) (b : Built) → accAt b p ≡ some a → a .req ≡ idle → a .writer ≡ false → countBytes n ≤ bufferBytes → I b → G (readOn p a n b)
   unfolding readOn status answering
   at-read p a n b e i h l s =
       let c = begins p _ (w .fetches p (a .typed) (a .keep) b s) in

@@ -5,12 +5,12 @@ use mathlib.Core.List.{List, [], _∷_, map}
 use mathlib.Core.Option.{Option, none, some}
 use Prim.Native.Nat.{ℕ, _+_, _-_, _*_, _≤_}
 use native.Mathlib.Omega.{arith}
-use native.Mathlib.Nat.{mul-le-mul-left, mul-comm}
+use native.Mathlib.Nat.{le-trans, mul-le-mul-left, mul-comm}
 use lib.Dec.{leb, eqb}
 use lib.ListN.{length, getD, drop, length-map, length-drop, drop-of-length-le}
 use borrow.Author.Tests.{leb-true, ne-eqb}
 use Rattle.words.specs.Word.{wordAt}
-use Rattle.rules.specs.Limits.{mostWords, mostFactor, shareWords, leastCapacity, mostType}
+use Rattle.rules.specs.Limits.{mostWords, mostFactor, mostShare, leastCapacity, mostType}
 use Rattle.rules.specs.Geometry.{dividedUp, dataBlocks, capacity, blockSize, within, inRange, fitsShare}
 use Rattle.rules.specs.State.{Geo}
 use Rattle.rules.specs.Reply.{Reply, shows, Out, leaves, answering, unmade}
@@ -21,6 +21,7 @@ use Rattle.rules.specs.Line.{linesOf}
 use Rattle.rules.specs.Calls.{Ask, askUnbuilt}
 use Rattle.rules.specs.Calls as calls
 use Rattle.rules.proofs.Split.{both, and-left, and-right}
+use Rattle.rules.proofs.Fits.{words-fit, share-fits}
 use Rattle.shares.specs.Groups.{All}
 use Rattle.shares.specs.Laid.{GoodRec}
 use Rattle.shares.proofs.Good.{dividedUp-most}
@@ -58,11 +59,11 @@ built-good r b n x e f =
     let h₃ : b * k ≤ b * (dividedUp (k + 1) x * x - 1) = mul-le-mul-left b (omega arith) in
     record {
       words-low = i .words-low;
-      words-high = i .words-high;
+      words-high = le-trans (i .words-high) words-fit;
       factor-low = i .factor-low;
       factor-high = i .factor-high;
       room = omega (arith, i .records-low, mul-comm k b);
-      share = leb-true _ shareWords f;
+      share = le-trans (leb-true _ mostShare f) share-fits;
     }
 
 -- what load reads is a good sheet
@@ -93,9 +94,9 @@ good-head h n e =
     let bl : leb 1 (getD h 3 0) ≡ true = search (and-left, and-right) depth 9 in
     let bh : leb (getD h 3 0) mostFactor ≡ true = search (and-left, and-right) depth 9 in
     let c : leb leastCapacity (capacity (getD h 3 0) (wordAt h 4)) ≡ true = search (and-left, and-right) depth 9 in
-    let s : leb (wordAt h 4 * blockSize (wordAt h 1) (getD h 3 0)) shareWords ≡ true = search (and-left, and-right) depth 9 in
+    let s : leb (wordAt h 4 * blockSize (wordAt h 1) (getD h 3 0)) mostShare ≡ true = search (and-left, and-right) depth 9 in
     let m : leb n (capacity (getD h 3 0) (wordAt h 4)) ≡ true = search (and-left, and-right) depth 9 in
-    (record { words-low = leb-true _ _ rl; words-high = leb-true _ _ rh; factor-low = leb-true _ _ bl; factor-high = leb-true _ _ bh; room = leb-true _ _ c; share = leb-true _ _ s }, leb-true _ _ m)
+    (record { words-low = leb-true _ _ rl; words-high = le-trans (leb-true _ mostWords rh) words-fit; factor-low = leb-true _ _ bl; factor-high = leb-true _ _ bh; room = leb-true _ _ c; share = le-trans (leb-true _ mostShare s) share-fits }, leb-true _ _ m)
 
 unfoldable GoodRead : Option Sheet → Type 0
 GoodRead none = Unit {0}

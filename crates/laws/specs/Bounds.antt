@@ -1,7 +1,7 @@
 -- What a request holds fits its accessor's record buffer, and a waiting write's data its record; what it completed with is no refusal's number.
 use Prim.Native.Nat.{ℕ, _*_, _≤_, _<_}
 use lib.ListN.{length}
-use Rattle.rules.specs.Limits.{mostReadBytes}
+use Rattle.rules.specs.Limits.{bufferBytes}
 use Rattle.rules.specs.State.{Req, idle, reading, writing, readDone, writeDone, Built}
 use Rattle.laws.specs.Outstanding.{reqAt}
 
@@ -11,9 +11,9 @@ leastRefusal = 29
 
 unfoldable pub Bounded : ℕ → Req → Type 0
 Bounded words idle = Unit {0}
-Bounded words (reading q) = q .limit ≤ mostReadBytes
+Bounded words (reading q) = q .limit ≤ bufferBytes
 Bounded words (writing q) = length (q .bytes) ≤ 2 * words
-Bounded words (readDone q) = (length (q .bytes) ≤ mostReadBytes) × (q .status < leastRefusal)
+Bounded words (readDone q) = (length (q .bytes) ≤ bufferBytes) × (q .status < leastRefusal)
 Bounded words (writeDone q) = q .status < leastRefusal
 
 abbrev pub Bounds : Built → Type 0

@@ -5,7 +5,7 @@ use mathlib.Core.List.{List}
 use mathlib.Core.Option.{some}
 use Prim.Native.Nat.{ℕ, _*_, _≤_, _<_}
 use lib.ListN.{length}
-use Rattle.rules.specs.Limits.{mostWords, mostFactor, shareWords, mostReadBytes, leastCapacity}
+use Rattle.rules.specs.Limits.{roomWords, mostFactor, shareWords, bufferBytes, leastCapacity}
 use Rattle.rules.specs.Geometry.{capacity, blockSize}
 use Rattle.rules.specs.State.{Rec, Wanted, Offered, Brought, Wrote, Req, idle, reading, writing, readDone, writeDone, Acc, Geo, Built}
 use Rattle.rules.specs.Store.{emptyStore, fetch}
@@ -23,7 +23,7 @@ use Rattle.laws.specs.Outstanding.{awaits, uncollected}
 -- a geometry that build or load makes
 pub record GoodGeo (g : Geo) : Type 0 where
   pub words-low : 1 ≤ g .words
-  pub words-high : g .words ≤ mostWords
+  pub words-high : g .words ≤ roomWords
   pub factor-low : 1 ≤ g .factor
   pub factor-high : g .factor ≤ mostFactor
   pub room : leastCapacity ≤ capacity (g .factor) (g .blocks)
@@ -56,7 +56,7 @@ pub record Walks (I : Built → Type 0) (J : ℕ → Built → Type 0) : Type 0 
   pub mild : (p : ℕ) (f : Acc → Acc) (b : Built) → Mild f → I b → I (alterAcc p f b)
   pub finishes : Finishes I
   pub cancels : (p : ℕ) (a : Acc) (b : Built) → accAt b p ≡ some a → awaits (a .req) ≡ 1 → I b → I (cancel p b)
-  pub readWaits : (p n : ℕ) (q : Wanted) (a : Acc) (b : Built) → accAt b p ≡ some a → a .req ≡ idle → a .writer ≡ false → q .limit ≤ mostReadBytes → I b → I (wait false p n (reading q) b)
+  pub readWaits : (p n : ℕ) (q : Wanted) (a : Acc) (b : Built) → accAt b p ≡ some a → a .req ≡ idle → a .writer ≡ false → q .limit ≤ bufferBytes → I b → I (wait false p n (reading q) b)
   pub writeWaits : (p n : ℕ) (q : Offered) (a : Acc) (b : Built) → accAt b p ≡ some a → a .req ≡ idle → a .writer ≡ true → length (q .bytes) ≤ 2 * b .geo .words → I b → I (wait true p n (writing q) b)
   pub frees : (p : ℕ) (a : Acc) (b : Built) → accAt b p ≡ some a → uncollected (a .req) ≡ 1 → I b → I (freed p b)
   pub fetches : (p : ℕ) (typed keep : Bool) (b : Built) → I b → I (behind p (fetch (b .geo) typed keep (b .store)) b)

@@ -9,7 +9,7 @@ use lib.ListN.{length, getD}
 use lib.Seq.{sets}
 use Rattle.words.specs.Word.{zeros}
 use Rattle.segment.specs.Layout.{fileRow}
-use Rattle.rules.specs.Limits.{files, places, bufferBytes, mostWords}
+use Rattle.rules.specs.Limits.{files, places, bufferBytes, roomWords}
 use Rattle.rules.specs.State.{Req, idle, Acc, Built, built}
 use Rattle.rules.specs.Requests.{accAt, alter, withReq, withAccs, withQueues, withTimers, alterAcc, say, requeue, leave, finish, cancel, wait, freed}
 use Rattle.rules.specs.Memories.{lies, buffer, fileBuffers}
@@ -38,7 +38,7 @@ use Rattle.midst.proofs.Fills.{buffers-keep, length-put, buffers-apart,
 pub record Knows (I : Built → Type 0) : Type 0 where
   pub agree : (b : Built) → I b → Agree b
   pub bounds : (b : Built) → I b → Bounds b
-  pub words : (b : Built) → I b → b .geo .words ≤ mostWords
+  pub words : (b : Built) → I b → b .geo .words ≤ roomWords
 
 pub fine-knows : Knows Fine
 fine-knows = record { agree = λ b h. h .queues; bounds = λ b h. h .bounds; words = λ b h. h .room .geo .words-high }

@@ -13,7 +13,7 @@ use Rattle.kinds.specs.declared.Answer.the-variants.{Opened, Read, Written, Con
 use Rattle.kinds.specs.declared.Answer.the-variants as answer
 use Rattle.kinds.specs.declared.Control.{Control}
 use Rattle.kinds.specs.declared.Control.the-variants.{Timeout, Verify, Abort, Extended, Typed, Keep}
-use Rattle.rules.specs.Limits.{places, mostMode, mostReadBytes, answerHead, answerRoom}
+use Rattle.rules.specs.Limits.{places, mostMode, bufferBytes, answerHead, answerRoom}
 use Rattle.rules.specs.State.{Rec, Req, idle, reading, writing, readDone, writeDone, Acc, Built}
 use Rattle.rules.specs.Store.{fetch}
 use Rattle.rules.specs.Count.{countBytes, readable}
@@ -61,14 +61,14 @@ plain a =
     (omega (arith, least, e), omega (arith, most, e))
 
 -- with those of a record
-with-data : (a : Answer) (d : List ℕ) → length (answerBytes a) ≡ answerHead → length d ≤ mostReadBytes → Short (answers a d)
+with-data : (a : Answer) (d : List ℕ) → length (answerBytes a) ≡ answerHead → length d ≤ bufferBytes → Short (answers a d)
 unfolding Short replyBytes
 with-data a d e h = (omega (arith, e, length-append (answerBytes a) d), omega (arith, e, h, length-append (answerBytes a) d))
 
 take-short : (n : ℕ) (l : List ℕ) → length (take n l) ≤ n
 take-short n l = omega (arith, length-take n l)
 
-handed-short : (typed : Bool) (n : ℕ) (r : Rec) → n ≤ mostReadBytes → length (handed typed n r) ≤ mostReadBytes
+handed-short : (typed : Bool) (n : ℕ) (r : Rec) → n ≤ bufferBytes → length (handed typed n r) ≤ bufferBytes
 unfolding handed
 handed-short typed n r h = omega (arith, h, take-short n (cond typed (word (r .typ) ++ word (r .wid) ++ r .body) (r .body)))
 
@@ -127,7 +127,7 @@ open-short access share multi b =
     (λ _. done-short _ _))))
     (λ _. status-short 2 35 b)
 
-read-on : (p : ℕ) (a : Acc) (n : ℕ) (b : Built) → countBytes n ≤ mostReadBytes → ShortOut (readOn p a n b)
+read-on : (p : ℕ) (a : Acc) (n : ℕ) (b : Built) → countBytes n ≤ bufferBytes → ShortOut (readOn p a n b)
 unfolding readOn
 read-on p a n b h =
     opt ShortOut (fetch (b .geo) (a .typed) (a .keep) (b .store) .got)
@@ -187,7 +187,7 @@ control-short p a (some (Extended v)) b = idle-short a _ b (switch-short p v _ b
 control-short p a (some (Typed v)) b = idle-short a _ b (reader-short a _ b (switch-short p v _ b))
 control-short p a (some (Keep v)) b = idle-short a _ b (reader-short a _ b (switch-short p v _ b))
 
-collected-short : (st log : ℕ) (d : List ℕ) (p : ℕ) (b : Built) → length d ≤ mostReadBytes → ShortOut (collected st log d p b)
+collected-short : (st log : ℕ) (d : List ℕ) (p : ℕ) (b : Built) → length d ≤ bufferBytes → ShortOut (collected st log d p b)
 unfolding collected
 collected-short st log d p b h = both ShortOut (eqb st 0) (λ _. unfold leaves answerBytes in with-data (Collected log) d refl h) (λ _. status-short 6 st _)
 

@@ -9,7 +9,7 @@ use mathlib.Core.Option.{Option, none, some}
 use lib.Dec.{eqb}
 use lib.ListN.{length, getD, take}
 use lib.Seq.{sets}
-use Rattle.rules.specs.Limits.{files, places, shareBytes, bufferBytes, answerRoom}
+use Rattle.rules.specs.Limits.{files, places, shareBytes, bufferBytes, answerRoom, recordRoom}
 use Rattle.rules.specs.Reply.{Reply, shows}
 use Rattle.rules.specs.Desk.{Desk, Call, respond, replyBytes}
 use Rattle.rules.specs.Desk as rules
@@ -119,6 +119,6 @@ freshMemories = record { segment = freshSegment; blocks = freshBlocks; buffers =
 unfoldable pub Promise : Memories → HostCall → Given → Memories → Type 0
 Promise m fresh g m′ = (g ≡ status (cond (sized m) 0 29)) × (m′ ≡ cond (sized m) freshMemories m)
 Promise m (event memory frame) g m′ = Answers (lent answerRoom memory) (rules.event frame) (answered memory) m g m′
-Promise m (look f p memory) g m′ = Answers (lent bufferBytes memory) (rules.look f p) (shown memory) m g m′
+Promise m (look f p memory) g m′ = Answers (lent recordRoom memory) (rules.look f p) (shown memory) m g m′
 Promise m (save f output) g m′ = Answers (λ v. v) (rules.save f (length output)) (shown output) m g m′
 Promise m (load f text) g m′ = Answers (λ v. v) (rules.load f text) said m g m′

@@ -9,7 +9,8 @@ use lib.Dec.{ltb, eqb}
 use lib.ListN.{length, getD, take, drop, length-drop, drop-of-length-le}
 use lib.Seq.{sets, sets-eq, drop-cons, take-at}
 use borrow.Author.Tests.{ltb-true, ltb-false, lt-ltb, le-ltb, eq-eqb, ne-eqb}
-use Rattle.rules.specs.Line.{lineFrame}
+use Rattle.rules.specs.Limits.{sheetLineBytes}
+use Rattle.rules.specs.Line.{frameIn}
 use Rattle.rules.proofs.Split.{by-cases, pick-true, pick-false}
 use Rattle.reader.specs.declared.Next.{Next}
 use Rattle.reader.specs.Frames.{lineLength, firstFrame, lineSpan, lineEnd, frameAt, nextAt, nextOf}
@@ -45,7 +46,7 @@ end-end t at h = rw (drop-of-length-le t h) (omega arith)
 
 -- the frame in front, by whether LF ends the line
 
-pub frame-line : (u : List ℕ) → lineLength u < length u → firstFrame u ≡ lineFrame (take (lineLength u) u)
+pub frame-line : (u : List ℕ) → lineLength u < length u → firstFrame u ≡ frameIn sheetLineBytes (take (lineLength u) u)
 unfolding firstFrame
 frame-line u h = pick-true (ltb (lineLength u) (length u)) _ _ (lt-ltb (lineLength u) (length u) h)
 
@@ -64,7 +65,7 @@ span-none u h = pick-false (ltb (lineLength u) (length u)) _ _ (le-ltb (lineLeng
 -- and at the cursor
 
 pub next-line : (t : List ℕ) (at end : ℕ) → end ≡ lineEnd t at → at ≤ end → end < length t
-    → (frameAt t at ≡ lineFrame (take (end - at) (drop at t))) × (nextAt t at ≡ end + 1)
+    → (frameAt t at ≡ frameIn sheetLineBytes (take (end - at) (drop at t))) × (nextAt t at ≡ end + 1)
 unfolding lineEnd frameAt nextAt
 next-line t at end e h k =
     let l = length-drop at t in

@@ -28,8 +28,8 @@ frame-there t at h =
     let u = drop at t in
     by-cases (ltb (lineLength u) (length u))
     (λ e. by-cases (isLine sheetLineBytes (take (lineLength u) u))
-    (λ k. (ltb-true (lineLength u) (length u) e, k, frame-line u (ltb-true (lineLength u) (length u) e) ∙ hex.frame-line (take (lineLength u) u) k))
-    (λ k. absurd (omega (arith, ap length (frame-line u (ltb-true (lineLength u) (length u) e) ∙ hex.frame-none (take (lineLength u) u) k)))))
+    (λ k. (ltb-true (lineLength u) (length u) e, k, frame-line u (ltb-true (lineLength u) (length u) e) ∙ hex.frame-line sheetLineBytes (take (lineLength u) u) k))
+    (λ k. absurd (omega (arith, ap length (frame-line u (ltb-true (lineLength u) (length u) e) ∙ hex.frame-none sheetLineBytes (take (lineLength u) u) k)))))
     (λ e. absurd (omega (arith, ap length (frame-none u (ltb-false (lineLength u) (length u) e)))))
 
 behind-line : (t : List ℕ) (at : ℕ) → lineLength (drop at t) < length (drop at t) → drop (suc (lineLength (drop at t))) (drop at t) ≡ drop (nextAt t at) t
@@ -96,5 +96,5 @@ unlined r t (suc n) at h L =
   where
     on : (k : lineLength (drop at t) < length (drop at t)) → (isLine sheetLineBytes (take (lineLength (drop at t)) (drop at t)) ≡ true) × (goodRec r (bytesOf (take (lineLength (drop at t)) (drop at t))) ≡ true) × Lined r (linesOf (drop (nextAt t at) t)) n → (Lined r (linesOf (drop (nextAt t at) t)) n → goodFrom r t (nextAt t at) n ≡ true) → goodFrom r t at (suc n) ≡ true
     on k p i =
-        let g : frameAt t at ≡ bytesOf (take (lineLength (drop at t)) (drop at t)) = unfold frameAt in frame-line (drop at t) k ∙ hex.frame-line _ (p .0) in
+        let g : frameAt t at ≡ bytesOf (take (lineLength (drop at t)) (drop at t)) = unfold frameAt in frame-line (drop at t) k ∙ hex.frame-line sheetLineBytes _ (p .0) in
         from-on r t at n (rw g (p .1)) ∙ i (p .2)

@@ -107,7 +107,7 @@ sheet-good t s e =
 
     on : lineLength t < length t → (isLine sheetLineBytes line ≡ true) × (goodHead (bytesOf line) (length (l .whole)) ≡ true) × Lined (wordAt (bytesOf line) 1) l (length (l .whole)) → Good t
     on k q =
-        let g : frameAt t 0 ≡ bytesOf line = unfold frameAt in frame-line t k ∙ hex.frame-line line (q .0) in
+        let g : frameAt t 0 ≡ bytesOf line = unfold frameAt in frame-line t k ∙ hex.frame-line sheetLineBytes line (q .0) in
         let o : goodHead (frameAt t 0) (length (l .whole)) ≡ true = rw g (q .1) in
         let h = head-held (frameAt t 0) (length (l .whole)) o in
         let L : Lined (wordAt (frameAt t 0) 1) l (length (l .whole)) = rw g (q .2) in

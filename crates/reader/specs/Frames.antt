@@ -7,7 +7,8 @@ use lib.ListN.{length, take, drop}
 use denote.Ref.{now}
 use Rattle.words.specs.Word.{wordAt}
 use Rattle.rules.specs.State.{Rec}
-use Rattle.rules.specs.Line.{lineFrame}
+use Rattle.rules.specs.Limits.{sheetLineBytes}
+use Rattle.rules.specs.Line.{frameIn}
 use Rattle.reader.specs.declared.Next.{Next}
 use Rattle.reader.specs.declared.Reader.{Reader}
 
@@ -18,7 +19,7 @@ lineLength (x ∷ t) = elim (eqb x 10) [ true ↦ 0 | false ↦ suc (lineLength 
 
 -- the frame of the line in front, which LF has to end
 unfoldable pub firstFrame : List ℕ → List ℕ
-firstFrame t = elim (ltb (lineLength t) (length t)) [ true ↦ lineFrame (take (lineLength t) t) | false ↦ [] ]
+firstFrame t = elim (ltb (lineLength t) (length t)) [ true ↦ frameIn sheetLineBytes (take (lineLength t) t) | false ↦ [] ]
 
 -- the bytes of that line, and its LF
 unfoldable pub lineSpan : List ℕ → ℕ

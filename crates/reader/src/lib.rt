@@ -86,7 +86,7 @@ pub fn next_frame(text: &[u8], at: usize, frame: &mut [u8]) -> Next
     if end == text.len() {
         return Next { size: 0, at: end };
     }
-    let size = hex::decode(&text[at..end], frame);
+    let size = hex::decode(&text[at..end], SHEET_LINE_BYTES, frame);
     Next { size, at: end + 1 }
 }
 

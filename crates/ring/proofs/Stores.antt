@@ -8,7 +8,7 @@ use native.Mathlib.Nat.{add-mul, mul-comm, mul-one, mul-le-mul-left, mod-lt, mod
 use lib.Dec.{leb, eqb}
 use lib.ListN.{length, length-append}
 use borrow.Author.Tests.{le-leb, lt-leb, eqb-true, eqb-false}
-use Rattle.rules.specs.Limits.{mostWords, mostFactor}
+use Rattle.rules.specs.Limits.{roomWords, mostFactor}
 use Rattle.rules.specs.State.{Rec, Geo, Store}
 use Rattle.rules.specs.Geometry.{dividedUp, capacity, blockSize}
 use Rattle.rules.specs.Store.{blockBytes, advance, purge}
@@ -38,7 +38,7 @@ ranged g s o h =
       used = used-most g s h;
     }
 
-pub fitted : (g : Geo) (s : Store) → g .words ≤ mostWords → g .factor ≤ mostFactor → Sized g → Fitted (g .words) (ringOf g s)
+pub fitted : (g : Geo) (s : Store) → g .words ≤ roomWords → g .factor ≤ mostFactor → Sized g → Fitted (g .words) (ringOf g s)
 fitted g s w b o = record { words = w; factor = b; sized = o }
 
 pub ring-put : (g : Geo) (r : Rec) (s : Store) → ringOf g (rules.put g r s) ≡ put (ringOf g s)

@@ -3,7 +3,7 @@ use Prim.Native.Nat.{ℕ, _+_, _-_, _*_, _/_, _%_, _≤_, _<_}
 use mathlib.Core.Bool.{true, false}
 use lib.Dec.{ltb, leb, eqb}
 use lib.ListN.{length}
-use Rattle.rules.specs.Limits.{mostWords, mostFactor, shareWords}
+use Rattle.rules.specs.Limits.{roomWords, mostFactor, shareWords}
 use Rattle.rules.specs.State.{Geo, Store}
 use Rattle.rules.specs.Store.{blockBytes}
 use Rattle.shares.specs.Holds.{Sized}
@@ -17,7 +17,7 @@ geo words r = record { words = words; factor = r .factor; blocks = r .blocks }
 
 -- one that was built or loaded
 pub record Fitted (w : ℕ) (r : Ring) : Type 0 where
-  pub words : w ≤ mostWords
+  pub words : w ≤ roomWords
   pub factor : r .factor ≤ mostFactor
   pub sized : Sized (geo w r)
 

@@ -3,16 +3,18 @@ use Prim.Native.Nat.{ℕ, zero, suc, _+_, _*_, _/_, _%_, _<_, _≤_}
 use mathlib.Core.Bool.{true, cond}
 use mathlib.Core.Path.{_≡_, refl, ap}
 use mathlib.Core.List.{List, [], _∷_, _++_, map}
+use native.Mathlib.Nat.{le-trans}
 use native.Mathlib.Omega.{arith}
 use lib.Dec.{eqb}
 use lib.ListN.{length, getD}
 use borrow.Author.Tests.{le-leb, eq-eqb, eqb-false}
 use Rattle.words.specs.Word.{word, wordAt, Bytes}
-use Rattle.rules.specs.Limits.{mostWords, mostFactor, leastCapacity, mostType, shareWords}
+use Rattle.rules.specs.Limits.{mostWords, mostFactor, leastCapacity, mostType, mostShare}
 use Rattle.rules.specs.Geometry.{capacity, within, fitsShare}
 use Rattle.rules.specs.State.{Rec, Geo}
 use Rattle.rules.specs.Sheet.{headFrame, recFrame, goodHead, goodRec, goodRecs, recOf}
 use Rattle.rules.proofs.Split.{by-cases, true-and}
+use Rattle.rules.proofs.Fits.{words-said, share-said}
 use Rattle.shares.specs.Groups.{All}
 use Rattle.shares.specs.Laid.{GoodRec}
 use Rattle.laws.specs.Changes.{GoodGeo, GoodRecs}
@@ -70,10 +72,10 @@ unfolding goodHead within fitsShare
 head-good g n k m =
     rw (length-head g n, head-kind g n, head-words g n, head-factor g n, head-blocks g n, head-held g n)
     (true-and _ _ (true-and _ _ (true-and _ _ (true-and _ _ (true-and _ _ (true-and _ _ refl
-    (true-and _ _ (le-leb 1 (g .words) (k .words-low)) (le-leb (g .words) mostWords (k .words-high))))
+    (true-and _ _ (le-leb 1 (g .words) (k .words-low)) (le-leb (g .words) mostWords (le-trans (k .words-high) words-said))))
     (true-and _ _ (le-leb 1 (g .factor) (k .factor-low)) (le-leb (g .factor) mostFactor (k .factor-high))))
     (le-leb leastCapacity _ (k .room)))
-    (le-leb _ shareWords (k .share)))
+    (le-leb _ mostShare (le-trans (k .share) share-said)))
     (le-leb n _ m))
     (eq-eqb n n refl))
 

@@ -16,6 +16,7 @@ use Rattle.rules.specs.Open.{geoOf}
 use Rattle.rules.specs.Line.{digitsOf, bytesOf, Lines, linesFrom, linesOf}
 use Rattle.rules.specs.Sheet.{headFrame, recFrame, recLines, sheet, allLines, goodHead, goodRecs, framesSheet, readSheet}
 use Rattle.rules.proofs.Split.{true-and, pick-true}
+use Rattle.rules.proofs.Fits.{words-said}
 use Rattle.shares.specs.Groups.{All}
 use Rattle.laws.specs.Changes.{GoodGeo, GoodRecs}
 use Rattle.hex.proofs.Trip.{bytes-digits, line-digits}
@@ -77,7 +78,7 @@ module _ (g : Geo) (rs : List Rec) (h : Written (record { geo = g; recs = rs }))
       let k = h .good .geo in (
         bytes-head g (length rs) (omega (arith, k .words-high)) (omega (arith, k .factor-high)) (omega (arith, blocks-word g k)) (omega (arith, capacity-word g k, h .good .few)),
         omega (arith, length-head g (length rs)),
-        recs-framed (g .words) rs (omega (arith, k .words-high)) (h .good .recs) (h .plain),
+        recs-framed (g .words) rs (omega (arith, k .words-high, words-said)) (h .good .recs) (h .plain),
       )
 
   frames-pass : goodHead (headFrame g (length rs)) (length (map recFrame rs)) && goodRecs (wordAt (headFrame g (length rs)) 1) (map recFrame rs) ≡ true

@@ -53,7 +53,7 @@ unfolding word-.zeros word-.quiet word-.Bytes desk-.frameAsks desk-.asked desk-.
     open-.freeId open-.newAcc open-.enter open-.openRec open-.purged open-.openReader open-.openWriter
     open-.roomToOpen open-.openFile time-.due time-.failAll time-.minus time-.lessen time-.lapse
     time-.fileTime time-.timeHaps line-.digitOf line-.valueOf line-.digitsOf line-.allDigits line-.bytesOf
-    line-.isLine line-.lineFrame line-.lineOf line-.linesFrom line-.linesOf frames-.controlFrame frames-.sized
+    line-.isLine line-.frameIn line-.lineOf line-.linesFrom line-.linesOf frames-.controlFrame frames-.sized
     frames-.frameOf answers-.answerBytes count-.inWords count-.countBytes count-.readable count-.logOf
     controls-.setTimeout controls-.setExtended controls-.setTyped controls-.setKeep controls-.switched
     controls-.ofReader controls-.abort controls-.whileIdle controls-.control look-.oldest look-.lookFile

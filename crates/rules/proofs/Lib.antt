@@ -1,4 +1,5 @@
 pub mod Split
+pub mod Fits
 pub mod All
 pub mod Vocabulary
 pub mod Script

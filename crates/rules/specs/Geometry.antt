@@ -2,7 +2,7 @@
 use mathlib.Core.Bool.{Bool, _&&_}
 use Prim.Native.Nat.{ℕ, _+_, _-_, _*_, _/_}
 use lib.Dec.{leb}
-use Rattle.rules.specs.Limits.{mostWords, mostFactor, mostRecords, mostExtents, shareWords}
+use Rattle.rules.specs.Limits.{mostWords, mostFactor, mostRecords, mostExtents, mostShare}
 
 -- n divided by m, rounded up
 unfoldable pub dividedUp : ℕ → ℕ → ℕ
@@ -29,4 +29,4 @@ inRange r b n x = within 1 mostWords r && within 1 mostFactor b && within 1 most
 
 -- not "D × block size above 2,048 words"
 unfoldable pub fitsShare : ℕ → ℕ → ℕ → Bool
-fitsShare r b d = leb (d * blockSize r b) shareWords
+fitsShare r b d = leb (d * blockSize r b) mostShare

@@ -31,9 +31,13 @@ bytesOf (a ∷ b ∷ s) = (valueOf a * 16 + valueOf b) ∷ bytesOf s
 unfoldable pub isLine : ℕ → List ℕ → Bool
 isLine n s = cond (leb (length s) (2 * n)) (cond (eqb (length s % 2) 0) (allDigits s) false) false
 
+-- the frame that it says; any other line says an empty one
+unfoldable pub frameIn : ℕ → List ℕ → List ℕ
+frameIn n s = cond (isLine n s) (bytesOf s) []
+
 -- "The event program takes any other line as an empty frame."
-unfoldable pub lineFrame : List ℕ → List ℕ
-lineFrame s = cond (isLine lineBytes s) (bytesOf s) []
+abbrev pub lineFrame : List ℕ → List ℕ
+lineFrame s = frameIn lineBytes s
 
 -- "each ended by LF"
 unfoldable pub lineOf : List ℕ → List ℕ

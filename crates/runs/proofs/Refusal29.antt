@@ -8,7 +8,7 @@ use native.Mathlib.Omega.{arith}
 use lib.Dec.{ltb, leb, eqb}
 use lib.ListN.{length}
 use borrow.Author.Tests.{ne-eqb}
-use Rattle.rules.specs.Limits.{bufferBytes, answerRoom}
+use Rattle.rules.specs.Limits.{recordRoom, answerRoom}
 use Rattle.rules.specs.State.{Req, idle, reading, writing, readDone, writeDone, Built, File, unbuilt, built}
 use Rattle.rules.specs.Requests.{accAt}
 use Rattle.rules.specs.Reply.{Reply, Out, leaves, unmade}
@@ -98,9 +98,9 @@ module _ (m n : Memories) (d : Desk) (s : Alloc) (H : Holds m d s) where
           ap is29 e ∙ (unfold is29 host.answered replyOf in ne-eqb (length (replyBytes (respond d (rules.event frame) .reply))) 0 (λ z. omega (arith, z, event-told d (H .stands .fine) frame)))
       go false e = ap is29 e ∙ (unfold is29 host.answered replyOf replyBytes in refl)
 
-  look-29 : (f p : ℕ) (memory : List ℕ) (g : Given) → g ≡ shown memory (replyOf (lent bufferBytes memory seen) (rules.look f p)) → is29 g ≡ not (eqb (length memory) bufferBytes)
+  look-29 : (f p : ℕ) (memory : List ℕ) (g : Given) → g ≡ shown memory (replyOf (lent recordRoom memory seen) (rules.look f p)) → is29 g ≡ not (eqb (length memory) recordRoom)
   unfolding lent
-  look-29 f p memory g = go (eqb (length memory) bufferBytes)
+  look-29 f p memory g = go (eqb (length memory) recordRoom)
     where
       go : (t : Bool) → g ≡ shown memory (replyOf (elim t as (λ (b : Bool). Option Standing) [ true ↦ seen | false ↦ none ]) (rules.look f p)) → is29 g ≡ not t
       go true e = ap is29 e ∙ (unfold is29 shown replyOf respond asked Other refusal replyStatus in on-other (calls.look p) (ask-look p) refl d f)

@@ -9,7 +9,7 @@ use lib.Dec.{eqb}
 use lib.ListN.{length, drop}
 use lib.Seq.{sets, sets-eq, drop-at}
 use borrow.Author.Tests.{eqb-true}
-use Rattle.rules.specs.Limits.{bufferBytes, answerRoom}
+use Rattle.rules.specs.Limits.{recordRoom, answerRoom}
 use Rattle.rules.specs.Reply.{Reply}
 use Rattle.rules.specs.Desk.{Desk, Call, respond, replyBytes, freshDesk, after}
 use Rattle.rules.specs.Desk as rules
@@ -59,7 +59,7 @@ module _ (m n : Memories) (d : Desk) (s : Alloc) (H : Holds m d s) where
       subst (λ (h : Given). Stayed h memory) (sym (P seen (stands d s (H .stands)) .0))
       (answer-behind memory _ (lent-fits answerRoom memory (rules.event frame) (event-fits d (H .stands .fine) frame)))
   step-stays (look f p memory) g P =
-      subst (λ (h : Given). Stayed h memory) (sym (P seen (stands d s (H .stands)) .0)) (shown-behind memory _ (lent-fits bufferBytes memory (rules.look f p) (look-fits d (H .stands .fine) f p)))
+      subst (λ (h : Given). Stayed h memory) (sym (P seen (stands d s (H .stands)) .0)) (shown-behind memory _ (lent-fits recordRoom memory (rules.look f p) (look-fits d (H .stands .fine) f p)))
   step-stays (save f output) g P =
       subst (λ (h : Given). Stayed h output) (sym (P seen (stands d s (H .stands)) .0)) (unfold replyOf in shown-behind output _ (save-fits d f (length output)))
   step-stays (load f text) g P = subst (λ (h : Given). Stayed h []) (sym (P seen (stands d s (H .stands)) .0)) (unfold said givenSize givenMemory in refl)

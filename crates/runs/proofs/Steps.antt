@@ -7,7 +7,7 @@ use mathlib.Core.Option.{Option, none, some}
 use lib.Dec.{eqb}
 use lib.ListN.{length}
 use borrow.Author.Tests.{eq-eqb}
-use Rattle.rules.specs.Limits.{files, places, shareBytes, bufferBytes, answerRoom}
+use Rattle.rules.specs.Limits.{files, places, shareBytes, bufferBytes, answerRoom, recordRoom}
 use Rattle.rules.specs.Reply.{shows}
 use Rattle.rules.specs.Desk.{Desk, Call, asked, respond, freshDesk}
 use Rattle.rules.specs.Desk as rules
@@ -73,6 +73,6 @@ module _ (m n : Memories) (d : Desk) (s : Alloc) (H : Holds m d s) where
   unfolding Promise meant gives Comes said replyStatus
   step-comes fresh g P = fresh-first m n g size-true P
   step-comes (event memory frame) g P = lent-comes answerRoom memory (rules.event frame) (event memory frame) g (P seen (stands d s (H .stands)))
-  step-comes (look f p memory) g P = lent-comes bufferBytes memory (rules.look f p) (look f p memory) g (P seen (stands d s (H .stands)))
+  step-comes (look f p memory) g P = lent-comes recordRoom memory (rules.look f p) (look f p memory) g (P seen (stands d s (H .stands)))
   step-comes (save f output) g P = asked-comes (rules.save f (length output)) (save f output) g (P seen (stands d s (H .stands)))
   step-comes (load f text) g P = asked-comes (rules.load f text) (load f text) g (P seen (stands d s (H .stands)))

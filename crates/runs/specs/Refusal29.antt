@@ -2,7 +2,7 @@
 use mathlib.Core.Bool.{Bool, false, not}
 use lib.Dec.{eqb}
 use lib.ListN.{length}
-use Rattle.rules.specs.Limits.{bufferBytes, answerRoom}
+use Rattle.rules.specs.Limits.{recordRoom, answerRoom}
 use Rattle.promises.specs.Promise.{HostCall, fresh, event, look, save, load, Given, status, answer, written}
 
 -- "an event then writes nothing, answer length 0"
@@ -15,6 +15,6 @@ is29 (written st n memory) = eqb st 29
 unfoldable pub wrongLength : HostCall → Bool
 wrongLength fresh = false
 wrongLength (event memory frame) = not (eqb (length memory) answerRoom)
-wrongLength (look f p memory) = not (eqb (length memory) bufferBytes)
+wrongLength (look f p memory) = not (eqb (length memory) recordRoom)
 wrongLength (save f output) = false
 wrongLength (load f text) = false

@@ -4,7 +4,7 @@ use mathlib.Core.Bool.{true, false}
 use mathlib.Core.List.{List, [], _∷_}
 use lib.Dec.{eqb}
 use lib.ListN.{length}
-use Rattle.rules.specs.Limits.{bufferBytes, answerRoom}
+use Rattle.rules.specs.Limits.{recordRoom, answerRoom}
 use Rattle.rules.specs.Reply.{Reply}
 use Rattle.rules.specs.Desk.{Desk, Call}
 use Rattle.rules.specs.Desk as rules
@@ -33,7 +33,7 @@ lending n memory c = elim (eqb (length memory) n) [ true ↦ asks c | false ↦ 
 unfoldable pub meant : HostCall → Meant
 meant fresh = anew
 meant (event memory frame) = lending answerRoom memory (rules.event frame)
-meant (look f p memory) = lending bufferBytes memory (rules.look f p)
+meant (look f p memory) = lending recordRoom memory (rules.look f p)
 meant (save f output) = asks (rules.save f (length output))
 meant (load f text) = asks (rules.load f text)
 

@@ -9,7 +9,7 @@ use lib.Dec.{leb}
 use lib.ListN.{length, set, take, drop, length-append, length-drop}
 use lib.Seq.{sets, sets-eq, length-take-le, take-all, take-suc-set, take-append-le, take-take, take-at}
 use Rattle.rules.specs.Limits.{lineBytes}
-use Rattle.rules.specs.Line.{isLine, lineFrame}
+use Rattle.rules.specs.Line.{isLine, lineFrame, frameIn}
 use Rattle.rules.proofs.Split.{by-cases}
 use Rattle.serving.specs.Going.{mostHeld}
 
@@ -43,7 +43,7 @@ kept-more p m b =
 
 -- a digit more than the longest line has shows that it is none
 pub frame-kept : (p : List ℕ) → lineFrame (take mostHeld p) ≡ lineFrame p
-unfolding lineFrame isLine
+unfolding frameIn isLine
 frame-kept p =
     by-cases (leb (length p) mostHeld)
     (λ e. rw (take-all mostHeld p (leb-true _ _ e)))

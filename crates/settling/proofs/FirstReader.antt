@@ -7,7 +7,7 @@ use mathlib.Core.Option.{Option, some}
 use native.Mathlib.Omega.{arith}
 use lib.Dec.{eqb}
 use Rattle.occurrences.specs.Count.{bit}
-use Rattle.rules.specs.Limits.{places, entries, mostReadBytes}
+use Rattle.rules.specs.Limits.{places, entries, bufferBytes}
 use Rattle.rules.specs.State.{Wanted, reading, Acc, Built}
 use Rattle.rules.specs.Requests.{accAt}
 use Rattle.rules.specs.Allocation.{placeOf}
@@ -86,7 +86,7 @@ module _ {f : ℕ} {o : Start} {xs blocks buffers : List ℕ} {x : hand.File} {b
         (u ∙ ap (placeAt xs) (ap (λ (n : Entry). n .place) (e ∙ r .entry)) ∙ mid-place M (r .place) reader-below ∙ ap (λ (z : Option Acc). placeRowOf (placeWords z)) (r .opens))
         ∙ bit-one (r .acc .typed)
 
-    pub reader-short : r .wanted .limit ≤ mostReadBytes
+    pub reader-short : r .wanted .limit ≤ bufferBytes
     unfolding Bounded
     reader-short = bounds-at (r .place) (r .acc) _ b (r .opens) (r .asks) (M .good .bounds)
 

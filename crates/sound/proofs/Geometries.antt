@@ -6,8 +6,8 @@ use mathlib.Core.List.{List}
 use native.Mathlib.Omega.{arith}
 use native.Mathlib.Numerals.{add-one}
 use borrow.Author.Tests.{leb-true, le-leb, lt-leb}
-use Rattle.rules.specs.Limits.{mostWords, mostFactor, leastCapacity, shareWords}
-use Rattle.rules.specs.Geometry.{capacity, blockSize, within, fitsShare}
+use Rattle.rules.specs.Limits.{roomWords, mostFactor, leastCapacity, shareWords}
+use Rattle.rules.specs.Geometry.{capacity, blockSize, within}
 use Rattle.rules.specs.State.{Geo}
 use Rattle.rules.proofs.Split.{and-true}
 use Rattle.geometry.proofs.Sizes.{product-most}
@@ -18,7 +18,7 @@ use Rattle.sound.specs.Rows.{fileWord, builtAt, geoAt, goodGeo, unbuiltO
 use Rattle.sound.specs.Sound.{builtOk, fileOk, filesOk}
 
 pub geo-good : (g : Geo) → goodGeo g ≡ true → GoodGeo g
-unfolding goodGeo within fitsShare
+unfolding goodGeo within
 geo-good g h =
     let (r, share) = and-true _ _ h in
     let (r₁, room) = and-true _ _ r in
@@ -27,7 +27,7 @@ geo-good g h =
     let (k₀, k₁) = and-true _ _ k in
     record {
       words-low = leb-true 1 (g .words) w₀;
-      words-high = leb-true (g .words) mostWords w₁;
+      words-high = leb-true (g .words) roomWords w₁;
       factor-low = leb-true 1 (g .factor) k₀;
       factor-high = leb-true (g .factor) mostFactor k₁;
       room = leb-true leastCapacity (capacity (g .factor) (g .blocks)) room;

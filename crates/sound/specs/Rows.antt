@@ -3,8 +3,8 @@ use Prim.Native.Nat.{ℕ, zero, suc, _+_, _*_}
 use mathlib.Core.Bool.{Bool, true, false, _&&_, _||_}
 use mathlib.Core.List.{List}
 use lib.Dec.{leb, eqb}
-use Rattle.rules.specs.Limits.{places, mostWords, mostFactor, leastCapacity}
-use Rattle.rules.specs.Geometry.{capacity, fitsShare, within}
+use Rattle.rules.specs.Limits.{places, roomWords, mostFactor, leastCapacity, shareWords}
+use Rattle.rules.specs.Geometry.{capacity, blockSize, within}
 use Rattle.rules.specs.State.{Geo}
 use Rattle.segment.specs.Layout.{fileWidth, placeWidth, fileRowAt, placeRowAt}
 use Rattle.segment.specs.Table.{nth}
@@ -29,7 +29,7 @@ unfoldable pub geoAt : List ℕ → ℕ → Geo
 geoAt s f = record { words = fileWord s f 0; factor = fileWord s f 1; blocks = fileWord s f 2 }
 
 unfoldable pub goodGeo : Geo → Bool
-goodGeo g = within 1 mostWords (g .words) && within 1 mostFactor (g .factor) && leb leastCapacity (capacity (g .factor) (g .blocks)) && fitsShare (g .words) (g .factor) (g .blocks)
+goodGeo g = within 1 roomWords (g .words) && within 1 mostFactor (g .factor) && leb leastCapacity (capacity (g .factor) (g .blocks)) && leb (g .blocks * blockSize (g .words) (g .factor)) shareWords
 
 -- the side of place i: 0 not open, 1 a reader, 2 a writer
 unfoldable pub sideAt : List ℕ → ℕ → ℕ

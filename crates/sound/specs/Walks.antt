@@ -4,7 +4,7 @@ use mathlib.Core.Bool.{Bool, true, false, cond, _&&_}
 use mathlib.Core.List.{List}
 use lib.Dec.{ltb, leb, eqb}
 use lib.ListN.{getD, set, replicate}
-use Rattle.rules.specs.Limits.{files, places, entries, bufferBytes, mostReadBytes}
+use Rattle.rules.specs.Limits.{files, places, entries, bufferBytes}
 use Rattle.segment.specs.Layout.{nil, linkAt, dataAt, dataWords, freeList, replyPort, timerList}
 use Rattle.accessors.specs.Outstanding.{queueOf}
 use Rattle.segment.specs.Table.{nth}
@@ -47,7 +47,7 @@ readEntry s bufs busy f e =
     && eqb (getD busy (placeIn s e) 0) 0
     && eqb (sideAt s (placeIn s e)) 1
     && leb (entryWord s e 1) 1
-    && leb (entryWord s e 2) mostReadBytes
+    && leb (entryWord s e 2) bufferBytes
     && leb (entryWord s e 3) 1
     && zeroWords s (dataAt e + 4) 5
     && restZero bufs (placeIn s e) 0
@@ -73,7 +73,7 @@ portEntry s bufs busy i e =
     && leb 1 (sideAt s i)
     && zeroWords s (dataAt e + 1) 3
     && ltb (entryWord s e 4) leastRefusal
-    && leb (sizeIn s e) (cond (eqb (sideAt s i) 1) mostReadBytes 0)
+    && leb (sizeIn s e) (cond (eqb (sideAt s i) 1) bufferBytes 0)
     && zeroWords s (dataAt e + 7) 2
     && restZero bufs i (sizeIn s e)
 

@@ -17,12 +17,12 @@ ghost use mathlib.Core.Bool.{cond};
 ghost use Prim.Native.Nat.{_*_, _<_};
 ghost use lib.Dec.{eqb};
 ghost use lib.ListN.{length};
-ghost use Rattle.rules.specs.Limits.{files, places, entries, bufferBytes, mostReadBytes};
+ghost use Rattle.rules.specs.Limits.{files, places, entries, bufferBytes};
 ghost use Rattle.segment.specs.Layout.{segmentBytes};
 ghost use Rattle.sound.specs.Parts.{owned};
 ghost use Rattle.sound.specs.Walks.{restZero, freeEntry, readEntry, writeEntry, portEntry, timerEntry};
 
-const MOST_READ_BYTES: u16 = limits::MOST_READ_BYTES as u16;
+const BUFFER_SIZE: u16 = limits::BUFFER_BYTES as u16;
 
 // A completed request's status is below the numbers of refusals.
 const LEAST_REFUSAL: u16 = refusals::UNSOUND as u16;
@@ -95,7 +95,7 @@ fn read_entry(
     if segment::get(s, at + layout::ENTRY_UNIT) > 1 {
         return false;
     }
-    if segment::get(s, at + layout::ENTRY_LIMIT) > MOST_READ_BYTES {
+    if segment::get(s, at + layout::ENTRY_LIMIT) > BUFFER_SIZE {
         return false;
     }
     if segment::get(s, at + layout::ENTRY_KEEP) > 1 {
@@ -159,9 +159,9 @@ pub fn queue_entry(
 
 // How much a completed request may have in its buffer: a write has nothing.
 fn most_size(side: u16) -> u16
-    ensures { λ r. ⌜ r ≡ cond (eqb side 1) mostReadBytes 0 ⌝ }
+    ensures { λ r. ⌜ r ≡ cond (eqb side 1) bufferBytes 0 ⌝ }
 {
-    if side == READER { MOST_READ_BYTES } else { 0 }
+    if side == READER { BUFFER_SIZE } else { 0 }
 }
 
 pub fn port_entry(

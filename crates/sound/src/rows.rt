@@ -2,8 +2,9 @@
 use crate::quick;
 use kinds::limits::LEAST_CAPACITY;
 use kinds::limits::MOST_FACTOR;
-use kinds::limits::MOST_WORDS;
 use kinds::limits::PLACES;
+use kinds::limits::ROOM_WORDS;
+use kinds::limits::SHARE_WORDS;
 use kinds::sides::READER;
 use kinds::sides::WRITER;
 use segment::layout;
@@ -47,7 +48,7 @@ pub fn good_geometry(words: u16, factor: u16, blocks: u16) -> bool
     if words < 1 {
         return false;
     }
-    if words > MOST_WORDS {
+    if words > ROOM_WORDS {
         return false;
     }
     if factor < 1 {
@@ -59,7 +60,7 @@ pub fn good_geometry(words: u16, factor: u16, blocks: u16) -> bool
     if factor as u32 * (blocks as u32) < LEAST_CAPACITY {
         return false;
     }
-    geometry::fits_share(words, factor as u8, blocks)
+    geometry::fits_within(words, factor as u8, blocks, SHARE_WORDS)
 }
 
 // A reader's ID is 0, a writer's is 1 at least.

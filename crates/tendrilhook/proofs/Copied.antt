@@ -5,7 +5,7 @@ use mathlib.Core.List.{List}
 use mathlib.Core.Option.{Option}
 use lib.ListN.{length}
 use lib.Seq.{sets}
-use Rattle.rules.specs.Limits.{bufferBytes}
+use Rattle.rules.specs.Limits.{recordRoom}
 use Rattle.rules.specs.Desk.{look, replyBytes}
 use Rattle.midst.specs.Outcome.{replyStatus}
 use Rattle.promises.specs.Promise.{Memories, written, Standing, Seen, replyOf, shown, Promise}
@@ -15,13 +15,13 @@ use Rattle.promises.proofs.Still.{look-behind}
 
 module _ (m : Memories) (f p : ℕ) (memory : List ℕ) where
   -- 29: the record memory has another length
-  pub other-length : (length memory ≡ bufferBytes → ⊥) → Promise m (host.look f p memory) (written 29 0 memory) m
+  pub other-length : (length memory ≡ recordRoom → ⊥) → Promise m (host.look f p memory) (written 29 0 memory) m
   unfolding Promise replyOf shown replyStatus replyBytes
-  other-length h v k = (rw (lent-wrong bufferBytes memory v h), look-behind m v k bufferBytes f p memory)
+  other-length h v k = (rw (lent-wrong recordRoom memory v h), look-behind m v k recordRoom f p memory)
 
-  pub copied : length memory ≡ bufferBytes → (part : List ℕ) → ((v : Option Standing) → Seen (m .segment) (m .blocks) (m .buffers) v → part ≡ replyBytes (replyOf v (look f p)))
+  pub copied : length memory ≡ recordRoom → (part : List ℕ) → ((v : Option Standing) → Seen (m .segment) (m .blocks) (m .buffers) v → part ≡ replyBytes (replyOf v (look f p)))
       → (memory′ : List ℕ) → memory′ ≡ sets memory 0 part → (status : ℕ)
       → ((v : Option Standing) → Seen (m .segment) (m .blocks) (m .buffers) v → status ≡ replyStatus (replyOf v (look f p)))
       → Promise m (host.look f p memory) (written status (length part) memory′) m
   unfolding Promise shown
-  copied h part e memory′ w status i v k = (rw (lent-right bufferBytes memory v h, w, e v k, i v k), look-behind m v k bufferBytes f p memory)
+  copied h part e memory′ w status i v k = (rw (lent-right recordRoom memory v h, w, e v k, i v k), look-behind m v k recordRoom f p memory)

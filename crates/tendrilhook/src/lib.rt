@@ -1,5 +1,5 @@
 // The calls that a host in C makes; include/tendrilhook.h says what they do.
-use kinds::limits::BUFFER_BYTES;
+use kinds::limits::RECORD_ROOM;
 use kinds::refusals;
 ghost use Rattle.promises.specs.Promise.{Promise};
 ghost use Rattle.promises.specs.Promise as host;
@@ -39,7 +39,7 @@ pub extern "C" fn tendrilhook_look<'a>(
 ) -> u8
     ensures { λ r. ⌜ Promise (record { segment = now (segment .entry); blocks = now (blocks .entry); buffers = now (buffers .entry) }) (host.look file reader (now («record» .entry))) (host.written r (now (length .exit)) (now («record» .exit))) (record { segment = now (segment .entry); blocks = now (blocks .entry); buffers = now (buffers .entry) }) ⌝ }
 {
-    if record.len() != BUFFER_BYTES {
+    if record.len() != RECORD_ROOM {
         *length = 0;
         return refusals::UNSOUND;
     }

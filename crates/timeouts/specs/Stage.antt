@@ -4,7 +4,7 @@ use mathlib.Core.Path.{_≡_}
 use mathlib.Core.List.{List}
 use lib.ListN.{length}
 use Rattle.segment.specs.Layout.{rowCount}
-use Rattle.rules.specs.Limits.{files, places, bufferBytes, mostWords}
+use Rattle.rules.specs.Limits.{files, places, bufferBytes, roomWords}
 use Rattle.rules.specs.State.{Built, File, unbuilt, built}
 use Rattle.rules.specs.Time.{due, failAll}
 use Rattle.rules.specs.Desk.{Desk, fileOf}
@@ -22,7 +22,7 @@ use Rattle.midst.specs.Seg.{Seg}
 
 -- a built file
 pub record Steady (b : Built) : Type 0 where
-  pub words : b .geo .words ≤ mostWords
+  pub words : b .geo .words ≤ roomWords
   pub bounds : Bounds b
   pub queues : Agree b
   pub sides : Sides b

@@ -10,7 +10,7 @@ use lib.ListN.{length}
 use lib.Seq.{sets}
 use Rattle.occurrences.specs.Count.{bit}
 use Rattle.kinds.specs.declared.Answer.the-variants.{Read, Status}
-use Rattle.rules.specs.Limits.{entries, bufferBytes, answerHead, mostReadBytes}
+use Rattle.rules.specs.Limits.{entries, bufferBytes, answerHead}
 use Rattle.rules.specs.State.{Rec, Wanted, reading, idle, Acc, Store, Built}
 use Rattle.rules.specs.Store.{fetch, Found}
 use Rattle.rules.specs.Count.{inWords, countBytes, logOf}
@@ -98,7 +98,7 @@ module _ {xs blocks buffers : List ℕ} {d : Desk} {s : Alloc} (S : StandsFor xs
   abbrev F : Found
   F = fetch (b .geo) (a .typed) (a .keep) (b .store)
 
-  read-limit : countBytes n ≤ mostReadBytes
+  read-limit : countBytes n ≤ bufferBytes
   read-limit = readable-bytes n (known .known .count)
 
   pub read-held : (x : hand.File) → x ≡ fileOfRow (fileAt xs f) → Held (x .words) (x .ring) (code.shareAt f blocks)

@@ -8,7 +8,7 @@ use lib.Dec.{eqb}
 use lib.ListN.{length}
 use lib.Seq.{sets}
 use borrow.Author.Tests.{eqb-false}
-use Rattle.rules.specs.Limits.{mostWords, mostFactor}
+use Rattle.rules.specs.Limits.{roomWords, mostFactor}
 use Rattle.rules.specs.State.{Rec, Geo, Store}
 use Rattle.rules.specs.Store.{recordWords, blockBytes, zeroed}
 use Rattle.rules.specs.Store as rules
@@ -54,7 +54,7 @@ module _ (g : Geo) (s : Store) (r : Rec) (o : Sized g) (b : g .factor ≤ mostFa
       (λ e. roomy-first)
       (λ e. roomy-next (let z : (rules.used s % g .factor ≡ 0 → ⊥) = eqb-false (rules.used s % g .factor) 0 e in omega arith)))
 
-pub ready : (g : Geo) (s : Store) (r : Rec) → Sized g → g .words ≤ mostWords → g .factor ≤ mostFactor → recordWords r ≤ g .words + 3 → Holds g s
+pub ready : (g : Geo) (s : Store) (r : Rec) → Sized g → g .words ≤ roomWords → g .factor ≤ mostFactor → recordWords r ≤ g .words + 3 → Holds g s
     → Ready (g .words) (ringOf g s) (s .share) (length (r .body))
 ready g s r o v b w h = record { ranged = ranged g s o h; fitted = fitted g s v b o; roomy = roomy g s r o b w h }
 

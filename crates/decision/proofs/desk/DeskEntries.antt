@@ -11,7 +11,7 @@ use Rattle.words.specs.Word.{zeros}
 use Rattle.words.proofs.Runs.{length-zeros}
 use Rattle.occurrences.specs.Count.{bit}
 use Rattle.occurrences.proofs.Counts.{bit-le}
-use Rattle.rules.specs.Limits.{files, places, mostWords, bufferBytes, mostReadBytes}
+use Rattle.rules.specs.Limits.{files, places, bufferBytes, roomWords}
 use Rattle.rules.specs.State.{Wanted, Offered, Brought, Wrote, Req, idle, reading, writing, readDone, writeDone, Acc, Timer}
 use Rattle.rules.specs.Memories.{lies, buffer}
 use Rattle.segment.specs.Layout.{dataAt, dataWords}
@@ -68,7 +68,7 @@ timer-entry s e t h q = (
 
 -- record buffers
 
-pub lies-short : (words : ℕ) (q : Req) → words ≤ mostWords → Bounded words q → length (lies q) ≤ bufferBytes
+pub lies-short : (words : ℕ) (q : Req) → words ≤ roomWords → Bounded words q → length (lies q) ≤ bufferBytes
 unfolding Bounded lies
 lies-short n idle h b = omega arith
 lies-short n (reading q) h b = omega arith
@@ -94,7 +94,7 @@ module _ (s bufs : List ℕ) (size : length bufs ≡ places * bufferBytes * file
   pub writer-side : a .writer ≡ true → sideAt s i ≡ 2
   writer-side u = some-side s i a r ∙ ap (λ (t : Bool). 1 + bit t) u
 
-  pub read-entry : (f : ℕ) (x : Wanted) → i / places ≡ f → a .req ≡ reading x → x .limit ≤ mostReadBytes → ReadEntry s bufs f e × (placeIn s e ≡ i)
+  pub read-entry : (f : ℕ) (x : Wanted) → i / places ≡ f → a .req ≡ reading x → x .limit ≤ bufferBytes → ReadEntry s bufs f e × (placeIn s e ≡ i)
   unfolding reqWords Fitting lies
   read-entry f x g u b =
       let q : dataOf s e ≡ i ∷ bit (x .words) ∷ x .limit ∷ bit (x .keep) ∷ 0 ∷ 0 ∷ 0 ∷ 0 ∷ 0 ∷ [] = holds ∙ ap (reqWords i) u in
@@ -113,7 +113,7 @@ module _ (s bufs : List ℕ) (size : length bufs ≡ places * bufferBytes * file
         pl,
       )
 
-  pub write-entry : (f words : ℕ) (x : Offered) → i / places ≡ f → a .req ≡ writing x → length (x .bytes) ≤ 2 * words → words ≤ mostWords → fileWord s f 0 ≡ words
+  pub write-entry : (f words : ℕ) (x : Offered) → i / places ≡ f → a .req ≡ writing x → length (x .bytes) ≤ 2 * words → words ≤ roomWords → fileWord s f 0 ≡ words
       → WriteEntry s bufs f e × (placeIn s e ≡ i)
   unfolding reqWords Fitting lies
   write-entry f words x g u b c fw =
@@ -134,7 +134,7 @@ module _ (s bufs : List ℕ) (size : length bufs ≡ places * bufferBytes * file
         pl,
       )
 
-  pub read-done : (x : Brought) → a .req ≡ readDone x → length (x .bytes) ≤ mostReadBytes → x .status < leastRefusal → PortEntry s bufs i e
+  pub read-done : (x : Brought) → a .req ≡ readDone x → length (x .bytes) ≤ bufferBytes → x .status < leastRefusal → PortEntry s bufs i e
   unfolding reqWords Fitting lies
   read-done x u b n =
       let q : dataOf s e ≡ i ∷ 0 ∷ 0 ∷ 0 ∷ x .status ∷ x .log ∷ length (x .bytes) ∷ 0 ∷ 0 ∷ [] = holds ∙ ap (reqWords i) u in

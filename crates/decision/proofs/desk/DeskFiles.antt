@@ -7,8 +7,8 @@ use mathlib.Core.Option.{none}
 use native.Mathlib.Omega.{arith}
 use borrow.Author.Tests.{eq-eqb, le-leb}
 use lib.ListN.{length, getD}
-use Rattle.rules.specs.Limits.{files, places, mostWords, mostFactor, leastCapacity, shareWords}
-use Rattle.rules.specs.Geometry.{capacity, blockSize, within, fitsShare}
+use Rattle.rules.specs.Limits.{files, places, roomWords, mostFactor, leastCapacity, shareWords}
+use Rattle.rules.specs.Geometry.{capacity, blockSize, within}
 use Rattle.rules.specs.State.{Geo, Built, File, unbuilt, built}
 use Rattle.rules.specs.Store.{used}
 use Rattle.rules.specs.Requests.{writers, accAt}
@@ -37,9 +37,9 @@ use Rattle.decision.proofs.desk.DeskRows.{Rowed, place-ok, places-ok, r
 use Rattle.memory.proofs.Segments.{segment-file, segment-place}
 
 good-geo : (g : Geo) → GoodGeo g → goodGeo g ≡ true
-unfolding goodGeo within fitsShare
+unfolding goodGeo within
 good-geo g G =
-    true-and _ _ (true-and _ _ (true-and _ _ (true-and _ _ (le-leb 1 (g .words) (G .words-low)) (le-leb (g .words) mostWords (G .words-high)))
+    true-and _ _ (true-and _ _ (true-and _ _ (true-and _ _ (le-leb 1 (g .words) (G .words-low)) (le-leb (g .words) roomWords (G .words-high)))
     (true-and _ _ (le-leb 1 (g .factor) (G .factor-low)) (le-leb (g .factor) mostFactor (G .factor-high))))
     (le-leb leastCapacity (capacity (g .factor) (g .blocks)) (G .room)))
     (le-leb (g .blocks * blockSize (g .words) (g .factor)) shareWords (G .share))

@@ -9,7 +9,7 @@ use native.Mathlib.Omega.{arith}
 use borrow.Author.Tests.{eq-eqb, eqb-true}
 use lib.Dec.{eqb}
 use lib.ListN.{length, getD, List·getD-eq-default}
-use Rattle.rules.specs.Limits.{files, places, mostWords}
+use Rattle.rules.specs.Limits.{files, places, roomWords}
 use Rattle.rules.specs.State.{File, unbuilt, built}
 use Rattle.rules.specs.Requests.{accAt}
 use Rattle.rules.specs.Desk.{Desk, fileOf}
@@ -70,11 +70,11 @@ module _ (s blocks bufs : List ℕ) (ls : List (List ℕ)) (ok : filesOk s block
             on (inl (u, v)) = omega (arith, u)
             on (inr (u, v)) = omega (arith, u)
 
-    pub small : 1 ≤ sideAt s i → fileWord s (i / places) 0 ≤ mostWords
+    pub small : 1 ≤ sideAt s i → fileWord s (i / places) 0 ≤ roomWords
     unfolding sideAt geoAt
     small k = go (place-at s blocks ok i h)
       where
-        go : ((j : ℕ) → j < placeWidth → placeWord s i j ≡ 0) ⊎ ((sideAt s i ≡ 0 → ⊥) × (builtAt s (i / places) ≡ true) × OpenRow s i) → fileWord s (i / places) 0 ≤ mostWords
+        go : ((j : ℕ) → j < placeWidth → placeWord s i j ≡ 0) ⊎ ((sideAt s i ≡ 0 → ⊥) × (builtAt s (i / places) ≡ true) × OpenRow s i) → fileWord s (i / places) 0 ≤ roomWords
         go (inl z) = absurd (omega (arith, z 0 (omega arith)))
         go (inr (a, b, o)) = built-at s blocks ok (i / places) (omega arith) b .geo .words-high
 

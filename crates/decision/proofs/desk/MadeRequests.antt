@@ -10,7 +10,7 @@ use lib.ListN.{length, getD, take}
 use lib.Seq.{length-take-le}
 use Rattle.words.specs.Word.{zeros}
 use Rattle.occurrences.specs.Count.{bit}
-use Rattle.rules.specs.Limits.{files, places, bufferBytes, mostWords}
+use Rattle.rules.specs.Limits.{files, places, bufferBytes, roomWords}
 use Rattle.rules.specs.State.{Req, idle}
 use Rattle.rules.specs.Memories.{lies}
 use Rattle.rules.specs.Allocation.{Alloc, heldAt, ownEntry, portOf}
@@ -79,7 +79,7 @@ module _ (s bufs : List ℕ) (ls : List (List ℕ)) (i : ℕ) where
   port-is _ (readsDone e f g l r d) a k = ap (λ x. x ∷ []) (k (omega (arith, g))) ∙ sym l
   port-is _ (writesDone e f g l r d) a k = ap (λ x. x ∷ []) (k (omega (arith, g))) ∙ sym l
 
-  module _ (size : length bufs ≡ places * bufferBytes * files) (h : i < files * places) (small : 1 ≤ sideAt s i → fileWord s (i / places) 0 ≤ mostWords) where
+  module _ (size : length bufs ≡ places * bufferBytes * files) (h : i < files * places) (small : 1 ≤ sideAt s i → fileWord s (i / places) 0 ≤ roomWords) where
     took : (n : ℕ) → n ≤ bufferBytes → length (take n (bufferAt i bufs)) ≡ n
     took n k = length-take-le n (bufferAt i bufs) (omega (arith, buffer-long bufs size i h))
 

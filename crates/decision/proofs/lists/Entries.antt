@@ -6,7 +6,7 @@ use mathlib.Core.List.{List}
 use borrow.Author.Tests.{ltb-true, lt-ltb, leb-true, le-leb, eqb-true, eq-eqb}
 use lib.Dec.{eqb}
 use lib.ListN.{getD}
-use Rattle.rules.specs.Limits.{files, places, mostReadBytes}
+use Rattle.rules.specs.Limits.{files, places, bufferBytes}
 use Rattle.rules.proofs.Split.{and-true, true-and}
 use Rattle.laws.specs.Bounds.{leastRefusal}
 use Rattle.sound.specs.Rows.{fileWord, sideAt}
@@ -35,7 +35,7 @@ module _ (s bufs busy : List ℕ) (f e : ℕ) where
           file = eqb-true (placeIn s e / places) f t2;
           side = eqb-true (sideAt s (placeIn s e)) 1 t4;
           unit = leb-true (entryWord s e 1) 1 t5;
-          limit = leb-true (entryWord s e 2) mostReadBytes t6;
+          limit = leb-true (entryWord s e 2) bufferBytes t6;
           keep = leb-true (entryWord s e 3) 1 t7;
           rest = t8;
           buffer = t9;
@@ -51,7 +51,7 @@ module _ (s bufs busy : List ℕ) (f e : ℕ) where
       & eq-eqb (getD busy (placeIn s e) 0) 0 b
       & eq-eqb (sideAt s (placeIn s e)) 1 (r .side)
       & le-leb (entryWord s e 1) 1 (r .unit)
-      & le-leb (entryWord s e 2) mostReadBytes (r .limit)
+      & le-leb (entryWord s e 2) bufferBytes (r .limit)
       & le-leb (entryWord s e 3) 1 (r .keep)
       & r .rest
       & r .buffer
@@ -109,7 +109,7 @@ module _ (s bufs busy : List ℕ) (i e : ℕ) where
           side = leb-true 1 (sideAt s i) t3;
           middle = t4;
           status = ltb-true (entryWord s e 4) leastRefusal t5;
-          size = leb-true (sizeIn s e) (cond (eqb (sideAt s i) 1) mostReadBytes 0) t6;
+          size = leb-true (sizeIn s e) (cond (eqb (sideAt s i) 1) bufferBytes 0) t6;
           rest = t7;
           buffer = t8;
         },
@@ -124,7 +124,7 @@ module _ (s bufs busy : List ℕ) (i e : ℕ) where
       & le-leb 1 (sideAt s i) (r .side)
       & r .middle
       & lt-ltb (entryWord s e 4) leastRefusal (r .status)
-      & le-leb (sizeIn s e) (cond (eqb (sideAt s i) 1) mostReadBytes 0) (r .size)
+      & le-leb (sizeIn s e) (cond (eqb (sideAt s i) 1) bufferBytes 0) (r .size)
       & r .rest
       & r .buffer
 

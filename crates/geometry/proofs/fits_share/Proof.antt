@@ -1,29 +1,14 @@
-use Prim.Native.Nat.{_+_, _*_}
-use native.Mathlib.Omega.{arith}
-use Rattle.rules.specs.Limits.{mostWords, mostFactor}
 use Rattle.rules.specs.Geometry.{fitsShare}
-use Rattle.geometry.proofs.Sizes.{product-most}
 use borrow.Author.Needs.{needs}
 use Rattle.geometry.proofs.fits_share.Statement.{statement}
 use Rattle.geometry.proofs.fits_share.Tie as tie
 
-block-size-requires : tie.Need-block-size-requires
-block-size-requires c κs = search needs
-
-cast-result : tie.Need-cast-result
-cast-result c = search needs
-
-mul-result : tie.Need-mul-result
-mul-result c =
-    omega (
-      arith,
-      product-most (c .before .args .blocks) (c .block-size .result) 65535 ((mostWords + 3) * mostFactor + 2)
-          (omega arith) (omega arith),
-    )
+fits-within-requires : tie.Need-fits-within-requires
+fits-within-requires c κs = search needs
 
 returns : tie.Need-returns
 unfolding fitsShare
-returns c = rw (c .block-size .ensures .0)
+returns c = c .fits-within .ensures
 
 pub fits-share-spec : {M : Type 1} → statement M
-fits-share-spec = tie.close (tie.spec block-size-requires cast-result mul-result returns)
+fits-share-spec = tie.close (tie.spec fits-within-requires returns)

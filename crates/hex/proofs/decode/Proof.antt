@@ -1,6 +1,5 @@
 use mathlib.Core.Path.{sym, _∙_}
 use native.Mathlib.Omega.{arith}
-use Rattle.rules.specs.Limits.{lineBytes}
 use Rattle.hex.proofs.Lines.{line-is, length-bytes, frame-line, frame-none}
 use borrow.Author.Needs.{needs}
 use Rattle.hex.proofs.decode.Statement.{statement}
@@ -11,7 +10,7 @@ is-line-requires c κs = search needs
 
 fill-requires : tie.Need-fill-requires
 fill-requires c κs =
-    let l = line-is lineBytes _ (sym (c .before .before .is-line .ensures) ∙ c .before .if1 .taken) in
+    let l = line-is _ _ (sym (c .before .before .is-line .ensures) ∙ c .before .if1 .taken) in
     (l .2, omega arith)
 
 same-length : tie.Need-same-length
@@ -24,14 +23,14 @@ returns c =
     let start : tie.Start = search in
     let s = start .args .s .now in
     let e = sym (is-line .ensures) ∙ if1 .taken in
-    let l = line-is lineBytes s e in (
-      rw (frame-line _ e) (sym (length-bytes s)),
-      (rw (frame-line _ e) (c .before .before .fill .ensures), omega arith),
+    let l = line-is _ s e in (
+      rw (frame-line _ _ e) (sym (length-bytes s)),
+      (rw (frame-line _ _ e) (c .before .before .fill .ensures), omega arith),
     )
 
 returns-2 : tie.Need-returns-2
 returns-2 c =
-    let e = frame-none _ (sym (c .before .is-line .ensures) ∙ c .if1 .left) in
+    let e = frame-none _ _ (sym (c .before .is-line .ensures) ∙ c .if1 .left) in
     (rw e, (rw e, omega arith))
 
 pub decode-spec : {M : Type 1} → statement M

@@ -1,6 +1,6 @@
 use mathlib.Core.Path.{sym, _∙_}
 use borrow.Author.Tests.{not-true, not-false}
-use Rattle.geometry.proofs.Sizes.{in-range-is}
+use Rattle.geometry.proofs.Sizes.{in-range-fits}
 use Rattle.reader.proofs.Heads.{numbers-range, numbers-share, numbers-held, numbers-room}
 use borrow.Author.Needs.{needs}
 use Rattle.reader.proofs.good_numbers.Statement.{statement}
@@ -14,8 +14,7 @@ returns c = sym (numbers-range _ _ _ _ (sym (c .before .in-range .ensures) ∙ n
 
 fits-share-requires : tie.Need-fits-share-requires
 fits-share-requires c κs =
-    let p = in-range-is _ _ 1 1 (sym (c .before .in-range .ensures) ∙ not-false _ (c .if1 .left)) in
-    (p .0 .1, p .1 .1)
+    in-range-fits _ _ 1 1 (sym (c .before .in-range .ensures) ∙ not-false _ (c .if1 .left))
 
 returns-2 : tie.Need-returns-2
 returns-2 c = sym (numbers-share _ _ _ _ (sym (c .before .fits-share .ensures) ∙ not-true _ (c .if2 .taken)))

@@ -1,5 +1,5 @@
 -- `build_refusal` meets its contract: an answer to each need, in the order of the code.
-use Rattle.geometry.proofs.Sizes.{in-range-is}
+use Rattle.geometry.proofs.Sizes.{in-range-is, in-range-fits}
 use Rattle.refusing.proofs.Tests.{held, failed}
 use Rattle.refusing.specs.Verdicts.{buildRefusal}
 use borrow.Author.Needs.{needs}
@@ -18,8 +18,7 @@ data-blocks-requires c κs = let k = in-range-is _ _ _ _ (held (c .before .in-ra
 
 fits-share-requires : tie.Need-fits-share-requires
 fits-share-requires c κs =
-    let k = in-range-is _ _ _ _ (held (c .before .before .in-range .ensures) (c .before .if1 .left)) in
-    (k .0 .1, k .1 .1)
+    in-range-fits _ _ _ _ (held (c .before .before .in-range .ensures) (c .before .if1 .left))
 
 returns-2 : tie.Need-returns-2
 unfolding buildRefusal

@@ -4,7 +4,7 @@ use mathlib.Core.Bool.{Bool, true, false, false≢true}
 use mathlib.Core.List.{List, [], _∷_, _++_, append-assoc, append-nil}
 use lib.Dec.{eqb}
 use lib.ListN.{length, getD, drop}
-use Rattle.rules.specs.Limits.{bufferBytes, answerRoom}
+use Rattle.rules.specs.Limits.{recordRoom, answerRoom}
 use Rattle.rules.specs.Reply.{Reply, shows}
 use Rattle.rules.specs.Desk.{Call, freshDesk, replies}
 use Rattle.rules.specs.Desk as rules
@@ -27,7 +27,7 @@ callIn (sort.load f text) = rules.load f text
 unfoldable pub right : Sort → Bool
 right made = false
 right (sort.event n frame) = eqb n answerRoom
-right (sort.look f p n) = eqb n bufferBytes
+right (sort.look f p n) = eqb n recordRoom
 right (sort.save f n) = true
 right (sort.load f text) = true
 
@@ -49,12 +49,12 @@ case-of (event memory frame) xs u = go (eqb (length memory) answerRoom) refl u
         → Case (event memory frame) × (unmade xs ≡ true)
     go true e k = (fits e (pick-true (eqb (length memory) answerRoom) _ _ e), k)
     go false e k = (misfits e (pick-false (eqb (length memory) answerRoom) _ _ e), k)
-case-of (look f p memory) xs u = go (eqb (length memory) bufferBytes) refl u
+case-of (look f p memory) xs u = go (eqb (length memory) recordRoom) refl u
   where
-    go : (t : Bool) → eqb (length memory) bufferBytes ≡ t → Rest (elim t as (λ (b : Bool). Meant) [ true ↦ asks (rules.look f p) | false ↦ unfit ]) xs ≡ true
+    go : (t : Bool) → eqb (length memory) recordRoom ≡ t → Rest (elim t as (λ (b : Bool). Meant) [ true ↦ asks (rules.look f p) | false ↦ unfit ]) xs ≡ true
         → Case (look f p memory) × (unmade xs ≡ true)
-    go true e k = (fits e (pick-true (eqb (length memory) bufferBytes) _ _ e), k)
-    go false e k = (misfits e (pick-false (eqb (length memory) bufferBytes) _ _ e), k)
+    go true e k = (fits e (pick-true (eqb (length memory) recordRoom) _ _ e), k)
+    go false e k = (misfits e (pick-false (eqb (length memory) recordRoom) _ _ e), k)
 case-of (save f output) xs u = (fits refl refl, u)
 case-of (load f text) xs u = (fits refl refl, u)
 

@@ -8,7 +8,7 @@ use lib.ListN.{length, getD, take, drop}
 use lib.Seq.{sets}
 use borrow.Author.Tests.{eqb-true}
 use Rattle.words.proofs.Parts.{part-same}
-use Rattle.rules.specs.Limits.{bufferBytes, answerRoom}
+use Rattle.rules.specs.Limits.{answerRoom, recordRoom}
 use Rattle.rules.specs.Answers.{answerBytes}
 use Rattle.rules.specs.Reply.{Reply, shows}
 use Rattle.rules.specs.Desk.{Desk, Call, Asked, bad, asked, respond, replyBytes, replies}
@@ -65,7 +65,7 @@ found-is : (d : Desk) → FineDesk d → (x : HostCall) → right (sortOf x) ≡
 unfolding right sortOf callIn gives foundBy
 found-is d h fresh e = absurd (false≢true e)
 found-is d h (event memory frame) e = answer-found memory _ (omega (arith, event-fits d h frame, eqb-true (length memory) answerRoom e))
-found-is d h (look f p memory) e = shown-found memory _ (omega (arith, look-fits d h f p, eqb-true (length memory) bufferBytes e))
+found-is d h (look f p memory) e = shown-found memory _ (omega (arith, look-fits d h f p, eqb-true (length memory) recordRoom e))
 found-is d h (save f output) e = shown-found output _ (save-fits d f (length output))
 found-is d h (load f text) e = unfold found said givenStatus givenSize givenMemory in refl
 

@@ -11,8 +11,10 @@ ghost use Rattle.rules.specs.Limits.{files, places, bufferBytes};
 ghost use Rattle.words.specs.Word.{quiet};
 ghost use Rattle.sound.specs.Sound.{idleZero};
 
-// A fifth of a buffer.
+// A fifth of a buffer, and what five of them leave of it: nothing, where its bytes can be divided by five.
 const FIFTH: usize = BUFFER_BYTES / 5;
+
+const LEFT: usize = BUFFER_BYTES - 5 * FIFTH;
 
 // Whether five times n bytes from a place on are zero, in five runs side by side, for which the processor need not wait in turn.
 fn quiet_runs(s: &[u8], at: usize, n: usize) -> bool
@@ -30,11 +32,22 @@ fn quiet_runs(s: &[u8], at: usize, n: usize) -> bool
     all == 0
 }
 
+// Whether n buffers from a place on are zero.
+fn quiet_buffers(s: &[u8], at: usize, n: usize) -> bool
+    requires { ⌜ at + bufferBytes * n ≤ length (now s) ⌝ }
+    ensures { λ r. ⌜ (r ≡ true → quiet (now (s .entry)) at (bufferBytes * n) ≡ true) ⌝ }
+{
+    if !quiet_runs(s, at, FIFTH * n) {
+        return false;
+    }
+    words::quiet(s, at + 5 * (FIFTH * n), LEFT * n)
+}
+
 pub fn places_idle(buffers: &[u8], busy: &[u8; layout::DESK_PLACES], i: usize, n: usize) -> bool
     requires { ⌜ (length (now buffers) ≡ places * bufferBytes * files) × (i + n ≤ files * places) ⌝ }
     ensures { λ r. ⌜ r ≡ idleZero (now (buffers .entry)) (now (busy .entry)) i n ⌝ }
 {
-    if quiet_runs(buffers, BUFFER_BYTES * i, FIFTH * n) {
+    if quiet_buffers(buffers, BUFFER_BYTES * i, n) {
         return true;
     }
     idle::places_idle(buffers, busy, i, n)

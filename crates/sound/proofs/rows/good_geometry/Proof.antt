@@ -47,11 +47,11 @@ returns-5 c =
       lt-leb _ _ (c .if5 .taken),
     )
 
-cast-fits-share : tie.Need-cast-fits-share
-cast-fits-share c = search needs
+cast-fits-within : tie.Need-cast-fits-within
+cast-fits-within c = search needs
 
-fits-share-requires : tie.Need-fits-share-requires
-fits-share-requires c κs = search needs
+fits-within-requires : tie.Need-fits-within-requires
+fits-within-requires c κs = search needs
 
 returns-6 : tie.Need-returns-6
 unfolding goodGeo within capacity
@@ -64,7 +64,7 @@ returns-6 c =
       le-leb _ _ (c .before .before .before .if3 .left),
       le-leb _ _ (c .before .before .if4 .left),
       le-leb _ _ (c .before .if5 .left),
-    ) (c .fits-share .ensures)
+    ) (c .fits-within .ensures)
 
 pub good-geometry-spec : {M : Type 1} → statement M
 good-geometry-spec =
@@ -76,6 +76,6 @@ good-geometry-spec =
     returns-4
     mul-if5
     returns-5
-    cast-fits-share
-    fits-share-requires
+    cast-fits-within
+    fits-within-requires
     returns-6)
