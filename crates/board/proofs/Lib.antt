@@ -1,0 +1,6 @@
+pub mod Timers
+pub mod Found
+pub mod Places
+pub mod Files
+pub mod Turns
+pub mod Boards

@@ -1,0 +1,4 @@
+pub mod Requests
+pub mod Board
+pub mod Found
+pub mod Promise

@@ -1,0 +1,184 @@
+// The night board: what a desk holds, who has its files open, who waits and what is not collected, as a text.
+mod requests;
+
+use accessors::sides::count_side;
+use accessors::words_of;
+use kinds::Answer;
+use kinds::limits::FILES;
+use kinds::limits::PLACES;
+use kinds::refusals;
+use kinds::sides::CLOSED;
+use notices::put_accessor;
+use notices::put_geometry;
+use notices::put_held;
+use notices::put_request;
+use requests::request_at;
+use ring::Ring;
+use texts::put_text;
+ghost use mathlib.Core.Path.{_≡_};
+ghost use mathlib.Core.List.{List};
+ghost use Prim.Native.Nat.{ℕ, _+_, _-_, _*_, _≤_, _<_};
+ghost use lib.ListN.{length};
+ghost use Rattle.rules.specs.Limits.{files, places};
+ghost use Rattle.rules.specs.State.{Built, built};
+ghost use Rattle.rules.specs.Desk.{Desk, fileOf};
+ghost use Rattle.rules.specs.Allocation.{Alloc};
+ghost use Rattle.segment.specs.Layout.{segmentBytes};
+ghost use Rattle.memory.specs.Fine.{StandsFor};
+ghost use Rattle.ring.specs.Ring.{Ranged, used};
+ghost use Rattle.midst.specs.FileStands.{FileStands};
+ghost use Rattle.promises.specs.Promise.{written};
+ghost use Rattle.texts.specs.Put.{Put};
+ghost use Rattle.board.specs.Board.{accRoom, fileRoom, boardRoom, fileText, filesText};
+ghost use Rattle.board.specs.Found.{placeTextAt, placesAt, accessorsAt};
+ghost use Rattle.board.specs.Promise.{Stood, Ends, Board};
+
+// Room that every board fits: of a line 80 columns and LF; two lines for an accessor, two for a file.
+const LINE_ROOM: usize = 81;
+
+const FILE_ROOM: usize = 2 * LINE_ROOM + PLACES * (2 * LINE_ROOM);
+
+pub const BOARD_ROOM: usize = FILES * FILE_ROOM;
+
+// As many closed places as a file has.
+const ALL_PLACES: u16 = PLACES as u16;
+
+// The status, and the length of the text.
+pub struct Shown {
+    pub status: u8,
+    pub length: usize,
+}
+
+// The accessor at place p of file f, if one is open there.
+fn put_place(segment: &[u8], out: &mut [u8], at: usize, f: usize, p: usize) -> usize
+    requires { ⌜ (length (now segment) ≡ segmentBytes) × (f < files) × (p < places) × (at + accRoom ≤ length (now out)) ⌝ }
+    ensures { λ r. ⌜ Put accRoom (now (out .entry)) at (placeTextAt (now (segment .entry)) f p) (now (out .exit)) r ⌝ }
+{
+    let row = segment::read_place(segment, PLACES * f + p);
+    let side = row.side;
+    if side == CLOSED {
+        return at;
+    }
+    let request = request_at(segment, f, p, side);
+    let a = put_accessor(out, at, p as u16, row);
+    put_request(out, a, request)
+}
+
+// All its accessors.
+fn put_places(segment: &[u8], out: &mut [u8], at: usize, f: usize) -> usize
+    requires { ⌜ (length (now segment) ≡ segmentBytes) × (f < files) × (at + places * accRoom ≤ length (now out)) ⌝ }
+    ensures { λ r. ⌜ Put (places * accRoom) (now (out .entry)) at (placesAt (now (segment .entry)) f places) (now (out .exit)) r ⌝ }
+{
+    let mut end = at;
+    let mut p = 0;
+    while p < PLACES {
+        end = put_place(segment, out, end, f, p);
+        p += 1;
+    }
+    end
+}
+
+// Or that it has none.
+fn put_accessors(segment: &[u8], out: &mut [u8], at: usize, f: usize) -> usize
+    requires { ⌜ (length (now segment) ≡ segmentBytes) × (f < files) × (at + places * accRoom ≤ length (now out)) ⌝ }
+    ensures { λ r. ⌜ Put (places * accRoom) (now (out .entry)) at (accessorsAt (now (segment .entry)) f) (now (out .exit)) r ⌝ }
+{
+    if count_side(segment, f, CLOSED) == ALL_PLACES {
+        return put_text(out, at, b"  nobody has it open\n");
+    }
+    put_places(segment, out, at, f)
+}
+
+// How many data records more fit: "one place is kept for each close record".
+fn room_left(ring: Ring, writers: u16) -> u16
+    requires { ⌜ Ranged ring × (used ring + writers ≤ ring .factor * ring .blocks) ⌝ }
+    ensures { λ r. ⌜ r ≡ ring .factor * ring .blocks - (used ring + writers) ⌝ }
+{
+    ring.factor * ring.blocks - (ring.used() + writers)
+}
+
+// A file that is built.
+fn put_file(segment: &[u8], blocks: &[u8], out: &mut [u8], at: usize, f: usize) -> usize
+    requires { ⌜ FileStands (now segment) (now blocks) f × (at + fileRoom ≤ length (now out)) ⌝ }
+    ensures { λ r. ⌜ ((buffers : List ℕ) (d : Desk) (s : Alloc) (b : Built) → StandsFor (now (segment .entry)) (now (blocks .entry)) buffers d s → fileOf d f ≡ built b → Put fileRoom (now (out .entry)) at (fileText f (built b)) (now (out .exit)) r) ⌝ }
+{
+    let file = midst::take_file(segment, f);
+    let ring = file.ring;
+    let counts = file_counts::counts(segment, blocks, f);
+    let Answer::Counted {
+        records,
+        all,
+        writers,
+        readers: _,
+    } = counts
+    else {
+        return at;
+    };
+    let room = room_left(ring, writers);
+    let a = put_geometry(out, at, f as u16, file.words, ring.factor, ring.blocks);
+    let b = put_held(out, a, records, all, room);
+    put_accessors(segment, out, b, f)
+}
+
+// File f, where it is built.
+fn put_if_built(segment: &[u8], blocks: &[u8], out: &mut [u8], at: usize, f: usize) -> usize
+    requires { ⌜ Stood (now segment) (now blocks) × (f < files) × (at + fileRoom ≤ length (now out)) ⌝ }
+    ensures bound { λ r. ⌜ r ≤ at + fileRoom ⌝ }
+    ensures text { λ r. ⌜ ((buffers : List ℕ) (d : Desk) (s : Alloc) → StandsFor (now (segment .entry)) (now (blocks .entry)) buffers d s → Put fileRoom (now (out .entry)) at (fileText f (fileOf d f)) (now (out .exit)) r) ⌝ }
+{
+    if words_of(segment, f) == 0 {
+        return at;
+    }
+    put_file(segment, blocks, out, at, f)
+}
+
+// All files.
+fn put_files(segment: &[u8], blocks: &[u8], out: &mut [u8]) -> usize
+    requires { ⌜ Stood (now segment) (now blocks) × (boardRoom ≤ length (now out)) ⌝ }
+    ensures { λ r. ⌜ ((buffers : List ℕ) (d : Desk) (s : Alloc) → StandsFor (now (segment .entry)) (now (blocks .entry)) buffers d s → Put boardRoom (now (out .entry)) 0 (filesText d files) (now (out .exit)) r) ⌝ }
+{
+    let mut end = 0;
+    let mut f = 0;
+    while f < FILES {
+        end = put_if_built(segment, blocks, out, end, f);
+        f += 1;
+    }
+    end
+}
+
+// Where nothing was put: that no file is built.
+fn put_nothing(out: &mut [u8], at: usize) -> usize
+    requires { ⌜ boardRoom ≤ length (now out) ⌝ }
+    ensures { λ r. ⌜ Ends (now (out .entry)) at (now (out .exit)) r ⌝ }
+{
+    if at == 0 {
+        return put_text(out, 0, b"no file is built\n");
+    }
+    at
+}
+
+fn refused(status: u8) -> Shown
+    ensures { λ r. ⌜ (r .status ≡ status) × (r .length ≡ 0) ⌝ }
+{
+    Shown { status, length: 0 }
+}
+
+// The board, from the first byte of the output on. 29: a memory of the wrong length, or unsound; 44: output shorter than BOARD_ROOM. Then nothing
+// is written.
+pub fn board(segment: &[u8], blocks: &[u8], buffers: &[u8], out: &mut [u8]) -> Shown
+    ensures board { λ r. ⌜ Board (now (segment .entry)) (now (blocks .entry)) (now (buffers .entry)) (now (out .entry)) (written (r .status) (r .length) (now (out .exit))) ⌝ }
+    ensures fits { λ r. ⌜ r .length ≤ length (now (out .entry)) ⌝ }
+{
+    if !sound::sound(segment, blocks, buffers) {
+        return refused(refusals::UNSOUND);
+    }
+    if out.len() < BOARD_ROOM {
+        return refused(refusals::SHORT);
+    }
+    let n = put_files(segment, blocks, out);
+    let length = put_nothing(out, n);
+    Shown {
+        status: refusals::NONE,
+        length,
+    }
+}

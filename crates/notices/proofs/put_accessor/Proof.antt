@@ -1,0 +1,27 @@
+use Rattle.texts.proofs.Runs.{_then_}
+use Rattle.notices.specs.Lines.{accessorLine, rowLine}
+use borrow.Author.Needs.{needs}
+use Rattle.notices.proofs.put_accessor.Statement.{statement}
+use Rattle.notices.proofs.put_accessor.Tie as tie
+
+put-who-requires : tie.Need-put-who-requires
+put-who-requires c κs = search needs
+
+put-settings-requires : tie.Need-put-settings-requires
+put-settings-requires c κs = search needs
+
+same-length : tie.Need-same-length
+same-length c = search needs
+
+returns : tie.Need-returns
+unfolding rowLine accessorLine
+returns c = let s0 : tie.After-put-who = search in let s1 : tie.After-put-settings = search in s0 .put-who .ensures then s1 .put-settings .ensures
+
+pub put-accessor-spec : {M : Type 1} → statement M
+put-accessor-spec =
+    tie.close
+    (tie.spec
+    put-who-requires
+    put-settings-requires
+    same-length
+    returns)

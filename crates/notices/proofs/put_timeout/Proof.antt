@@ -1,0 +1,47 @@
+use Rattle.notices.specs.Lines.{timeoutText}
+use Rattle.texts.specs.Spell.{spell}
+use Rattle.texts.proofs.Runs.{_then_, put-none, put-within}
+use borrow.Author.Tests.{eq-eqb, ne-eqb}
+use native.Mathlib.Omega.{arith}
+use borrow.Author.Needs.{needs}
+use Rattle.notices.proofs.put_timeout.Statement.{statement}
+use Rattle.notices.proofs.put_timeout.Tie as tie
+
+returns : tie.Need-returns
+unfolding timeoutText
+returns c = rw (eq-eqb _ _ (c .if1 .taken)) (put-none 17)
+
+slice-aggregate-put-text : tie.Need-slice-aggregate-put-text
+slice-aggregate-put-text c = search needs
+
+put-text-requires : tie.Need-put-text-requires
+put-text-requires c κs = search needs
+
+put-number-requires : tie.Need-put-number-requires
+put-number-requires c κs = search needs
+
+slice-aggregate-put-text-2 : tie.Need-slice-aggregate-put-text-2
+slice-aggregate-put-text-2 c = search needs
+
+put-text-requires-2 : tie.Need-put-text-requires-2
+put-text-requires-2 c κs = search needs
+
+same-length : tie.Need-same-length
+same-length c = search needs
+
+returns-2 : tie.Need-returns-2
+unfolding timeoutText spell
+returns-2 c = let here : tie.Else1 = search in let s0 : tie.After-put-text = search in let s1 : tie.After-put-number = search in let s2 : tie.After-put-text2 = search in rw (ne-eqb _ _ (here .if1 .left)) (s0 .put-text .ensures then s1 .put-number .ensures then s2 .put-text2 .ensures)
+
+pub put-timeout-spec : {M : Type 1} → statement M
+put-timeout-spec =
+    tie.close
+    (tie.spec
+    returns
+    slice-aggregate-put-text
+    put-text-requires
+    put-number-requires
+    slice-aggregate-put-text-2
+    put-text-requires-2
+    same-length
+    returns-2)

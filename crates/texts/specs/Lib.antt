@@ -1,0 +1,3 @@
+pub mod Spell
+pub mod Numbers
+pub mod Put
