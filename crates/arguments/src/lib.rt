@@ -15,6 +15,12 @@ pub struct Named {
     pub size: usize,
 }
 
+// Whether a file could be opened, and how many of its bytes were read.
+pub struct Bytes {
+    pub found: bool,
+    pub size: usize,
+}
+
 // A line on standard error: what is wrong, and the refusal number.
 pub fn refused(why: &[u8], number: u8) {
     io::write_all(STDERR_FILENO, why);
@@ -50,23 +56,37 @@ fn nothing() -> Named
     }
 }
 
-// The bytes of the sheet that the second argument names, as many as there is room for.
-fn sheet_named(file: usize, text: &mut [u8]) -> Named
+// The bytes of the file that an argument names, as many as there is room for. Where it cannot be opened that is told.
+pub fn bytes_named(word: usize, text: &mut [u8]) -> Bytes
     ensures { λ r. ⌜ r .size ≤ length (now (text .entry)) ⌝ }
 {
     let mut path = io::buffer();
-    let n = os::arg(2, &mut path);
+    let n = os::arg(word, &mut path);
     let fd = os::open_read(&path[..n]);
     if fd < 0 {
         os::fail(&path[..n]);
-        return nothing();
+        return Bytes {
+            found: false,
+            size: 0,
+        };
     }
     let size = io::read_full(fd, text);
     libc::close(fd);
+    Bytes { found: true, size }
+}
+
+// The bytes of the sheet that the second argument names.
+fn sheet_named(file: usize, text: &mut [u8]) -> Named
+    ensures { λ r. ⌜ r .size ≤ length (now (text .entry)) ⌝ }
+{
+    let bytes = bytes_named(2, text);
+    if !bytes.found {
+        return nothing();
+    }
     Named {
         file,
         sheet: true,
-        size,
+        size: bytes.size,
     }
 }
 

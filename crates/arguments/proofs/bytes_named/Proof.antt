@@ -1,7 +1,7 @@
 use native.Mathlib.Omega.{arith}
 use borrow.Author.Needs.{needs}
-use Rattle.arguments.proofs.sheet_named.Statement.{statement}
-use Rattle.arguments.proofs.sheet_named.Tie as tie
+use Rattle.arguments.proofs.bytes_named.Statement.{statement}
+use Rattle.arguments.proofs.bytes_named.Tie as tie
 
 buffer-requires : tie.Need-buffer-requires
 buffer-requires c κs = search needs
@@ -30,11 +30,8 @@ slice-aggregate-fail c = search needs
 fail-requires : tie.Need-fail-requires
 fail-requires c κs = search needs
 
-nothing-requires : tie.Need-nothing-requires
-nothing-requires c κs = search needs
-
 returns : tie.Need-returns
-returns c = omega (arith, c .nothing .ensures)
+returns c = search needs
 
 read-full-requires : tie.Need-read-full-requires
 read-full-requires c κs = search needs
@@ -46,10 +43,10 @@ same-length : tie.Need-same-length
 same-length c = search needs
 
 returns-2 : tie.Need-returns-2
-returns-2 c = omega (arith, c .before .before .before .read-full .ensures .0)
+returns-2 c = let here : tie.After-read-full = search in omega (arith, here .read-full .ensures .0)
 
-pub sheet-named-spec : {M : Type 1} → statement M
-sheet-named-spec =
+pub bytes-named-spec : {M : Type 1} → statement M
+bytes-named-spec =
     tie.close
     (tie.spec
     buffer-requires
@@ -61,7 +58,6 @@ sheet-named-spec =
     array-share-prefix-path-2
     slice-aggregate-fail
     fail-requires
-    nothing-requires
     returns
     read-full-requires
     close-requires
