@@ -1,15 +1,14 @@
 -- What the board comes to, by the way out; and two results that keep its promise are equal.
 use Prim.Native.Nat.{ℕ, _≤_, _<_}
-use mathlib.Core.Path.{_≡_, refl, sym, ap, _∙_}
+use mathlib.Core.Path.{_≡_, refl, sym, _∙_}
 use mathlib.Core.Bool.{true, false}
 use mathlib.Core.List.{List}
-use mathlib.Core.Option.{Option}
 use native.Mathlib.Omega.{arith}
 use borrow.Author.Tests.{lt-ltb, le-ltb}
 use lib.ListN.{length}
 use Rattle.words.specs.Word.{Bytes}
 use Rattle.rules.specs.Limits.{files}
-use Rattle.rules.specs.State.{Built, unbuilt, built}
+use Rattle.rules.specs.State.{Built, built}
 use Rattle.rules.specs.Desk.{Desk, fileOf}
 use Rattle.rules.specs.Allocation.{Alloc}
 use Rattle.memory.specs.Fine.{StandsFor}
@@ -18,7 +17,7 @@ use Rattle.decision.proofs.desk.Both.{sound-stands}
 use Rattle.accessors.specs.Accessors.{wordsAt}
 use Rattle.accessors.proofs.Names.{is-built, not-built}
 use Rattle.midst.specs.FileStands.{FileStands}
-use Rattle.promises.specs.Promise.{Given, written, Standing, Seen}
+use Rattle.promises.specs.Promise.{Given, written}
 use Rattle.promises.proofs.Seen.{sees, seen-none, seen-some}
 use Rattle.texts.specs.Put.{Put}
 use Rattle.texts.proofs.Runs.{put-none}

@@ -1,8 +1,7 @@
 -- What is put of a file is what the rules have of it.
 use Prim.Native.Nat.{ℕ, _+_, _-_, _*_, _≤_, _<_}
-use mathlib.Core.Path.{_≡_, refl, sym, ap, _∙_}
+use mathlib.Core.Path.{_≡_, sym, ap, _∙_}
 use mathlib.Core.List.{List, [], _∷_, _++_}
-use native.Mathlib.Omega.{arith}
 use types.Run.{OneOf, miss}
 use denote.Enum.Declared.{tagOf}
 use lib.ListN.{length}
@@ -12,7 +11,7 @@ use Rattle.kinds.specs.declared.Answer.the-variants.{Counted}
 use Rattle.rules.specs.Limits.{files, mostWords}
 use Rattle.rules.specs.State.{Built, built}
 use Rattle.rules.specs.Geometry.{capacity}
-use Rattle.rules.specs.Reply.{Reply, answers, Out, leaves, answering}
+use Rattle.rules.specs.Reply.{answers, Out, leaves, answering}
 use Rattle.rules.specs.Counts.{dataCount, counts}
 use Rattle.rules.specs.Requests.{writers, readers, capacityOf}
 use Rattle.rules.specs.Store as rules
@@ -25,7 +24,6 @@ use Rattle.ring.proofs.Stores.{ranged}
 use Rattle.memory.specs.Fine.{StandsFor}
 use Rattle.midst.specs.declared.File as hand
 use Rattle.midst.specs.File.{fileOfRow}
-use Rattle.midst.specs.FileStands.{FileStands}
 use Rattle.midst.proofs.FileStands.{row-is, room}
 use Rattle.notices.specs.Lines.{geometryLine, heldLine}
 use Rattle.board.specs.Board.{roomLeft, fileText}

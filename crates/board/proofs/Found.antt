@@ -1,10 +1,10 @@
 -- What the lists of a segment that stands for a desk show of a request is what the rules have of it.
-use Prim.Native.Nat.{ℕ, zero, suc, _+_, _*_, _≤_, _<_}
+use Prim.Native.Nat.{ℕ, _+_, _*_, _≤_, _<_}
 use mathlib.Core.Path.{_≡_, refl, sym, ap, _∙_}
-use mathlib.Core.Logic.{_⊎_, inl, inr}
+use mathlib.Core.Logic.{inl, inr}
 use mathlib.Core.Bool.{Bool, true, false, cond, false≢true}
 use mathlib.Core.List.{List, [], _∷_, map}
-use mathlib.Core.Option.{Option, none, some}
+use mathlib.Core.Option.{Option, some}
 use native.Mathlib.Omega.{arith}
 use native.Mathlib.Decide.{ℕ-discrete}
 use borrow.Author.Tests.{lt-ltb, le-ltb, eq-eqb, ne-eqb}
@@ -17,8 +17,7 @@ use Rattle.rules.specs.State.{Wanted, Offered, Req, idle, reading, writing, rea
 use Rattle.rules.specs.Requests.{accAt}
 use Rattle.rules.specs.Desk.{Desk, fileOf}
 use Rattle.rules.specs.Allocation.{Alloc, placeOf}
-use Rattle.laws.specs.Outstanding.{reqAt, waitsRead, waitsWrite, awaits, reqOf}
-use Rattle.laws.specs.Runs.{OnFile}
+use Rattle.laws.specs.Outstanding.{waitsRead, waitsWrite, awaits, reqOf}
 use Rattle.laws.specs.Queues.{Agree}
 use Rattle.laws.specs.Sides.{Fitting}
 use Rattle.laws.specs.Entries.{timersOf}
@@ -34,23 +33,20 @@ use Rattle.ports.proofs.Boxes.{length-box, data-box, slot-box, end-box, seek-bo
 use Rattle.ports.proofs.Index.{index-map}
 use Rattle.ports.proofs.Maps.{map-at}
 use Rattle.memory.specs.Image.{accOf, reqWords, timerWords, queueWords, portWords, rqOf, wqOf, listsOf, boxesOf, rowsOf}
-use Rattle.memory.specs.Fine.{Fine, StandsFor}
+use Rattle.memory.specs.Fine.{StandsFor}
 use Rattle.memory.proofs.Image.{placeAcc-at, boxOf-read, boxOf-write, boxOf-port, boxOf-timers}
 use Rattle.memory.proofs.Boxes.{getD-boxesOf, segment-boxes}
 use Rattle.memory.proofs.Once.{agreed-once}
 use Rattle.midst.proofs.Begins.{fine-agree}
+use Rattle.midst.proofs.Terms.{words-place}
 use Rattle.midst.proofs.Cuts.{index-alike, place-in, place-at}
-use Rattle.accessors.specs.declared.outstanding.Outstanding.{Outstanding}
-use Rattle.accessors.specs.declared.outstanding.Outstanding.the-variants.{Nothing, Waiting, Completed}
+use Rattle.kinds.specs.declared.Outstanding.the-variants.{Nothing, Waiting, Completed}
 use Rattle.accessors.specs.Sides.{sideOf}
 use Rattle.accessors.specs.Outstanding.{queueOf, outstandingAt, outstandingOf}
 use Rattle.accessors.proofs.Waits.{fine-at, outstanding-is}
-use Rattle.notices.specs.declared.Left.{Left}
-use Rattle.notices.specs.declared.Left.the-variants.{Untimed, Seconds}
-use Rattle.notices.specs.declared.Request.{Request}
-use Rattle.notices.specs.declared.Request.the-variants.{Idle, Reads, Writes, HasRead, HasWritten}
+use Rattle.notices.specs.declared.Left.the-variants.{Seconds}
 use Rattle.board.specs.Requests.{leftOf, isFirst, requestOf}
-use Rattle.board.specs.Found.{foundAt, leftIn, leftAt, firstIn, firstAt, waitingIn, waitingAt, completedIn, requestAt}
+use Rattle.board.specs.Found.{foundAt, leftIn, leftAt, firstIn, firstAt, waitingIn, completedIn, requestAt}
 use Rattle.board.proofs.Timers.{Timed, timed, left-sieve}
 
 same-place : (f x p : ℕ) → eqb (places * f + x) (places * f + p) ≡ eqb x p
@@ -59,15 +55,6 @@ same-place f x p = go (ℕ-discrete x p)
     go : Dec (x ≡ p) → eqb (places * f + x) (places * f + p) ≡ eqb x p
     go (yes e) = eq-eqb (places * f + x) (places * f + p) (omega arith) ∙ sym (eq-eqb x p e)
     go (no e) = ne-eqb (places * f + x) (places * f + p) (λ z. e (omega arith)) ∙ sym (ne-eqb x p e)
-
--- the first word of a waiting request's entry is its place
-first-word : (i : ℕ) (q : Req) → 1 ≤ awaits q → getD (reqWords i q) 0 0 ≡ i
-unfolding waitsRead waitsWrite reqWords
-first-word i idle h = absurd (omega arith)
-first-word i (reading w l k) h = refl
-first-word i (writing w d) h = refl
-first-word i (readDone st l d) h = absurd (omega arith)
-first-word i (writeDone st l) h = absurd (omega arith)
 
 -- the two tests of what is outstanding, by what they came to
 
@@ -163,7 +150,7 @@ module _ {xs blocks buffers : List ℕ} {d : Desk} {s : Alloc} (S : StandsFor xs
       index-is : (p : ℕ) → index (has 0 (places * f + p)) (map F q) ≡ index (λ x. eqb x p) q
       index-is p =
           index-map (has 0 (places * f + p)) F q
-          ∙ index-alike (λ x. eqb (getD (F x) 0 0) (places * f + p)) (λ x. eqb x p) q (λ x k. rw (first-word (places * f + x) (reqOf (accAt b x)) (w x k)) (same-place f x p))
+          ∙ index-alike (λ x. eqb (getD (F x) 0 0) (places * f + p)) (λ x. eqb x p) q (λ x k. rw (words-place (places * f + x) (reqOf (accAt b x)) (w x k)) (same-place f x p))
 
       queue-entry : (p : ℕ) → count p q ≡ 1 → entryAt xs (foundAt xs l (places * f + p)) ≡ entryOf (F p)
       unfolding entryAt
@@ -183,7 +170,7 @@ module _ {xs blocks buffers : List ℕ} {d : Desk} {s : Alloc} (S : StandsFor xs
               let z = head-in l h (F x ∷ map F r) k (omega arith) in
               rw (lt-ltb (nth xs l) entries (z .0))
               (ap (λ (m : List ℕ). bit (eqb (getD m 0 0) (places * f + p))) (z .1)
-              ∙ ap (λ (n : ℕ). bit (eqb n (places * f + p))) (first-word (places * f + x) (reqOf (accAt b x)) (v x (count-head x r)))
+              ∙ ap (λ (n : ℕ). bit (eqb n (places * f + p))) (words-place (places * f + x) (reqOf (accAt b x)) (v x (count-head x r)))
               ∙ ap bit (same-place f x p))
 
     agree : Agree b

@@ -1,32 +1,28 @@
 -- What is put of a file's places is what the rules have of its accessors.
 use Prim.Native.Nat.{ℕ, zero, suc, _+_, _*_, _≤_, _<_}
-use mathlib.Core.Path.{_≡_, refl, sym, ap, _∙_}
+use mathlib.Core.Path.{_≡_, refl, ap, _∙_}
 use mathlib.Core.Bool.{Bool, true, false, cond}
-use mathlib.Core.List.{List, [], _∷_, _++_}
+use mathlib.Core.List.{List}
 use mathlib.Core.Option.{Option, none, some}
 use native.Mathlib.Omega.{arith}
 use native.Mathlib.Decide.{ℕ-discrete}
 use borrow.Author.Tests.{eq-eqb, ne-eqb}
 use lib.Dec.{eqb}
-use lib.ListN.{length}
 use Rattle.occurrences.specs.Count.{bit}
 use Rattle.rules.specs.Limits.{files, places}
 use Rattle.rules.specs.State.{Acc, Built, built}
 use Rattle.rules.specs.Requests.{accAt, opened}
 use Rattle.rules.specs.Desk.{Desk, fileOf}
 use Rattle.rules.specs.Allocation.{Alloc, placeOf}
-use Rattle.rules.proofs.Split.{pick-true, pick-false}
-use Rattle.segment.specs.declared.PlaceRow.{PlaceRow}
 use Rattle.segment.specs.Fields.{placeAt, placeRowOf}
 use Rattle.memory.specs.Image.{placeWords}
 use Rattle.memory.specs.Fine.{StandsFor}
-use Rattle.accessors.specs.Sides.{sideOf, countSide, purgesAt}
+use Rattle.accessors.specs.Sides.{sideOf, purgesAt}
 use Rattle.accessors.proofs.Counted.{purges-is}
 use Rattle.accessors.proofs.Stood.{shown}
-use Rattle.notices.specs.Lines.{nobodyLine, accessorLine, requestLine, rowLine}
-use Rattle.board.specs.Requests.{requestOf}
+use Rattle.notices.specs.Lines.{nobodyLine, accessorLine, rowLine}
 use Rattle.board.specs.Board.{accText, placesText, accessorsText}
-use Rattle.board.specs.Found.{requestAt, rowText, placeTextAt, placesAt, accessorsAt}
+use Rattle.board.specs.Found.{rowText, placeTextAt, placesAt, accessorsAt}
 use Rattle.board.proofs.Found.{request-is}
 
 writes-two : (t : Bool) → eqb (1 + bit t) 2 ≡ t

@@ -1,8 +1,8 @@
 -- What is left of a timeout: among the desk's timers, and among those of its file.
-use Prim.Native.Nat.{ℕ, zero, suc, _+_, _*_, _/_, _%_, _<_}
+use Prim.Native.Nat.{ℕ, suc, _+_, _*_, _/_, _%_, _<_}
 use mathlib.Core.Path.{_≡_, refl, sym, ap, _∙_}
 use mathlib.Core.Logic.{_⊎_, inl, inr}
-use mathlib.Core.Bool.{Bool, true, false, cond}
+use mathlib.Core.Bool.{false, cond}
 use mathlib.Core.List.{List, [], _∷_}
 use native.Mathlib.Omega.{arith}
 use native.Mathlib.Decide.{ℕ-discrete}
@@ -14,7 +14,6 @@ use Rattle.rules.specs.State.{Timer}
 use Rattle.rules.proofs.Split.{by-cases}
 use Rattle.laws.specs.Entries.{local, sieve}
 use Rattle.ports.specs.Index.{index}
-use Rattle.notices.specs.declared.Left.{Left}
 use Rattle.notices.specs.declared.Left.the-variants.{Untimed, Seconds}
 use Rattle.board.specs.Requests.{leftOf}
 

@@ -94,7 +94,9 @@ fn room_left(ring: Ring, writers: u16) -> u16
     requires { ⌜ Ranged ring × (used ring + writers ≤ ring .factor * ring .blocks) ⌝ }
     ensures { λ r. ⌜ r ≡ ring .factor * ring .blocks - (used ring + writers) ⌝ }
 {
-    ring.factor * ring.blocks - (ring.used() + writers)
+    let room = ring.factor * ring.blocks;
+    let kept = ring.used() + writers;
+    room - kept
 }
 
 // A file that is built.

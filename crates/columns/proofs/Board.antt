@@ -2,7 +2,7 @@
 use Prim.Native.Nat.{ℕ, zero, suc}
 use mathlib.Core.Path.{_≡_, refl, sym, ap, _∙_}
 use mathlib.Core.Bool.{true}
-use mathlib.Core.List.{List, [], _∷_, _++_, append-nil}
+use mathlib.Core.List.{List, [], _∷_, append-nil}
 use mathlib.Core.Option.{Option, none, some}
 use native.Mathlib.Omega.{arith}
 use lib.Dec.{eqb}
@@ -14,7 +14,7 @@ use Rattle.rules.specs.Counts.{dataCount}
 use Rattle.rules.specs.Desk.{Desk, fileOf}
 use Rattle.rules.proofs.Split.{both}
 use Rattle.texts.specs.Spell.{spell}
-use Rattle.notices.specs.Lines.{lf, accessorLine}
+use Rattle.notices.specs.Lines.{lf}
 use Rattle.board.specs.Requests.{requestOf}
 use Rattle.board.specs.Board.{roomLeft, accText, placesText, accessorsText, fileText, filesText, orNothing, boardText}
 use Rattle.columns.specs.Columns.{narrow}

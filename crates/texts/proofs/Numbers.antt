@@ -1,13 +1,13 @@
 -- A number's digits, as they are put; how long a number and a counted noun are.
 use Prim.Native.Nat.{ℕ, _+_, _-_, _/_, _%_, _≤_}
-use mathlib.Core.Path.{_≡_, refl, sym, ap, _∙_}
+use mathlib.Core.Path.{_≡_, _∙_}
 use mathlib.Core.List.{List, [], _∷_}
 use native.Mathlib.Omega.{arith}
 use lib.ListN.{length, take, drop, length-drop}
 use lib.Seq.{take-all}
 use Rattle.texts.specs.Numbers.{mostDigits, fiveDigits, leading, decimal}
 use Rattle.texts.specs.Put.{Put}
-use Rattle.texts.proofs.Runs.{put-within, put-as}
+use Rattle.texts.proofs.Runs.{put-as}
 
 pub decimal-short : (n : ℕ) → length (decimal n) ≤ mostDigits
 unfolding decimal fiveDigits

@@ -23,7 +23,7 @@ decimal n = drop (leading n) (fiveDigits n)
 unfoldable pub oneDigit : ℕ → List ℕ
 oneDigit n = (48 + n) ∷ []
 
--- "1 record", "2 records": the noun has an s unless there is one
+-- `1 record`, `2 records`: the noun has an s unless there is one
 unfoldable pub ending : ℕ → List ℕ
 ending n = cond (eqb n 1) [] (115 ∷ [])
 

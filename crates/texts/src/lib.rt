@@ -94,7 +94,7 @@ fn put_ending(out: &mut [u8], at: usize, n: u16) -> usize
     put_text(out, at, b"s")
 }
 
-// "1 record", "2 records": the noun is lent with the space before it.
+// `1 record`, `2 records`: the noun is lent with the space before it.
 pub fn put_counted(out: &mut [u8], at: usize, n: u16, noun: &[u8]) -> usize
     requires { ⌜ at + (mostDigits + (length (now noun) + 1)) ≤ length (now out) ⌝ }
     ensures { λ r. ⌜ Put (mostDigits + (length (now (noun .entry)) + 1)) (now (out .entry)) at (counted n (now (noun .entry))) (now (out .exit)) r ⌝ }

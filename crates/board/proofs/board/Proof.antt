@@ -14,17 +14,31 @@ refused-requires : tie.Need-refused-requires
 refused-requires c κs = search needs
 
 returns : tie.Need-returns
-returns c = let test : tie.After-sound = search in let one : tie.Then1 = search in (rw (c .refused .ensures .0, c .refused .ensures .1) (board-unsound _ _ _ _ (sym (test .sound .ensures) ∙ not-true _ (one .if1 .taken))), omega (arith, c .refused .ensures .1))
+returns c =
+    let test : tie.After-sound = search in
+    let one : tie.Then1 = search in
+    (rw (c .refused .ensures .0, c .refused .ensures .1) (board-unsound _ _ _ _ (sym (test .sound .ensures) ∙ not-true _ (one .if1 .taken))), omega (arith, c .refused .ensures .1))
 
 refused-requires-2 : tie.Need-refused-requires-2
 refused-requires-2 c κs = search needs
 
 returns-2 : tie.Need-returns-2
-returns-2 c = let test : tie.After-sound = search in let one : tie.Else1 = search in let two : tie.Then2 = search in (rw (c .refused2 .ensures .0, c .refused2 .ensures .1) (board-short _ _ _ _ (sym (test .sound .ensures) ∙ not-false _ (one .if1 .left)) (two .if2 .taken)), omega (arith, c .refused2 .ensures .1))
+returns-2 c =
+    let test : tie.After-sound = search in
+    let one : tie.Else1 = search in
+    let two : tie.Then2 = search in
+    (rw (c .refused2 .ensures .0, c .refused2 .ensures .1) (board-short _ _ _ _ (sym (test .sound .ensures) ∙ not-false _ (one .if1 .left)) (two .if2 .taken)), omega (arith, c .refused2 .ensures .1))
 
 put-files-requires : tie.Need-put-files-requires
 unfolding Bytes
-put-files-requires c κs = let test : tie.After-sound = search in let one : tie.Else1 = search in let two : tie.Else2 = search in let known : tie.After-shared-slice-known = search in let known2 : tie.After-shared-slice-known2 = search in let known3 : tie.After-shared-slice-known3 = search in (board-stood _ _ _ (sym (test .sound .ensures) ∙ not-false _ (one .if1 .left)) (λ i. known .shared-slice-known .given i .fits) (λ i. known2 .shared-slice-known2 .given i .fits) (λ i. known3 .shared-slice-known3 .given i .fits), two .if2 .left)
+put-files-requires c κs =
+    let test : tie.After-sound = search in
+    let one : tie.Else1 = search in
+    let two : tie.Else2 = search in
+    let known : tie.After-shared-slice-known = search in
+    let known2 : tie.After-shared-slice-known2 = search in
+    let known3 : tie.After-shared-slice-known3 = search in
+    (board-stood _ _ _ (sym (test .sound .ensures) ∙ not-false _ (one .if1 .left)) (λ i. known .shared-slice-known .given i .fits) (λ i. known2 .shared-slice-known2 .given i .fits) (λ i. known3 .shared-slice-known3 .given i .fits), two .if2 .left)
 
 put-nothing-requires : tie.Need-put-nothing-requires
 put-nothing-requires c κs = search needs
@@ -35,7 +49,15 @@ same-length c = search needs
 returns-3 : tie.Need-returns-3
 unfolding Bytes
 returns-3 c =
-    let start : tie.Start = search in let test : tie.After-sound = search in let one : tie.Else1 = search in let two : tie.Else2 = search in let files : tie.After-put-files = search in let end : tie.After-put-nothing = search in let known : tie.After-shared-slice-known = search in let known2 : tie.After-shared-slice-known2 = search in let known3 : tie.After-shared-slice-known3 = search in
+    let start : tie.Start = search in
+    let test : tie.After-sound = search in
+    let one : tie.Else1 = search in
+    let two : tie.Else2 = search in
+    let files : tie.After-put-files = search in
+    let end : tie.After-put-nothing = search in
+    let known : tie.After-shared-slice-known = search in
+    let known2 : tie.After-shared-slice-known2 = search in
+    let known3 : tie.After-shared-slice-known3 = search in
     let t = sym (test .sound .ensures) ∙ not-false _ (one .if1 .left) in (
       board-shown _ _ _ _ t (two .if2 .left) _ _ _ _ (files .put-files .ensures) (end .put-nothing .ensures),
       board-low _ _ _ _ t (λ i. known .shared-slice-known .given i .fits) (λ i. known2 .shared-slice-known2 .given i .fits) (λ i. known3 .shared-slice-known3 .given i .fits) (two .if2 .left) _ _ _ _ (files .put-files .ensures) (end .put-nothing .ensures),

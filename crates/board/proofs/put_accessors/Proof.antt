@@ -22,7 +22,11 @@ same-length c = search needs
 
 returns : tie.Need-returns
 unfolding accessorsAt nobodyLine spell
-returns c = let counted : tie.After-count-side = search in let one : tie.Then1 = search in let put : tie.After-put-text = search in rw (← counted .count-side .ensures .0, eq-eqb _ _ (one .if1 .taken)) (put-within _ (omega arith) (put .put-text .ensures))
+returns c =
+    let counted : tie.After-count-side = search in
+    let one : tie.Then1 = search in
+    let put : tie.After-put-text = search in
+    rw (← counted .count-side .ensures .0, eq-eqb _ _ (one .if1 .taken)) (put-within _ (omega arith) (put .put-text .ensures))
 
 put-places-requires : tie.Need-put-places-requires
 put-places-requires c κs = search needs
@@ -32,7 +36,11 @@ same-length-2 c = search needs
 
 returns-2 : tie.Need-returns-2
 unfolding accessorsAt
-returns-2 c = let counted : tie.After-count-side = search in let one : tie.Else1 = search in let put : tie.After-put-places = search in rw (← counted .count-side .ensures .0, ne-eqb _ _ (one .if1 .left)) (put .put-places .ensures)
+returns-2 c =
+    let counted : tie.After-count-side = search in
+    let one : tie.Else1 = search in
+    let put : tie.After-put-places = search in
+    rw (← counted .count-side .ensures .0, ne-eqb _ _ (one .if1 .left)) (put .put-places .ensures)
 
 pub put-accessors-spec : {M : Type 1} → statement M
 put-accessors-spec =

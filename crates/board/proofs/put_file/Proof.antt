@@ -15,22 +15,41 @@ enum-known-counts : tie.Need-enum-known-counts
 enum-known-counts c = search needs
 
 returns : tie.Need-returns
-returns c = let count : tie.After-counts = search in let other : tie.At-match-keys2 = search in λ buffers d s b S e. absurd (counts-only b _ (count .counts .ensures buffers d s b S e) (other .match .keys2))
+returns c =
+    let count : tie.After-counts = search in
+    let other : tie.At-match-keys2 = search in
+    λ buffers d s b S e. absurd (counts-only b _ (count .counts .ensures buffers d s b S e) (other .match .keys2))
 
 room-left-requires : tie.Need-room-left-requires
-room-left-requires c κs = let start : tie.Start = search in let taken : tie.After-take-file = search in let count : tie.After-counts = search in let known : tie.After-counts2 = search in let p = start .pre .0 in let n = counts-are (p .b) _ (count .counts .ensures _ _ _ _ (p .stands) (p .is)) _ _ _ _ (known .counts2 .given .1) in (ring-ranged (p .stands) _ (p .file) (p .b) (p .is) _ (taken .take-file .ensures), room-low (p .stands) _ (p .file) (p .b) (p .is) _ (taken .take-file .ensures) _ (n .2))
+room-left-requires c κs =
+    let start : tie.Start = search in
+    let taken : tie.After-take-file = search in
+    let count : tie.After-counts = search in
+    let known : tie.After-counts2 = search in
+    let p = start .pre .0 in
+    let n = counts-are (p .b) _ (count .counts .ensures _ _ _ _ (p .stands) (p .is)) _ _ _ _ (known .counts2 .given .1) in
+    (ring-ranged (p .stands) _ (p .file) (p .b) (p .is) _ (taken .take-file .ensures), room-low (p .stands) _ (p .file) (p .b) (p .is) _ (taken .take-file .ensures) _ (n .2))
 
 cast-put-geometry : tie.Need-cast-put-geometry
 cast-put-geometry c = search needs
 
 put-geometry-requires : tie.Need-put-geometry-requires
-put-geometry-requires c κs = let start : tie.Start = search in let taken : tie.After-take-file = search in let p = start .pre .0 in (omega (arith, start .pre .1), omega (arith, p .file), words-low (p .stands) _ (p .file) (p .b) (p .is) _ (taken .take-file .ensures))
+put-geometry-requires c κs =
+    let start : tie.Start = search in
+    let taken : tie.After-take-file = search in
+    let p = start .pre .0 in
+    (omega (arith, start .pre .1), omega (arith, p .file), words-low (p .stands) _ (p .file) (p .b) (p .is) _ (taken .take-file .ensures))
 
 put-held-requires : tie.Need-put-held-requires
 put-held-requires c κs = search needs
 
 put-accessors-requires : tie.Need-put-accessors-requires
-put-accessors-requires c κs = let start : tie.Start = search in let first : tie.After-put-geometry = search in let second : tie.After-put-held = search in let p = start .pre .0 in (p .stands .stands .segment .size, p .file, omega (arith, start .pre .1, first .put-geometry .ensures .low, first .put-geometry .ensures .long, second .put-held .ensures .low, second .put-held .ensures .long))
+put-accessors-requires c κs =
+    let start : tie.Start = search in
+    let first : tie.After-put-geometry = search in
+    let second : tie.After-put-held = search in
+    let p = start .pre .0 in
+    (p .stands .stands .segment .size, p .file, omega (arith, start .pre .1, first .put-geometry .ensures .low, first .put-geometry .ensures .long, second .put-held .ensures .low, second .put-held .ensures .long))
 
 same-length : tie.Need-same-length
 same-length c = search needs

@@ -20,7 +20,10 @@ loop-holds : tie.Need-loop-holds Inv-loop μ-loop
 loop-holds c = (omega arith, λ buffers d s S. filed-none _ _)
 
 put-if-built-requires : tie.Need-put-if-built-requires Inv-loop μ-loop
-put-if-built-requires c κs = let start : tie.Start Inv-loop μ-loop = search in let i = c .before .before .loop .inv .1 _ _ _ (start .pre .0 .3) in (start .pre .0, c .before .loop-test .taken, omega (arith, i .low, i .long, start .pre .1, c .before .loop-test .taken))
+put-if-built-requires c κs =
+    let start : tie.Start Inv-loop μ-loop = search in
+    let i = c .before .before .loop .inv .1 _ _ _ (start .pre .0 .3) in
+    (start .pre .0, c .before .loop-test .taken, omega (arith, i .low, i .long, start .pre .1, c .before .loop-test .taken))
 
 add-f : tie.Need-add-f Inv-loop μ-loop
 add-f c = search needs
@@ -29,10 +32,15 @@ loop-less : tie.Need-loop-less Inv-loop μ-loop
 loop-less c = search needs
 
 loop-again : tie.Need-loop-again Inv-loop μ-loop
-loop-again c = let turn : tie.In-loop Inv-loop μ-loop = search in let put : tie.After-put-if-built Inv-loop μ-loop = search in (omega (arith, turn .loop-test .taken), λ buffers d s S. filed-on _ _ _ _ _ _ _ (turn .before .loop .inv .1 buffers d s S) (put .put-if-built .ensures .1 buffers d s S))
+loop-again c =
+    let turn : tie.In-loop Inv-loop μ-loop = search in
+    let put : tie.After-put-if-built Inv-loop μ-loop = search in
+    (omega (arith, turn .loop-test .taken), λ buffers d s S. filed-on _ _ _ _ _ _ _ (turn .before .loop .inv .1 buffers d s S) (put .put-if-built .ensures .1 buffers d s S))
 
 same-length : tie.Need-same-length Inv-loop μ-loop
-same-length c = let start : tie.Start Inv-loop μ-loop = search in c .before .loop .inv .1 _ _ _ (start .pre .0 .3) .long
+same-length c =
+    let start : tie.Start Inv-loop μ-loop = search in
+    c .before .loop .inv .1 _ _ _ (start .pre .0 .3) .long
 
 returns : tie.Need-returns Inv-loop μ-loop
 returns c = λ buffers d s S. filed-all _ _ _ _ _ (c .before .loop .inv .0) (c .loop-test .left) (c .before .loop .inv .1 buffers d s S)

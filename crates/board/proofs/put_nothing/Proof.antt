@@ -15,7 +15,10 @@ same-length c = search needs
 
 returns : tie.Need-returns
 unfolding spell
-returns c = let one : tie.Then1 = search in let put : tie.After-put-text = search in ends-none _ _ _ _ (one .if1 .taken) (put .put-text .ensures)
+returns c =
+    let one : tie.Then1 = search in
+    let put : tie.After-put-text = search in
+    ends-none _ _ _ _ (one .if1 .taken) (put .put-text .ensures)
 
 returns-2 : tie.Need-returns-2
 returns-2 c = ends-some _ _ (c .if1 .left)

@@ -16,7 +16,10 @@ read-place-requires c κs = search needs
 
 returns : tie.Need-returns
 unfolding rowText
-returns c = let read : tie.After-read-place = search in let one : tie.Then1 = search in rw (← read .read-place .ensures, eq-eqb _ _ (one .if1 .taken)) (put-none _)
+returns c =
+    let read : tie.After-read-place = search in
+    let one : tie.Then1 = search in
+    rw (← read .read-place .ensures, eq-eqb _ _ (one .if1 .taken)) (put-none _)
 
 request-at-requires : tie.Need-request-at-requires
 request-at-requires c κs = search needs
@@ -35,7 +38,13 @@ same-length c = search needs
 
 returns-2 : tie.Need-returns-2
 unfolding rowText
-returns-2 c = let read : tie.After-read-place = search in let one : tie.Else1 = search in let asked : tie.After-request-at = search in let first : tie.After-put-accessor = search in let second : tie.After-put-request = search in rw (← read .read-place .ensures, ne-eqb _ _ (one .if1 .left), ← asked .request-at .ensures) (first .put-accessor .ensures then second .put-request .ensures)
+returns-2 c =
+    let read : tie.After-read-place = search in
+    let one : tie.Else1 = search in
+    let asked : tie.After-request-at = search in
+    let first : tie.After-put-accessor = search in
+    let second : tie.After-put-request = search in
+    rw (← read .read-place .ensures, ne-eqb _ _ (one .if1 .left), ← asked .request-at .ensures) (first .put-accessor .ensures then second .put-request .ensures)
 
 pub put-place-spec : {M : Type 1} → statement M
 put-place-spec =

@@ -16,7 +16,10 @@ loop-holds : tie.Need-loop-holds Inv-loop μ-loop
 loop-holds c = (omega arith, placed-none _ _ _ _)
 
 put-place-requires : tie.Need-put-place-requires Inv-loop μ-loop
-put-place-requires c κs = let start : tie.Start Inv-loop μ-loop = search in let i = c .before .before .loop .inv .1 in (start .pre .0, start .pre .1, c .before .loop-test .taken, omega (arith, i .low, i .long, start .pre .2, c .before .loop-test .taken))
+put-place-requires c κs =
+    let start : tie.Start Inv-loop μ-loop = search in
+    let i = c .before .before .loop .inv .1 in
+    (start .pre .0, start .pre .1, c .before .loop-test .taken, omega (arith, i .low, i .long, start .pre .2, c .before .loop-test .taken))
 
 add-p : tie.Need-add-p Inv-loop μ-loop
 add-p c = search needs
@@ -25,7 +28,10 @@ loop-less : tie.Need-loop-less Inv-loop μ-loop
 loop-less c = search needs
 
 loop-again : tie.Need-loop-again Inv-loop μ-loop
-loop-again c = let turn : tie.In-loop Inv-loop μ-loop = search in let put : tie.After-put-place Inv-loop μ-loop = search in (omega (arith, turn .loop-test .taken), placed-on _ _ _ _ _ _ _ _ _ (turn .before .loop .inv .1) (put .put-place .ensures))
+loop-again c =
+    let turn : tie.In-loop Inv-loop μ-loop = search in
+    let put : tie.After-put-place Inv-loop μ-loop = search in
+    (omega (arith, turn .loop-test .taken), placed-on _ _ _ _ _ _ _ _ _ (turn .before .loop .inv .1) (put .put-place .ensures))
 
 same-length : tie.Need-same-length Inv-loop μ-loop
 same-length c = c .before .loop .inv .1 .long

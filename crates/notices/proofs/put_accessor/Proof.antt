@@ -15,7 +15,10 @@ same-length c = search needs
 
 returns : tie.Need-returns
 unfolding rowLine accessorLine
-returns c = let s0 : tie.After-put-who = search in let s1 : tie.After-put-settings = search in s0 .put-who .ensures then s1 .put-settings .ensures
+returns c =
+    let s0 : tie.After-put-who = search in
+    let s1 : tie.After-put-settings = search in
+    s0 .put-who .ensures then s1 .put-settings .ensures
 
 pub put-accessor-spec : {M : Type 1} → statement M
 put-accessor-spec =

@@ -34,7 +34,12 @@ same-length c = search needs
 
 returns : tie.Need-returns
 unfolding blocksText lf spell
-returns c = let s0 : tie.After-put-counted = search in let s1 : tie.After-put-text = search in let s2 : tie.After-put-counted2 = search in let s3 : tie.After-put-text2 = search in s0 .put-counted .ensures then s1 .put-text .ensures then s2 .put-counted2 .ensures then s3 .put-text2 .ensures
+returns c =
+    let s0 : tie.After-put-counted = search in
+    let s1 : tie.After-put-text = search in
+    let s2 : tie.After-put-counted2 = search in
+    let s3 : tie.After-put-text2 = search in
+    s0 .put-counted .ensures then s1 .put-text .ensures then s2 .put-counted2 .ensures then s3 .put-text2 .ensures
 
 pub put-blocks-spec : {M : Type 1} → statement M
 put-blocks-spec =

@@ -16,7 +16,10 @@ same-length c = search needs
 
 returns : tie.Need-returns
 unfolding geometryLine
-returns c = let s0 : tie.After-put-size = search in let s1 : tie.After-put-blocks = search in put-within _ (omega arith) (s0 .put-size .ensures then s1 .put-blocks .ensures)
+returns c =
+    let s0 : tie.After-put-size = search in
+    let s1 : tie.After-put-blocks = search in
+    put-within _ (omega arith) (s0 .put-size .ensures then s1 .put-blocks .ensures)
 
 pub put-geometry-spec : {M : Type 1} → statement M
 put-geometry-spec =

@@ -16,7 +16,10 @@ same-length c = search needs
 
 returns : tie.Need-returns
 unfolding heldLine
-returns c = let s0 : tie.After-put-records = search in let s1 : tie.After-put-room = search in put-within _ (omega arith) (s0 .put-records .ensures then s1 .put-room .ensures)
+returns c =
+    let s0 : tie.After-put-records = search in
+    let s1 : tie.After-put-room = search in
+    put-within _ (omega arith) (s0 .put-records .ensures then s1 .put-room .ensures)
 
 pub put-held-spec : {M : Type 1} → statement M
 put-held-spec =

@@ -38,14 +38,22 @@ same-length c = search needs
 
 returns : tie.Need-returns
 unfolding leftText spell
-returns c = let told : tie.After-enum-told = search in let s0 : tie.After-put-text = search in rw (told .enum-told .given .1) (put-within 14 (omega arith) (s0 .put-text .ensures))
+returns c =
+    let told : tie.After-enum-told = search in
+    let s0 : tie.After-put-text = search in
+    rw (told .enum-told .given .1) (put-within 14 (omega arith) (s0 .put-text .ensures))
 
 same-length-2 : tie.Need-same-length-2
 same-length-2 c = search needs
 
 returns-2 : tie.Need-returns-2
 unfolding leftText spell
-returns-2 c = let told : tie.After-left = search in let s0 : tie.After-put-text2 = search in let s1 : tie.After-put-number = search in let s2 : tie.After-put-text3 = search in rw (told .left .given .1) (s0 .put-text2 .ensures then s1 .put-number .ensures then s2 .put-text3 .ensures)
+returns-2 c =
+    let told : tie.After-left = search in
+    let s0 : tie.After-put-text2 = search in
+    let s1 : tie.After-put-number = search in
+    let s2 : tie.After-put-text3 = search in
+    rw (told .left .given .1) (s0 .put-text2 .ensures then s1 .put-number .ensures then s2 .put-text3 .ensures)
 
 pub put-left-spec : {M : Type 1} → statement M
 put-left-spec =

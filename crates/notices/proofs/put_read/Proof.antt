@@ -24,7 +24,11 @@ same-length c = search needs
 
 returns : tie.Need-returns
 unfolding readText spell
-returns c = let here : tie.Then1 = search in let s0 : tie.After-put-text = search in let s1 : tie.After-put-counted = search in rw (eq-eqb _ _ (here .if1 .taken)) (s0 .put-text .ensures then s1 .put-counted .ensures)
+returns c =
+    let here : tie.Then1 = search in
+    let s0 : tie.After-put-text = search in
+    let s1 : tie.After-put-counted = search in
+    rw (eq-eqb _ _ (here .if1 .taken)) (s0 .put-text .ensures then s1 .put-counted .ensures)
 
 put-status-requires : tie.Need-put-status-requires
 put-status-requires c κs = search needs
@@ -34,7 +38,10 @@ same-length-2 c = search needs
 
 returns-2 : tie.Need-returns-2
 unfolding readText
-returns-2 c = let here : tie.Else1 = search in let s0 : tie.After-put-status = search in rw (ne-eqb _ _ (here .if1 .left)) (put-within 19 (omega arith) (s0 .put-status .ensures))
+returns-2 c =
+    let here : tie.Else1 = search in
+    let s0 : tie.After-put-status = search in
+    rw (ne-eqb _ _ (here .if1 .left)) (put-within 19 (omega arith) (s0 .put-status .ensures))
 
 pub put-read-spec : {M : Type 1} → statement M
 put-read-spec =

@@ -28,7 +28,11 @@ same-length c = search needs
 
 returns : tie.Need-returns
 unfolding heldText spell
-returns c = let s0 : tie.After-put-text = search in let s1 : tie.After-put-counted = search in let s2 : tie.After-put-text2 = search in s0 .put-text .ensures then s1 .put-counted .ensures then s2 .put-text2 .ensures
+returns c =
+    let s0 : tie.After-put-text = search in
+    let s1 : tie.After-put-counted = search in
+    let s2 : tie.After-put-text2 = search in
+    s0 .put-text .ensures then s1 .put-counted .ensures then s2 .put-text2 .ensures
 
 pub put-records-spec : {M : Type 1} → statement M
 put-records-spec =

@@ -31,7 +31,12 @@ same-length c = search needs
 
 returns : tie.Need-returns
 unfolding roomText spell
-returns c = let s0 : tie.After-put-counted = search in let s1 : tie.After-put-text = search in let s2 : tie.After-put-number = search in let s3 : tie.After-put-text2 = search in s0 .put-counted .ensures then s1 .put-text .ensures then s2 .put-number .ensures then s3 .put-text2 .ensures
+returns c =
+    let s0 : tie.After-put-counted = search in
+    let s1 : tie.After-put-text = search in
+    let s2 : tie.After-put-number = search in
+    let s3 : tie.After-put-text2 = search in
+    s0 .put-counted .ensures then s1 .put-text .ensures then s2 .put-number .ensures then s3 .put-text2 .ensures
 
 pub put-room-spec : {M : Type 1} → statement M
 put-room-spec =

@@ -25,7 +25,11 @@ same-length c = search needs
 
 returns : tie.Need-returns
 unfolding settingsText spell lf
-returns c = let s0 : tie.After-put-timeout = search in let s1 : tie.After-put-if = search in let s2 : tie.After-put-text = search in s0 .put-timeout .ensures then s1 .put-if .ensures then s2 .put-text .ensures
+returns c =
+    let s0 : tie.After-put-timeout = search in
+    let s1 : tie.After-put-if = search in
+    let s2 : tie.After-put-text = search in
+    s0 .put-timeout .ensures then s1 .put-if .ensures then s2 .put-text .ensures
 
 pub put-settings-spec : {M : Type 1} → statement M
 put-settings-spec =

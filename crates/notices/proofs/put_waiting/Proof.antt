@@ -32,7 +32,12 @@ same-length c = search needs
 
 returns : tie.Need-returns
 unfolding spell lf firstText
-returns c = let s0 : tie.After-put-counted = search in let s1 : tie.After-put-left = search in let s2 : tie.After-put-if = search in let s3 : tie.After-put-text = search in put-within _ (omega arith) (s0 .put-counted .ensures then s1 .put-left .ensures then s2 .put-if .ensures then s3 .put-text .ensures)
+returns c =
+    let s0 : tie.After-put-counted = search in
+    let s1 : tie.After-put-left = search in
+    let s2 : tie.After-put-if = search in
+    let s3 : tie.After-put-text = search in
+    put-within _ (omega arith) (s0 .put-counted .ensures then s1 .put-left .ensures then s2 .put-if .ensures then s3 .put-text .ensures)
 
 pub put-waiting-spec : {M : Type 1} → statement M
 put-waiting-spec =

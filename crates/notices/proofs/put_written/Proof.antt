@@ -18,7 +18,10 @@ same-length c = search needs
 
 returns : tie.Need-returns
 unfolding writtenText spell
-returns c = let here : tie.Then1 = search in let s0 : tie.After-put-text = search in rw (eq-eqb _ _ (here .if1 .taken)) (put-within 12 (omega arith) (s0 .put-text .ensures))
+returns c =
+    let here : tie.Then1 = search in
+    let s0 : tie.After-put-text = search in
+    rw (eq-eqb _ _ (here .if1 .taken)) (put-within 12 (omega arith) (s0 .put-text .ensures))
 
 put-status-requires : tie.Need-put-status-requires
 put-status-requires c κs = search needs
@@ -28,7 +31,10 @@ same-length-2 c = search needs
 
 returns-2 : tie.Need-returns-2
 unfolding writtenText
-returns-2 c = let here : tie.Else1 = search in let s0 : tie.After-put-status = search in rw (ne-eqb _ _ (here .if1 .left)) (s0 .put-status .ensures)
+returns-2 c =
+    let here : tie.Else1 = search in
+    let s0 : tie.After-put-status = search in
+    rw (ne-eqb _ _ (here .if1 .left)) (s0 .put-status .ensures)
 
 pub put-written-spec : {M : Type 1} → statement M
 put-written-spec =

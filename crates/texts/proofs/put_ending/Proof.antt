@@ -20,7 +20,10 @@ same-length c = search needs
 
 returns-2 : tie.Need-returns-2
 unfolding ending
-returns-2 c = let here : tie.Else1 = search in let here-2 : tie.After-put-text = search in rw (ne-eqb _ _ (here .if1 .left)) (here-2 .put-text .ensures)
+returns-2 c =
+    let here : tie.Else1 = search in
+    let here-2 : tie.After-put-text = search in
+    rw (ne-eqb _ _ (here .if1 .left)) (here-2 .put-text .ensures)
 
 pub put-ending-spec : {M : Type 1} → statement M
 put-ending-spec =

@@ -11,7 +11,10 @@ same-length : tie.Need-same-length
 same-length c = search needs
 
 returns : tie.Need-returns
-returns c = let here : tie.Then1 = search in let here-2 : tie.After-put-text = search in rw (eq-eqb _ _ (here .if1 .taken)) (here-2 .put-text .ensures)
+returns c =
+    let here : tie.Then1 = search in
+    let here-2 : tie.After-put-text = search in
+    rw (eq-eqb _ _ (here .if1 .taken)) (here-2 .put-text .ensures)
 
 returns-2 : tie.Need-returns-2
 returns-2 c = rw (ne-eqb _ _ (c .if1 .left)) (put-none _)

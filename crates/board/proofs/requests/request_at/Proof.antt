@@ -24,7 +24,12 @@ completed-requires c κs = search needs
 
 returns : tie.Need-returns
 unfolding requestAt
-returns c = let got : tie.After-get = search in let one : tie.Then1 = search in let read : tie.After-read-entry = search in let end : tie.After-completed = search in rw (← got .get .ensures, lt-ltb _ _ (one .if1 .taken), ← read .read-entry .ensures, ← end .completed .ensures)
+returns c =
+    let got : tie.After-get = search in
+    let one : tie.Then1 = search in
+    let read : tie.After-read-entry = search in
+    let end : tie.After-completed = search in
+    rw (← got .get .ensures, lt-ltb _ _ (one .if1 .taken), ← read .read-entry .ensures, ← end .completed .ensures)
 
 queue-of-requires : tie.Need-queue-of-requires
 queue-of-requires c κs = search needs
@@ -34,7 +39,12 @@ waiting-requires c κs = search needs
 
 returns-2 : tie.Need-returns-2
 unfolding requestAt
-returns-2 c = let got : tie.After-get = search in let one : tie.Else1 = search in let queue : tie.After-queue-of = search in let end : tie.After-waiting = search in rw (← got .get .ensures, le-ltb _ _ (one .if1 .left), ← queue .queue-of .ensures .0, ← end .waiting .ensures)
+returns-2 c =
+    let got : tie.After-get = search in
+    let one : tie.Else1 = search in
+    let queue : tie.After-queue-of = search in
+    let end : tie.After-waiting = search in
+    rw (← got .get .ensures, le-ltb _ _ (one .if1 .left), ← queue .queue-of .ensures .0, ← end .waiting .ensures)
 
 pub request-at-spec : {M : Type 1} → statement M
 request-at-spec =
