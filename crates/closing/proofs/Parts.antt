@@ -6,50 +6,41 @@ use mathlib.Core.List.{List, []}
 use mathlib.Core.Option.{Option, some}
 use native.Mathlib.Omega.{arith}
 use lib.ListN.{length}
-use lib.Seq.{sets}
 use Rattle.occurrences.specs.Count.{bit}
-use Rattle.rules.specs.Limits.{files, places, shareBytes}
+use Rattle.rules.specs.Limits.{files, places}
 use Rattle.rules.specs.State.{idle, Acc, Built}
 use Rattle.rules.specs.Requests.{accAt, putRec}
 use Rattle.rules.specs.Close.{closeRec, lastGone, vacate, closed}
 use Rattle.rules.specs.Allocation.{placeOf}
 use Rattle.rules.proofs.Split.{pick-true, pick-false}
-use Rattle.shares.proofs.Image.{recordWords-most}
-use Rattle.laws.proofs.Midst.{mid-walks}
 use Rattle.segment.specs.declared.PlaceRow.{PlaceRow}
 use Rattle.segment.specs.Layout.{segmentBytes, placeRowAt}
 use Rattle.segment.specs.Table.{fill}
 use Rattle.segment.specs.Fields.{placeWords, placeAt, placeRowOf}
-use Rattle.ring.specs.declared.Ring.{Ring}
-use Rattle.ring.specs.Ring as ring
-use Rattle.blocks.specs.Writing.{recOf, Ready, inscribed}
+use Rattle.blocks.specs.Writing.{recOf, Ready}
 use Rattle.blocks.specs.Memory as code
-use Rattle.blocks.proofs.Held.{held-ready}
+use Rattle.blocks.specs.Memory.{blocksBytes}
 use Rattle.memory.specs.Image as image
-use Rattle.memory.specs.Stands.{shareAt}
 use Rattle.memory.specs.Fine.{Fine}
 use Rattle.midst.specs.declared.File as hand
 use Rattle.midst.specs.Mid.{Start, Mid}
 use Rattle.midst.proofs.Begins.{mid-lengths, mid-place}
 use Rattle.midst.proofs.Changes.{mid-below}
 use Rattle.midst.proofs.Rows.{mid-vacate}
-use Rattle.midst.proofs.Stores.{mid-held, mid-put}
 use Rattle.midst.proofs.Walks.{Owed, fine-walks}
+use Rattle.store.specs.Door.{Keeps}
+use Rattle.store.proofs.Hands.{owed-stored, hand-ready, through}
 
 -- the close record
 
 module _ {n f : ℕ} {o : Start} {xs blocks buffers : List ℕ} {x : hand.File} {b : Built} (M : Mid (Owed n) f o xs blocks buffers x b) where
-  pub close-ready : Ready (x .words) (x .ring) (code.shareAt f blocks) 0
-  unfolding shareAt closeRec
-  close-ready =
-      held-ready (x .words) (x .ring) (shareAt f blocks) (mid-held M (M .good .0 .0 .1 .geo) (M .good .0 .0 .1 .holds)) (closeRec n)
-      (recordWords-most (x .words) (closeRec n) (omega arith))
+  pub close-ready : ((length blocks ≡ blocksBytes) × (f < files)) × Ready (x .words) (x .ring) (code.shareAt f blocks) 0
+  unfolding closeRec
+  close-ready = hand-ready M (owed-stored n b (M .good)) (closeRec n) (omega arith)
 
-  pub close-put : (blocks′ : List ℕ) (r : Ring) → blocks′ ≡ sets blocks (shareBytes * f) (inscribed (x .words) (x .ring) (recOf 2 n []) (code.shareAt f blocks)) → r ≡ ring.put (x .ring)
-      → Mid Fine f o xs blocks′ buffers (record { words = x .words; ring = r }) (putRec (closeRec n) b)
-  unfolding shareAt closeRec
-  close-put blocks′ r u v =
-      rw (u, v) (mid-put {J = Fine} M (M .good .0 .0 .1 .geo) (M .good .0 .0 .1 .holds) (closeRec n) (fine-walks .closes n b (M .good)) (mid-walks f (M .file) (o .alloc) .closes n b (M .allots)))
+  pub close-put : (blocks′ : List ℕ) (y : hand.File) → Keeps f (putRec (recOf 2 n [])) blocks x blocks′ y → Mid Fine f o xs blocks′ buffers y (putRec (closeRec n) b)
+  unfolding closeRec
+  close-put blocks′ y keeps = through M (putRec (closeRec n)) blocks′ y keeps (owed-stored n b (M .good)) (fine-walks .closes n b (M .good))
 
 -- the row
 

@@ -26,7 +26,6 @@ ghost use Rattle.midst.proofs.Walks.{Owed};
 
 mod readers;
 
-use blocks::by_file::put_at;
 use controls::waiting::remove;
 use controls::waiting::waits;
 use kinds::Answer;
@@ -38,6 +37,7 @@ use midst::take_file;
 use readers::last_gone;
 use segment::PlaceRow;
 use settling::rest;
+use store::put;
 
 // The request of place acc, if it waits, is cancelled; the side is its accessor's.
 fn cancel(segment: &mut [u8], buffers: &mut [u8], f: usize, acc: usize, side: u16)
@@ -58,11 +58,7 @@ fn part(segment: &mut [u8], blocks: &mut [u8], f: usize, file: File, id: u16) ->
 {
     last_gone(segment, f);
     let nothing = [0u8; 0];
-    let ring = put_at(blocks, f, file.ring, file.words, CLOSE, id, &nothing);
-    File {
-        words: file.words,
-        ring,
-    }
+    put(blocks, f, file, CLOSE, id, &nothing)
 }
 
 // The accessor at place acc, which has no request, goes.

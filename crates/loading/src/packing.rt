@@ -1,6 +1,5 @@
 // "Load packs the records from the share's first block, with no accessor."
 use blocks::by_file::clear;
-use blocks::by_file::put_at;
 use midst::File;
 use reader::Head;
 use reader::ID;
@@ -10,6 +9,7 @@ use reader::hand_out;
 use reader::open;
 use reader::read_head;
 use ring::Ring;
+use store::put;
 ghost use mathlib.Core.Path.{_≡_};
 ghost use mathlib.Core.Option.{some};
 ghost use Prim.Native.Nat.{_*_, _≤_, _<_};
@@ -47,7 +47,10 @@ fn put_frame(blocks: &mut [u8], f: usize, words: u16, ring: Ring, frame: &[u8], 
 {
     let typ = words::get(frame, TYPE);
     let id = words::get(frame, ID);
-    put_at(blocks, f, ring, words, typ, id, &frame[RECORD_HEAD..size])
+    let file = File { words, ring };
+    let next = put(blocks, f, file, typ, id, &frame[RECORD_HEAD..size]);
+    let behind = next.ring;
+    behind
 }
 
 // All records of a sheet, packed into file f's share, and the file in hand. `frame` takes one frame after another: the head's first.

@@ -8,7 +8,7 @@ use native.Mathlib.Omega.{arith}
 use lib.ListN.{length}
 use lib.Seq.{sets, length-sets}
 use Rattle.rules.specs.Limits.{shareBytes}
-use Rattle.rules.specs.State.{Rec, Store, Hap, puts, drops, Built, built}
+use Rattle.rules.specs.State.{Rec, Hap, puts, drops, Built, built}
 use Rattle.rules.specs.Store.{put, fetch}
 use Rattle.rules.specs.Requests.{withStore, say, putRec, tookBy, behind, accAt}
 use Rattle.rules.specs.Memories.{fileBuffers}
@@ -22,7 +22,7 @@ use Rattle.laws.specs.Midst as laws
 use Rattle.laws.proofs.Room.{good-sized}
 use Rattle.ring.specs.declared.Ring.{Ring}
 use Rattle.ring.specs.Ring as ring
-use Rattle.ring.specs.Ring.{geo, ringOf, Fitted}
+use Rattle.ring.specs.Ring.{geo, Fitted}
 use Rattle.ring.specs.Held.{Held}
 use Rattle.blocks.specs.Writing.{inscribed}
 use Rattle.ring.proofs.Stores.{ring-put}
@@ -38,7 +38,7 @@ use Rattle.midst.specs.Seg.{Seg}
 use Rattle.midst.specs.Mid.{Start, Mid}
 use Rattle.midst.proofs.Alike.{Alike, lists-alike, boxes-alike}
 use Rattle.midst.proofs.Begins.{rows-same}
-use Rattle.records.specs.Fetch.{Stores, ahead}
+use Rattle.records.specs.Fetch.{Stores}
 use Rattle.laws.proofs.Midst.{mid-walks}
 
 -- the file in hand changes but for its accessors and queues
@@ -92,12 +92,6 @@ module _ {I : Built → Type 0} {f : ℕ} {o : Start} {xs blocks buffers : List 
 
   pub mid-held : Held (x .words) (x .ring) (shareAt f blocks)
   mid-held = record { fitted = mid-fitted; store = b .store; holds = mid-stores .holds; ring = mid-stores .ring; share = mid-stores .share }
-
-  -- the ring that a read finds
-  pub mid-found : (typed : Bool) (r : Ring)
-      → ((s : Store) → Stores (x .words) (x .ring) (shareAt f blocks) s → r ≡ ringOf (geo (x .words) (x .ring)) (ahead (geo (x .words) (x .ring)) typed s))
-      → r ≡ ringOf (b .geo) (ahead (b .geo) typed (b .store))
-  mid-found typed r q = in-hand (λ y. r ≡ ringOf (geo (y .words) (y .ring)) (ahead (geo (y .words) (y .ring)) typed (b .store)) → r ≡ ringOf (b .geo) (ahead (b .geo) typed (b .store))) (λ e. e) (q (b .store) mid-stores)
 
 -- records go
 

@@ -5,47 +5,40 @@ use mathlib.Core.Bool.{true, false}
 use mathlib.Core.List.{List, []}
 use native.Mathlib.Omega.{arith}
 use lib.ListN.{length}
-use lib.Seq.{sets}
 use Rattle.kinds.specs.declared.Answer.the-variants.{Opened}
 use Rattle.segment.specs.Layout.{segmentBytes, placeRowAt}
 use Rattle.segment.specs.Table.{fill}
 use Rattle.segment.specs.Fields.{placeWords, fileAt}
 use Rattle.rules.specs.Limits.{files, places, shareBytes}
 use Rattle.rules.specs.State.{Built, File, unbuilt, built}
-use Rattle.rules.specs.Store.{recordWords}
 use Rattle.rules.specs.Requests.{opened, say, withStore, putRec}
 use Rattle.rules.specs.Settle.{settle}
 use Rattle.rules.specs.Reply.{Reply, answers, leaves, answering}
 use Rattle.rules.specs.Open.{firstFree, freeId, newAcc, enter, openRec, purged, openReader, openWriter}
 use Rattle.rules.specs.Desk.{Desk, fileOf}
 use Rattle.rules.specs.Allocation.{Alloc, placeOf}
-use Rattle.laws.proofs.Midst as laws
 use Rattle.laws.proofs.Calls.{free-id}
-use Rattle.ring.specs.declared.Ring.{Ring}
-use Rattle.ring.specs.Ring as ring
 use Rattle.ring.specs.Ring.{Ranged}
-use Rattle.blocks.specs.Writing.{recOf, Ready, inscribed}
+use Rattle.blocks.specs.Writing.{recOf, Ready}
 use Rattle.blocks.specs.Memory as own
-use Rattle.ring.proofs.Held.{held-ranged}
-use Rattle.blocks.proofs.Held.{held-ready}
+use Rattle.blocks.specs.Memory.{blocksBytes}
 use Rattle.memory.specs.Image as image
-use Rattle.memory.specs.Stands.{shareAt}
 use Rattle.memory.specs.Fine.{Fine, StandsFor}
-use Rattle.accessors.specs.Sides.{purgesAt}
-use Rattle.accessors.proofs.Counted.{Rows, file-rows, purges-is}
+use Rattle.accessors.proofs.Counted.{Rows, file-rows}
 use Rattle.accessors.proofs.Stood.{shown}
 use Rattle.midst.specs.declared.File as hand
-use Rattle.midst.specs.File.{fileOfRow, inHand}
+use Rattle.midst.specs.File.{fileOfRow}
 use Rattle.midst.specs.Mid.{Start, Mid}
 use Rattle.midst.specs.Outcome.{Sound, Outcome, Done}
 use Rattle.midst.proofs.Begins.{mid-begin}
 use Rattle.midst.proofs.Rows.{mid-enter}
-use Rattle.midst.proofs.Stores.{mid-put, mid-held}
 use Rattle.midst.proofs.Walks.{fine-walks}
+use Rattle.store.specs.Door.{Stored, Keeps}
+use Rattle.store.proofs.Hands.{fine-stored, mid-known, hand-ready, hand-ranged}
 use Rattle.opening.specs.Finding.{freePlace, nextId, newRow}
-use Rattle.opening.specs.Opens.{Each, Writes, emptied, taken}
+use Rattle.opening.specs.Opens.{Each, Writes, Takes}
 use Rattle.opening.proofs.Finds.{free-place-is, next-id-is, free-low}
-use Rattle.opening.proofs.Purges.{Stored, purged-accs, purged-stored, mid-purge, hand-purged}
+use Rattle.opening.proofs.Purges.{purged-accs}
 
 -- the file that is built is one
 abbrev inner : File → Built → Built
@@ -78,9 +71,6 @@ module _ {xs blocks buffers : List ℕ} {d : Desk} {s : Alloc} (S : StandsFor xs
   own-rows : Rows xs (places * f) (b .accs)
   own-rows = file-rows xs f b eight (shown S f hf b e .rows)
 
-  stored : Stored b
-  stored = (began .good .room .geo, began .good .room .holds)
-
   pub place-found : freePlace xs f ≡ firstFree (b .accs)
   place-found = free-place-is xs f (b .accs) eight own-rows
 
@@ -91,8 +81,8 @@ module _ {xs blocks buffers : List ℕ} {d : Desk} {s : Alloc} (S : StandsFor xs
   pub place-low : (acc : ℕ) → acc ≡ freePlace xs f → opened b < places → acc < places
   place-low acc a h = omega (arith, a, place-found, free-below h)
 
-  pub hand-ranged : Ranged (fileOfRow (fileAt xs f) .ring)
-  hand-ranged = held-ranged _ _ _ (mid-held began (stored .0) (stored .1))
+  pub row-ranged : Ranged (fileOfRow (fileAt xs f) .ring)
+  row-ranged = hand-ranged began (fine-stored (began .good))
 
   -- a reader
   pub reader-in : (share acc : ℕ) (x : hand.File) (xs′ : List ℕ) → opened b < places → acc ≡ freePlace xs f → x ≡ fileOfRow (fileAt xs f)
@@ -108,23 +98,16 @@ module _ {xs blocks buffers : List ℕ} {d : Desk} {s : Alloc} (S : StandsFor xs
   reader-done share acc xs′ blocks′ buffers′ a out = record { outcome = out _; reply = ap (λ (n : ℕ). answers (Opened n 0) []) (sym (a ∙ place-found)) }
 
   -- a writer: the file in hand, purged or not, takes its open record
-  module _ (access : ℕ) (x : hand.File) (ex : x ≡ taken xs f access) where
+  module _ (access : ℕ) (x : hand.File) (takes : Takes access f xs x) where
     abbrev c : Built
     c = purged access b
 
-    in-hand : x ≡ inHand c
-    unfolding taken
-    in-hand = ex ∙ ap (λ (y : hand.File). go y) (began .row) ∙ hand-purged access (purgesAt xs f access) b stored (purges-is xs f b eight (shown S f hf b e .rows) access)
-      where
-        go : hand.File → hand.File
-        go y = elim (purgesAt xs f access) [ true ↦ emptied y | false ↦ y ]
-
     at-hand : Mid Stored f start xs blocks buffers x c
-    at-hand = subst (λ (y : hand.File). Mid Stored f start xs blocks buffers y c) (sym in-hand) (mid-purge {J = Stored} began access (purged-stored access b stored))
+    at-hand = takes start blocks buffers b (mid-known began (fine-stored (began .good)))
 
-    pub writer-ready : Ready (x .words) (x .ring) (own.shareAt f blocks) 0
-    unfolding shareAt recordWords openRec
-    writer-ready = held-ready _ _ _ (mid-held at-hand (at-hand .good .0) (at-hand .good .1)) (openRec 1) (omega arith)
+    pub writer-ready : ((length blocks ≡ blocksBytes) × (f < files)) × Ready (x .words) (x .ring) (own.shareAt f blocks) 0
+    unfolding openRec
+    writer-ready = hand-ready at-hand (at-hand .good) (openRec 1) (omega arith)
 
     same-place : firstFree (c .accs) ≡ firstFree (b .accs)
     same-place = ap firstFree (purged-accs access b)
@@ -132,15 +115,14 @@ module _ {xs blocks buffers : List ℕ} {d : Desk} {s : Alloc} (S : StandsFor xs
     id-found : (id : ℕ) → id ≡ nextId xs f → id ≡ freeId (c .accs)
     id-found id i = i ∙ next-id-is xs f (b .accs) eight own-rows ∙ ap freeId (sym (purged-accs access b))
 
-    pub writer-in : (share acc id : ℕ) (r : Ring) (xs′ blocks′ : List ℕ) → Writes access b → acc ≡ freePlace xs f → id ≡ nextId xs f → r ≡ ring.put (x .ring)
-        → blocks′ ≡ sets blocks (shareBytes * f) (inscribed (x .words) (x .ring) (recOf 1 id []) (own.shareAt f blocks))
-        → xs′ ≡ fill xs (placeRowAt (places * f + acc)) (placeWords (newRow 2 id share))
-        → Mid Fine f start xs′ blocks′ buffers (record { words = x .words; ring = r }) (enter (newAcc true id share) (putRec (openRec id) c))
-    unfolding placeWords image.placeWords newAcc placeOf shareAt openRec freeId putRec say withStore
-    writer-in share acc id r xs′ blocks′ h a i er eb w =
+    pub writer-in : (share acc id : ℕ) (y : hand.File) (xs′ blocks′ : List ℕ) → Writes access b → acc ≡ freePlace xs f → id ≡ nextId xs f
+        → Keeps f (putRec (recOf 1 id [])) blocks x blocks′ y → xs′ ≡ fill xs (placeRowAt (places * f + acc)) (placeWords (newRow 2 id share))
+        → Mid Fine f start xs′ blocks′ buffers y (enter (newAcc true id share) (putRec (openRec id) c))
+    unfolding placeWords image.placeWords newAcc placeOf openRec freeId putRec say withStore
+    writer-in share acc id y xs′ blocks′ h a i keeps w =
         let u : 1 ≤ id = omega (arith, id-found id i, free-id places 1 (c .accs)) in
-        rw (w, eb, er, a, place-found, ← same-place)
-        (mid-enter {J = Fine} (mid-put {J = λ _. Unit {0}} at-hand (at-hand .good .0) (at-hand .good .1) (openRec id) tt (laws.mid-put f hf s (openRec id) c (at-hand .allots)))
+        rw (w, a, place-found, ← same-place)
+        (mid-enter {J = Fine} (keeps start xs buffers c at-hand)
         (newAcc true id share) (newRow 2 id share) (omega (arith, same-place, free-below (h .0))) refl (fine-walks .joins access id share b u (h .1) (began .good)) refl)
 
     pub writer-done : (share acc id : ℕ) (xs′ blocks′ buffers′ : List ℕ) → acc ≡ freePlace xs f → id ≡ nextId xs f

@@ -1,20 +1,20 @@
 -- What open works on, and what it makes of the file in hand.
 use Prim.Native.Nat.{ℕ, _<_}
 use mathlib.Core.Path.{_≡_}
-use mathlib.Core.Bool.{true, false}
+use mathlib.Core.Bool.{true}
 use mathlib.Core.List.{List}
 use Rattle.segment.specs.Fields.{fileAt}
 use Rattle.rules.specs.Limits.{files, places}
 use Rattle.rules.specs.State.{Built, built}
 use Rattle.rules.specs.Requests.{opened}
-use Rattle.rules.specs.Open.{roomToOpen}
+use Rattle.rules.specs.Open.{purged, roomToOpen}
 use Rattle.rules.specs.Desk.{Desk, fileOf}
 use Rattle.rules.specs.Allocation.{Alloc}
-use Rattle.ring.specs.Ring as ring
 use Rattle.memory.specs.Fine.{StandsFor}
-use Rattle.accessors.specs.Sides.{purgesAt}
 use Rattle.midst.specs.declared.File.{File}
 use Rattle.midst.specs.File.{fileOfRow}
+use Rattle.midst.specs.Mid.{Start, Mid}
+use Rattle.store.specs.Door.{Stored}
 
 -- whatever desk the memories stand for, its file f is built, and K holds of it
 abbrev pub Each : (Built → Type 0) → ℕ → List ℕ → List ℕ → List ℕ → Type 0
@@ -27,10 +27,7 @@ Reads b = opened b < places
 abbrev pub Writes : ℕ → Built → Type 0
 Writes access b = (opened b < places) × (roomToOpen access b ≡ true)
 
--- all records of a file in hand gone
-abbrev pub emptied : File → File
-emptied x = record { words = x .words; ring = ring.purged (x .ring) }
-
--- file f, in hand, purged or not
-unfoldable pub taken : List ℕ → ℕ → ℕ → File
-taken xs f access = elim (purgesAt xs f access) [ true ↦ emptied (fileOfRow (fileAt xs f)) | false ↦ fileOfRow (fileAt xs f) ]
+-- file f in hand, purged or not: in the midst of every call it stands for the rules' file
+abbrev pub Takes : ℕ → ℕ → List ℕ → File → Type 0
+Takes access f xs x =
+    (o : Start) (blocks buffers : List ℕ) (b : Built) → Mid Stored f o xs blocks buffers (fileOfRow (fileAt xs f)) b → Mid Stored f o xs blocks buffers x (purged access b)

@@ -15,11 +15,10 @@ ghost use Rattle.memory.specs.Fine.{StandsFor};
 ghost use Rattle.midst.specs.File.{fileOfRow};
 ghost use Rattle.midst.specs.Outcome.{Sound, Done};
 ghost use Rattle.opening.specs.Finding.{newRow};
-ghost use Rattle.opening.specs.Opens.{Each, Reads, Writes, taken};
+ghost use Rattle.opening.specs.Opens.{Each, Reads, Writes, Takes};
 use crate::finding::free_id;
 use crate::finding::free_place;
 use accessors::sides::purges;
-use blocks::by_file::put_at;
 use kinds::Answer;
 use kinds::limits::PLACES;
 use kinds::record_types::OPEN;
@@ -29,6 +28,8 @@ use midst::File;
 use midst::take_file;
 use segment::PlaceRow;
 use settling::rest;
+use store::purge;
+use store::put;
 
 // The row of place `acc` of file f is that of an accessor that enters.
 fn enter(segment: &mut [u8], f: usize, acc: u8, side: u16, id: u16, share: u16)
@@ -51,17 +52,13 @@ fn enter(segment: &mut [u8], f: usize, acc: u8, side: u16, id: u16, share: u16)
 // File f in hand, for a writer: access 1 "purges if no accessor is open, else appends".
 fn take(segment: &[u8], f: usize, access: u8) -> File
     requires { ⌜ (length (now segment) ≡ segmentBytes) × (f < files) × Ranged (fileOfRow (fileAt (now segment) f) .ring) ⌝ }
-    ensures { λ r. ⌜ r ≡ taken (now (segment .entry)) f access ⌝ }
+    ensures { λ r. ⌜ Takes access f (now (segment .entry)) r ⌝ }
 {
     let file = take_file(segment, f);
     if !purges(segment, f, access) {
         return file;
     }
-    let ring = file.ring;
-    File {
-        words: file.words,
-        ring: ring.purged(),
-    }
+    purge(file)
 }
 
 // A reader enters, with this share.
@@ -98,12 +95,8 @@ pub fn open_writer(
     let id = free_id(segment, f);
     let file = take(segment, f, access);
     let nothing = [0u8; 0];
-    let ring = put_at(blocks, f, file.ring, file.words, OPEN, id, &nothing);
+    let written = put(blocks, f, file, OPEN, id, &nothing);
     enter(segment, f, acc, WRITER, id, share);
-    let written = File {
-        words: file.words,
-        ring,
-    };
     rest(segment, blocks, buffers, f, written);
     Answer::Opened { acc, id }
 }

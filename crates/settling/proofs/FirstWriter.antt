@@ -1,7 +1,7 @@
 -- The first waiting writer: what the segment and its buffer say of it.
 use Prim.Native.Nat.{ℕ, _-_, _*_, _≤_, _<_}
-use mathlib.Core.Path.{_≡_, refl, sym, ap, ap₂, _∙_, subst}
-use mathlib.Core.Bool.{Bool, true}
+use mathlib.Core.Path.{_≡_, refl, sym, ap, _∙_, subst}
+use mathlib.Core.Bool.{true}
 use mathlib.Core.List.{List, [], _∷_, _++_}
 use mathlib.Core.Option.{Option, none, some}
 use native.Mathlib.Omega.{arith}
@@ -11,8 +11,7 @@ use Rattle.occurrences.specs.Count.{bit}
 use Rattle.words.specs.Word.{zeros}
 use Rattle.rules.specs.Limits.{places, entries, bufferBytes}
 use Rattle.rules.specs.State.{Offered, Req, writing, Acc, Built}
-use Rattle.rules.specs.Requests.{accAt, fits, capacityOf}
-use Rattle.rules.specs.Store.{used}
+use Rattle.rules.specs.Requests.{accAt}
 use Rattle.rules.specs.Allocation.{placeOf}
 use Rattle.rules.specs.Memories.{lies, buffer}
 use Rattle.laws.specs.Outstanding.{reqOf}
@@ -24,19 +23,17 @@ use Rattle.segment.specs.Layout.{writeQueue, deskPlaces}
 use Rattle.segment.specs.Table.{nth, row}
 use Rattle.segment.specs.Fields.{entryOf, entryAt, placeAt, placeRowOf}
 use Rattle.buffers.specs.Buffer as code
-use Rattle.accessors.specs.Sides.{countSide}
-use Rattle.accessors.proofs.Counted.{count-writers}
 use Rattle.memory.specs.Image.{reqWords, placeWords}
 use Rattle.memory.specs.Stands.{bufferAt}
 use Rattle.memory.specs.Fine.{Fine}
 use Rattle.memory.proofs.Frames.{bufferAt-is}
 use Rattle.midst.specs.declared.File as hand
 use Rattle.midst.specs.Mid.{Start, Mid}
-use Rattle.midst.proofs.Begins.{mid-row, mid-place}
+use Rattle.midst.proofs.Begins.{mid-place}
 use Rattle.midst.proofs.Heads.{writes-at, head-none, head-some}
 use Rattle.midst.proofs.Changes.{mid-below}
 use Rattle.midst.proofs.Lists.{place-under}
-use Rattle.settling.specs.Turns.{dataOf, fitsRing}
+use Rattle.settling.specs.Turns.{dataOf}
 
 -- the writer at the head of the queue
 pub record Writer (xs : List ℕ) (f : ℕ) (b : Built) : Type 0 where
@@ -75,12 +72,6 @@ module _ {f : ℕ} {o : Start} {xs blocks buffers : List ℕ} {x : hand.File} {b
 
   pub writer-of : nth xs (writeQueue f) < entries → Writer xs f b
   writer-of h = writer-or (λ _. Writer xs f b) (λ n _. absurd (omega arith)) (λ r _. r)
-
-  -- "used + W + 1 ≤ C", as the code has it
-  pub fits-is : fitsRing (x .ring) (countSide xs f 2) ≡ fits b
-  unfolding fitsRing fits used capacityOf
-  fits-is =
-      ap₂ {C = Bool} fitsRing (ap (λ (y : hand.File). y .ring) (M .row)) (count-writers xs f b (M .allots .matches .agrees .eight) (mid-row M))
 
   module _ (r : Writer xs f b) where
     writer-below : r .place < places

@@ -1,5 +1,3 @@
-pub mod Laws
-pub mod Founds
 pub mod FirstReader
 pub mod Serves
 pub mod ReadTurns

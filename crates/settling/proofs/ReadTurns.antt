@@ -1,8 +1,8 @@
 -- The exits of a reader's turn, from what the functions that it calls give.
-use Prim.Native.Nat.{ℕ, _*_, _≤_, _<_}
+use Prim.Native.Nat.{ℕ, _*_, _≤_}
 use mathlib.Core.Path.{_≡_, refl, sym, ap, ap₂, _∙_, subst}
 use mathlib.Core.Bool.{Bool, true, false}
-use mathlib.Core.List.{List, [], _∷_}
+use mathlib.Core.List.{List, []}
 use mathlib.Core.Option.{some}
 use native.Mathlib.Omega.{arith}
 use lib.Dec.{eqb}
@@ -11,7 +11,7 @@ use lib.Seq.{sets}
 use Rattle.occurrences.specs.Count.{bit}
 use Rattle.occurrences.specs.Count as occurrences
 use Rattle.rules.specs.Limits.{entries, bufferBytes}
-use Rattle.rules.specs.State.{Rec, Req, reading, Geo, Store, Built}
+use Rattle.rules.specs.State.{Rec, Req, reading, Geo, Built}
 use Rattle.rules.specs.Store.{fetch}
 use Rattle.rules.specs.Requests.{accAt, behind, finish, withStore, say}
 use Rattle.rules.specs.Settle.{handed, readResult, still, onward, serveReader, atHead}
@@ -26,15 +26,10 @@ use Rattle.segment.specs.Layout.{readQueue}
 use Rattle.segment.specs.Table.{nth}
 use Rattle.segment.specs.Fields.{entryAt, placeAt}
 use Rattle.requests.specs.Moves.{completed}
-use Rattle.ring.specs.Ring.{geo, ringOf}
 use Rattle.buffers.specs.Buffer.{filled}
-use Rattle.records.specs.declared.cursor.Cursor.{Cursor}
-use Rattle.records.specs.Cursor.{Stands}
-use Rattle.records.specs.Fetch.{Stores, ahead}
 use Rattle.blocks.specs.Memory as code
 use Rattle.shares.specs.Back.{recAt}
 use Rattle.memory.specs.Image.{reqWords}
-use Rattle.memory.specs.Stands.{shareAt}
 use Rattle.memory.specs.Fine.{Fine}
 use Rattle.midst.specs.declared.File as hand
 use Rattle.midst.specs.Mid.{Start, Mid}
@@ -42,20 +37,20 @@ use Rattle.midst.proofs.Changes.{fine-knows, put}
 use Rattle.midst.proofs.Terms.{waitsAt}
 use Rattle.midst.proofs.Requests.{step-finish}
 use Rattle.midst.proofs.Walks.{fine-walks}
-use Rattle.settling.specs.Turns.{Served, readWords, takenRing}
-use Rattle.settling.proofs.Founds.{inHold, found-none, none-mid, found-first, found-rec, found-some, some-mid}
-use Rattle.settling.proofs.Laws.{own-share, in-share}
+use Rattle.store.specs.declared.Fetched.{Fetched}
+use Rattle.store.specs.Door.{Keeps, fetching, Gets}
+use Rattle.store.proofs.Readers.{handed-same, fetched-mid, fetched-none, fetched-some}
+use Rattle.settling.specs.Turns.{Served, readWords}
 use Rattle.settling.proofs.FirstReader.{bit-one, Reader, reader-or, reader-typed, reader-short}
 use Rattle.settling.proofs.Serves.{reads-none, reads-some}
 
--- what the code of a reader's turn has read when it knows which record goes: the entry at the head of the queue, its accessor's row, the share, and the cursor there
-pub record Seen (f : ℕ) (xs blocks : List ℕ) (x : hand.File) (e : ℕ) (m : Entry) (row : PlaceRow) (own : List ℕ) (k : Cursor) : Type 0 where
+-- what the code of a reader's turn has read when it has fetched: the entry at the head of the queue, its accessor's row, and what the fetch gave
+pub record Seen (f : ℕ) (xs blocks : List ℕ) (x : hand.File) (e : ℕ) (m : Entry) (row : PlaceRow) (z : Fetched) : Type 0 where
   pub first : e ≡ nth xs (readQueue f)
   pub entry : m ≡ entryAt xs e
   pub place : row ≡ placeAt xs (m .place)
-  pub share : own ≡ code.shareAt f blocks
-  pub ring : (s : Store) → Stores (x .words) (x .ring) own s → k .ring ≡ ringOf (geo (x .words) (x .ring)) (ahead (geo (x .words) (x .ring)) (eqb (row .typed) 1) s)
-  pub stands : Stands (x .words) own k
+  pub keeps : (p : ℕ) → Keeps f (fetching p (eqb (row .typed) 1) (eqb (m .keep) 1)) blocks x blocks (z .file)
+  pub gets : Gets f (eqb (row .typed) 1) (eqb (m .keep) 1) blocks x z
 
 pub still-served : (f : ℕ) (o : Start) (xs blocks buffers : List ℕ) (y : hand.File) (c : Built) → Mid Fine f o xs blocks buffers y c
     → Served f o xs blocks buffers (record { moved = false; file = y }) (still c)
@@ -78,13 +73,14 @@ module _ {f : ℕ} {o : Start} {xs blocks buffers : List ℕ} {x : hand.File} {b
   abbrev g : Geo
   g = b .geo
 
-  abbrev ys : List ℕ
-  ys = shareAt f blocks
-
   -- the reader r waits, and the code has seen what it needs
-  module _ (r : Reader xs f b) {e : ℕ} {m : Entry} {row : PlaceRow} {own : List ℕ} {k : Cursor} (v : Seen f xs blocks x e m row own k) where
+  module _ (r : Reader xs f b) {e : ℕ} {m : Entry} {row : PlaceRow} {z : Fetched} (v : Seen f xs blocks x e m row z) where
     abbrev typed : Bool
     typed = r .acc .typed
+
+    -- the file behind the read
+    abbrev B : Built
+    B = fetching (r .place) typed (r .wanted .keep) b
 
     entry-is : m ≡ record { place = placeOf f (r .place); unit = bit (r .wanted .words); limit = r .wanted .limit; keep = bit (r .wanted .keep); status = 0; log = 0; size = 0; seconds = 0 }
     entry-is = v .entry ∙ ap (entryAt xs) (v .first) ∙ r .entry
@@ -92,27 +88,23 @@ module _ {f : ℕ} {o : Start} {xs blocks buffers : List ℕ} {x : hand.File} {b
     is-typed : eqb (row .typed) 1 ≡ typed
     is-typed = reader-typed M r m row (v .entry ∙ ap (entryAt xs) (v .first)) (v .place)
 
-    finds : (s : Store) → Stores (x .words) (x .ring) ys s → k .ring ≡ ringOf (geo (x .words) (x .ring)) (ahead (geo (x .words) (x .ring)) typed s)
-    finds s S = v .ring s (in-share _ f _ blocks own s (v .share) S) ∙ ap (λ (w : Bool). ringOf (geo (x .words) (x .ring)) (ahead (geo (x .words) (x .ring)) w s)) is-typed
+    is-kept : eqb (m .keep) 1 ≡ r .wanted .keep
+    is-kept = ap (λ (n : Entry). eqb (n .keep) 1) entry-is ∙ bit-one (r .wanted .keep)
+
+    mid-fetched : Mid Fine f o xs blocks buffers (z .file) (fetching (r .place) typed (r .wanted .keep) b)
+    mid-fetched = fetched-mid M _ _ z (r .place) (v .keeps (r .place)) (v .gets) typed (r .wanted .keep) is-typed is-kept
 
     -- it finds nothing
-    pub turn-nothing : k .ring .held ≡ 0 → Served f o xs blocks buffers (record { moved = false; file = inHold (x .words) (k .ring) }) (atHead serveReader (b .rq) b)
-    turn-nothing z =
-        let l : k .ring .held ≤ 0 = omega (arith, z) in
-        subst (Served f o xs blocks buffers (record { moved = false; file = inHold (x .words) (k .ring) }))
-        (sym (reads-none b (r .place) (r .rest) (r .acc) (r .opens) (r .wanted) (r .first) (r .asks) (found-none M typed k finds (r .wanted .keep) l)))
-        (still-served f o xs blocks buffers (inHold (x .words) (k .ring)) (behind (r .place) (fetch g typed (r .wanted .keep) (b .store)) b) (none-mid M typed k finds (r .wanted .keep) l (r .place)))
+    pub turn-nothing : z .got ≡ false → Served f o xs blocks buffers (record { moved = false; file = z .file }) (atHead serveReader (b .rq) b)
+    turn-nothing n =
+        subst (Served f o xs blocks buffers (record { moved = false; file = z .file }))
+        (sym (reads-none b (r .place) (r .rest) (r .acc) (r .opens) (r .wanted) (r .first) (r .asks) (fetched-none M _ _ z (r .place) (v .keeps (r .place)) (v .gets) typed (r .wanted .keep) is-typed is-kept n)))
+        (still-served f o xs blocks buffers (z .file) B mid-fetched)
 
-    -- it finds a record, d
-    module _ (some-held : 0 < k .ring .held) where
-      found : (d : Rec) × (rest : List Rec) × (ahead g typed (b .store) .recs ≡ d ∷ rest)
-      found = found-first M typed k finds some-held
-
+    -- it finds a record, d, and the bytes that the code hands over are those of d
+    module _ (some-got : z .got ≡ true) (own : List ℕ) (share : own ≡ code.shareAt f blocks) (bytes : List ℕ) (given : bytes ≡ handed (eqb (row .typed) 1) (m .limit) (recAt own (z .at))) where
       abbrev d : Rec
-      d = found .0
-
-      abbrev B : Built
-      B = behind (r .place) (fetch g typed (r .wanted .keep) (b .store)) b
+      d = recAt (code.shareAt f blocks) (z .at)
 
       abbrev q : Req
       q = readResult (r .wanted .words) (handed typed (r .wanted .limit) d)
@@ -124,41 +116,30 @@ module _ {f : ℕ} {o : Start} {xs blocks buffers : List ℕ} {x : hand.File} {b
       open-behind : accAt B (r .place) ≡ some (r .acc)
       open-behind = behind-at (r .place) (fetch g typed (r .wanted .keep) (b .store)) b ∙ r .opens
 
-      -- the bytes that the code hands over are those of d
-      module _ (bytes : List ℕ) (given : bytes ≡ handed (eqb (row .typed) 1) (m .limit) (recAt own (k .at))) where
-        rec-is : recAt own (k .at) ≡ d
-        rec-is =
-            let e = own-share f blocks own (v .share) in
-            ap (λ (zs : List ℕ). recAt zs (k .at)) e ∙ found-rec M typed k finds d (found .1) (found .2) (subst (λ (zs : List ℕ). Stands (x .words) zs k) e (v .stands))
+      bytes-are : bytes ≡ handed typed (r .wanted .limit) d
+      bytes-are = given ∙ handed-same _ _ _ _ own _ (z .at) is-typed (ap (λ (n : Entry). n .limit) entry-is) share
 
-        bytes-are : bytes ≡ handed typed (r .wanted .limit) d
-        bytes-are = given ∙ ap₂ {C = List ℕ} (λ (w : Bool) (z : Rec). handed w (m .limit) z) is-typed rec-is ∙ ap (λ (n : Entry). handed typed (n .limit) d) entry-is
+      pub handed-short : length bytes ≤ bufferBytes
+      handed-short = omega (arith, ap length bytes-are, length-handed typed (r .wanted .limit) d, reader-short M r)
 
-        pub handed-short : length bytes ≤ bufferBytes
-        handed-short = omega (arith, ap length bytes-are, length-handed typed (r .wanted .limit) d, reader-short M r)
+      pub served : (xs′ buffers′ : List ℕ) → xs′ ≡ completed xs (readQueue f) (m .place) (readWords m (length bytes)) → buffers′ ≡ sets buffers (bufferBytes * m .place) (filled bytes)
+          → Served f o xs′ blocks buffers′ (record { moved = true; file = z .file }) (atHead serveReader (b .rq) b)
+      served xs′ buffers′ ex ey =
+          subst (Served f o xs′ blocks buffers′ (record { moved = true; file = z .file }))
+          (sym (reads-some b (r .place) (r .rest) (r .acc) (r .opens) (r .wanted) (r .first) (r .asks) d (fetched-some M _ _ z (r .place) (v .keeps (r .place)) (v .gets) typed (r .wanted .keep) is-typed is-kept some-got)))
+          (onward-served f o xs′ blocks buffers′ (z .file) (finish (r .place) 0 q B)
+          (subst (λ (zs : List ℕ). Mid Fine f o zs blocks buffers′ (z .file) (finish (r .place) 0 q B)) (sym (ex ∙ entry-words))
+          (step-finish fine-knows mid-fetched (r .place) (r .acc) open-behind false 0 (reading (r .wanted)) q
+          (r .asks) waits ends [] (r .rest) (unfold behind withStore say in r .first) (unfold occurrences.count in refl) buffers′
+          (fine-walks .finishes (r .place) 0 q (r .acc) (reading (r .wanted)) B open-behind (r .asks) ends (mid-fetched .good)) (put laid))))
+        where
+          waits : waitsAt false (reading (r .wanted)) ≡ 1
+          waits = unfold waitsRead in refl
 
-        pub served : (xs′ buffers′ : List ℕ) → xs′ ≡ completed xs (readQueue f) (m .place) (readWords m (length bytes)) → buffers′ ≡ sets buffers (bufferBytes * m .place) (filled bytes)
-            → Served f o xs′ blocks buffers′ (record { moved = true; file = inHold (x .words) (takenRing (eqb (m .keep) 1) (k .ring)) }) (atHead serveReader (b .rq) b)
-        served xs′ buffers′ ex ey =
-            subst (Served f o xs′ blocks buffers′ (record { moved = true; file = inHold (x .words) (takenRing (eqb (m .keep) 1) (k .ring)) }))
-            (sym (reads-some b (r .place) (r .rest) (r .acc) (r .opens) (r .wanted) (r .first) (r .asks) d (found-some M typed k finds d (found .1) (found .2) (r .wanted .keep))))
-            (onward-served f o xs′ blocks buffers′ (inHold (x .words) (takenRing (eqb (m .keep) 1) (k .ring))) (finish (r .place) 0 q B)
-            (subst (λ (w : Bool). Mid Fine f o xs′ blocks buffers′ (inHold (x .words) (takenRing w (k .ring))) (finish (r .place) 0 q B)) (sym keep-is)
-            (subst (λ (zs : List ℕ). Mid Fine f o zs blocks buffers′ (inHold (x .words) (takenRing (r .wanted .keep) (k .ring))) (finish (r .place) 0 q B)) (sym (ex ∙ entry-words))
-            (step-finish fine-knows (some-mid M typed k finds d (found .1) (found .2) (r .place) (r .wanted .keep)) (r .place) (r .acc) open-behind false 0 (reading (r .wanted)) q
-            (r .asks) waits ends [] (r .rest) (unfold behind withStore say in r .first) (unfold occurrences.count in refl) buffers′
-            (fine-walks .finishes (r .place) 0 q (r .acc) (reading (r .wanted)) B open-behind (r .asks) ends (fine-walks .fetches (r .place) typed (r .wanted .keep) b (M .good))) (put laid)))))
-          where
-            keep-is : eqb (m .keep) 1 ≡ r .wanted .keep
-            keep-is = ap (λ (n : Entry). eqb (n .keep) 1) entry-is ∙ bit-one (r .wanted .keep)
+          laid : buffers′ ≡ sets buffers (bufferBytes * placeOf f (r .place)) (filled (lies q))
+          laid = unfold lies readResult in ey ∙ ap₂ {C = List ℕ} (λ (n : ℕ) (zs : List ℕ). sets buffers (bufferBytes * n) (filled zs)) (ap (λ (n : Entry). n .place) entry-is) bytes-are
 
-            waits : waitsAt false (reading (r .wanted)) ≡ 1
-            waits = unfold waitsRead in refl
-
-            laid : buffers′ ≡ sets buffers (bufferBytes * placeOf f (r .place)) (filled (lies q))
-            laid = unfold lies readResult in ey ∙ ap₂ {C = List ℕ} (λ (n : ℕ) (zs : List ℕ). sets buffers (bufferBytes * n) (filled zs)) (ap (λ (n : Entry). n .place) entry-is) bytes-are
-
-            entry-words : completed xs (readQueue f) (m .place) (readWords m (length bytes)) ≡ completed xs (readQueue f) (placeOf f (r .place)) (reqWords (placeOf f (r .place)) q)
-            entry-words =
-                ap (λ (n : Entry). completed xs (readQueue f) (n .place) (readWords n (length bytes))) entry-is
-                ∙ ap (completed xs (readQueue f) (placeOf f (r .place))) (unfold readWords reqWords readResult in rw (bytes-are, bit-one (r .wanted .words)) refl)
+          entry-words : completed xs (readQueue f) (m .place) (readWords m (length bytes)) ≡ completed xs (readQueue f) (placeOf f (r .place)) (reqWords (placeOf f (r .place)) q)
+          entry-words =
+              ap (λ (n : Entry). completed xs (readQueue f) (n .place) (readWords n (length bytes))) entry-is
+              ∙ ap (completed xs (readQueue f) (placeOf f (r .place))) (unfold readWords reqWords readResult in rw (bytes-are, bit-one (r .wanted .words)) refl)

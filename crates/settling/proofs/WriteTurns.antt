@@ -1,5 +1,5 @@
 -- The exits of a writer's turn, from what the functions that it calls give.
-use Prim.Native.Nat.{ℕ, _*_, _≤_}
+use Prim.Native.Nat.{ℕ, _*_, _≤_, _<_}
 use mathlib.Core.Path.{_≡_, refl, sym, ap, ap₂, _∙_, subst}
 use mathlib.Core.Bool.{true, false}
 use mathlib.Core.List.{List, []}
@@ -9,42 +9,39 @@ use lib.ListN.{length}
 use lib.Seq.{sets}
 use Rattle.words.specs.Word.{zeros}
 use Rattle.occurrences.specs.Count.{count}
-use Rattle.rules.specs.Limits.{entries, bufferBytes, shareBytes}
+use Rattle.rules.specs.Limits.{entries, bufferBytes, files}
 use Rattle.rules.specs.State.{Rec, Req, writing, Built}
 use Rattle.rules.specs.Requests.{accAt, fits, withStore, say, putRec, finish}
 use Rattle.rules.specs.Settle.{writeResult, dataRec, serveWriter, atHead}
 use Rattle.rules.specs.Allocation.{placeOf}
 use Rattle.rules.specs.Memories.{lies}
-use Rattle.shares.proofs.Image.{recordWords-most}
 use Rattle.laws.specs.Outstanding.{waitsWrite}
 use Rattle.laws.specs.Changes.{Ends, writeEnds}
 use Rattle.laws.proofs.Walk.{put-at}
-use Rattle.laws.proofs.Midst.{mid-walks}
 use Rattle.segment.specs.declared.Entry.{Entry}
 use Rattle.segment.specs.declared.PlaceRow.{PlaceRow}
 use Rattle.segment.specs.Layout.{writeQueue}
 use Rattle.segment.specs.Table.{nth}
 use Rattle.segment.specs.Fields.{entryAt, placeAt}
 use Rattle.requests.specs.Moves.{completed}
-use Rattle.ring.specs.declared.Ring.{Ring}
-use Rattle.ring.specs.Ring as ring
-use Rattle.blocks.specs.Writing.{recOf, Ready, inscribed}
-use Rattle.blocks.proofs.Held.{held-ready}
+use Rattle.blocks.specs.Memory as code
+use Rattle.blocks.specs.Memory.{blocksBytes}
+use Rattle.blocks.specs.Writing.{recOf, Ready}
 use Rattle.accessors.specs.Sides.{countSide}
 use Rattle.memory.specs.Image.{reqWords}
-use Rattle.memory.specs.Stands.{shareAt}
 use Rattle.memory.specs.Fine.{Fine}
 use Rattle.midst.specs.declared.File as hand
 use Rattle.midst.specs.Mid.{Start, Mid}
 use Rattle.midst.proofs.Changes.{fine-knows, clear}
 use Rattle.midst.proofs.Terms.{waitsAt}
 use Rattle.midst.proofs.Requests.{step-finish}
-use Rattle.midst.proofs.Stores.{mid-held, mid-put}
 use Rattle.midst.proofs.Walks.{fine-walks}
-use Rattle.settling.specs.Turns.{Served, wroteWords, fitsRing, dataOf}
+use Rattle.store.specs.Door.{Keeps, fitsRing}
+use Rattle.store.proofs.Hands.{fine-stored, hand-ready, through}
+use Rattle.store.proofs.Room.{fits-is}
+use Rattle.settling.specs.Turns.{Served, wroteWords, dataOf}
 use Rattle.settling.proofs.FirstReader.{bit-one}
-use Rattle.settling.proofs.FirstWriter.{Writer, writer-or, fits-is, writer-id, writer-short, writer-is, writer-data}
-use Rattle.settling.proofs.Founds.{inHold}
+use Rattle.settling.proofs.FirstWriter.{Writer, writer-or, writer-id, writer-short, writer-is, writer-data}
 use Rattle.settling.proofs.ReadTurns.{still-served, onward-served}
 use Rattle.settling.proofs.Serves.{writes-none, writes-some}
 
@@ -66,14 +63,8 @@ module _ {f : ℕ} {o : Start} {xs blocks buffers : List ℕ} {x : hand.File} {b
 
     -- what a put of its data asks
     module _ (e : ℕ) (m : Entry) (at : e ≡ nth xs (writeQueue f)) (em : m ≡ entryAt xs e) where
-      pub data-ready : Ready (x .words) (x .ring) (shareAt f blocks) (length (dataOf m buffers))
-      unfolding dataRec
-      data-ready =
-          let d : Rec = dataRec (r .acc) (r .offered .bytes) in
-          let w : x .words ≡ b .geo .words = ap (λ (y : hand.File). y .words) (M .row) in
-          subst (λ (zs : List ℕ). Ready (x .words) (x .ring) (shareAt f blocks) (length zs)) (sym (writer-data M r e m at em))
-          (held-ready (x .words) (x .ring) (shareAt f blocks) (mid-held M (M .good .room .geo) (M .good .room .holds)) d
-          (recordWords-most (x .words) d (rw w (writer-short M r))))
+      pub data-ready : ((length blocks ≡ blocksBytes) × (f < files)) × Ready (x .words) (x .ring) (code.shareAt f blocks) (length (dataOf m buffers))
+      data-ready = hand-ready M (fine-stored (M .good)) (recOf 0 0 (dataOf m buffers)) (omega (arith, ap length (writer-data M r e m at em), writer-short M r))
 
       -- it is served
       module _ (row : PlaceRow) (er : row ≡ placeAt xs (m .place)) (fit : fitsRing (x .ring) (countSide xs f 2) ≡ true) where
@@ -99,25 +90,19 @@ module _ {f : ℕ} {o : Start} {xs blocks buffers : List ℕ} {x : hand.File} {b
         open-put : accAt B (r .place) ≡ some (r .acc)
         open-put = put-at (r .place) d b ∙ r .opens
 
-        pub served : (xs′ blocks′ buffers′ : List ℕ) (z : Ring) → z ≡ ring.put (x .ring)
-            → blocks′ ≡ sets blocks (shareBytes * f) (inscribed (x .words) (x .ring) (recOf 0 (row .id) (dataOf m buffers)) (shareAt f blocks))
+        pub served : (xs′ blocks′ buffers′ : List ℕ) (y : hand.File) → Keeps f (putRec (recOf 0 (row .id) (dataOf m buffers))) blocks x blocks′ y
             → buffers′ ≡ sets buffers (bufferBytes * m .place) (zeros bufferBytes) → xs′ ≡ completed xs (writeQueue f) (m .place) (wroteWords m)
-            → Served f o xs′ blocks′ buffers′ (record { moved = true; file = inHold (x .words) z }) (atHead serveWriter (b .wq) b)
-        served xs′ blocks′ buffers′ z ez eb ey ex =
-            subst (Served f o xs′ blocks′ buffers′ (record { moved = true; file = inHold (x .words) z }))
+            → Served f o xs′ blocks′ buffers′ (record { moved = true; file = y }) (atHead serveWriter (b .wq) b)
+        served xs′ blocks′ buffers′ y keeps ey ex =
+            subst (Served f o xs′ blocks′ buffers′ (record { moved = true; file = y }))
             (sym (writes-some b (r .place) (r .rest) (r .acc) (r .opens) (r .offered) (r .first) (r .asks) fits-now))
-            (onward-served f o xs′ blocks′ buffers′ (inHold (x .words) z) (finish (r .place) 0 q B)
-            (subst (λ (y : Ring). Mid Fine f o xs′ blocks′ buffers′ (inHold (x .words) y) (finish (r .place) 0 q B)) (sym ez)
-            (subst (λ (zs : List ℕ). Mid Fine f o zs blocks′ buffers′ (inHold (x .words) (ring.put (x .ring))) (finish (r .place) 0 q B)) (sym (ex ∙ entry-words))
-            (subst (λ (zs : List ℕ). Mid Fine f o (completed xs (writeQueue f) (placeOf f (r .place)) (reqWords (placeOf f (r .place)) q)) zs buffers′ (inHold (x .words) (ring.put (x .ring))) (finish (r .place) 0 q B))
-            (sym (eb ∙ ap (λ (y : Rec). sets blocks (shareBytes * f) (inscribed (x .words) (x .ring) y (shareAt f blocks))) rec-is))
+            (onward-served f o xs′ blocks′ buffers′ y (finish (r .place) 0 q B)
+            (subst (λ (zs : List ℕ). Mid Fine f o zs blocks′ buffers′ y (finish (r .place) 0 q B)) (sym (ex ∙ entry-words))
             (step-finish fine-knows put-mid (r .place) (r .acc) open-put true 0 (writing (r .offered)) q (r .asks) waits ends [] (r .rest) (unfold putRec say withStore in r .first) (unfold count in refl) buffers′
-            (fine-walks .finishes (r .place) 0 q (r .acc) (writing (r .offered)) B open-put (r .asks) ends fine-put) (clear none-lies laid))))))
+            (fine-walks .finishes (r .place) 0 q (r .acc) (writing (r .offered)) B open-put (r .asks) ends fine-put) (clear none-lies laid))))
           where
-            put-mid : Mid Fine f o xs (sets blocks (shareBytes * f) (inscribed (x .words) (x .ring) d (shareAt f blocks))) buffers (inHold (x .words) (ring.put (x .ring))) B
-            put-mid =
-                mid-put M (M .good .room .geo) (M .good .room .holds) d fine-put
-                (mid-walks f (M .file) (o .alloc) .serves (r .place) (r .acc) (r .offered) b (r .opens) (r .asks) fits-now (M .allots))
+            put-mid : Mid Fine f o xs blocks′ buffers y B
+            put-mid = through M (putRec d) blocks′ y (subst (λ (z : Rec). Keeps f (putRec z) blocks x blocks′ y) rec-is keeps) (fine-stored (M .good)) fine-put
 
             waits : waitsAt true (writing (r .offered)) ≡ 1
             waits = unfold waitsWrite in refl

@@ -1,9 +1,9 @@
 -- What a turn does, in memories and in the file in hand.
 use Prim.Native.Nat.{ℕ, zero, suc, _+_}
 use mathlib.Core.Path.{_≡_}
-use mathlib.Core.Bool.{Bool, cond}
+use mathlib.Core.Bool.{cond}
 use mathlib.Core.List.{List, [], _∷_}
-use lib.Dec.{eqb, leb, ltb}
+use lib.Dec.{eqb, ltb}
 use lib.ListN.{take}
 use Rattle.buffers.specs.Buffer.{bufferAt}
 use Rattle.segment.specs.declared.Entry.{Entry}
@@ -11,11 +11,8 @@ use Rattle.segment.specs.Layout.{linkAt, readQueue, writeQueue}
 use Rattle.segment.specs.Table.{nth}
 use Rattle.rules.specs.State.{Built}
 use Rattle.rules.specs.Count.{logOf}
-use Rattle.rules.specs.Geometry.{capacity}
 use Rattle.rules.specs.Limits.{entries}
 use Rattle.rules.specs.Settle.{Turn, settle}
-use Rattle.ring.specs.declared.Ring.{Ring}
-use Rattle.ring.specs.Ring.{advanced, used}
 use Rattle.memory.specs.Fine.{Fine}
 use Rattle.midst.specs.declared.File as hand
 use Rattle.midst.specs.Mid.{Start, Mid}
@@ -36,14 +33,6 @@ readWords m n = m .place ∷ 0 ∷ 0 ∷ 0 ∷ 0 ∷ logOf (eqb (m .unit) 1) n �
 
 unfoldable pub wroteWords : Entry → List ℕ
 wroteWords m = m .place ∷ 0 ∷ 0 ∷ 0 ∷ 0 ∷ logOf (eqb (m .unit) 1) (m .size) ∷ 0 ∷ 0 ∷ 0 ∷ []
-
--- under control 47 it stays
-unfoldable pub takenRing : Bool → Ring → Ring
-takenRing keep r = cond keep r (advanced r)
-
--- "a data record fits exactly when used + W + 1 ≤ C"
-unfoldable pub fitsRing : Ring → ℕ → Bool
-fitsRing r w = leb (used r + w + 1) (capacity (r .factor) (r .blocks))
 
 -- the data of a waiting write, in its buffer
 abbrev pub dataOf : Entry → List ℕ → List ℕ

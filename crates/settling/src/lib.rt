@@ -16,9 +16,7 @@ mod writers;
 use midst::File;
 use midst::put_file;
 use readers::serve_reader;
-pub use readers::taken;
 use segment::layout;
-pub use writers::fits;
 use writers::serve_writer;
 
 // One turn: the file behind it, and whether a request was served.

@@ -9,28 +9,18 @@ ghost use Rattle.rules.specs.Limits.{entries, bufferBytes};
 ghost use Rattle.rules.specs.State.{Built};
 ghost use Rattle.rules.specs.Settle.{handed, serveReader, atHead};
 ghost use Rattle.requests.specs.Moves.{completed};
-ghost use Rattle.ring.specs.Ring.{Ranged};
 ghost use Rattle.buffers.specs.Buffer.{buffersBytes, filled};
 ghost use Rattle.memory.specs.Fine.{Fine};
 ghost use Rattle.midst.specs.Mid.{Start, Mid};
-ghost use Rattle.settling.specs.Turns.{Amid, Served, readWords, takenRing};
+ghost use Rattle.settling.specs.Turns.{Amid, Served, readWords};
 use crate::Turn;
 use blocks::by_file::share;
 use midst::File;
-use records::fetch::found;
 use records::fetch::handed;
-use ring::Ring;
 use segment::Entry;
 use segment::layout;
+use store::fetch;
 use transfer_counts::log_of;
-
-// "Control 47 on: the next accepted read leaves its record at the head"
-pub fn taken(ring: Ring, keep: bool) -> Ring
-    requires { ⌜ Ranged ring ⌝ }
-    ensures { λ r. ⌜ r ≡ takenRing keep ring ⌝ }
-{
-    if keep { ring } else { ring.advanced() }
-}
 
 // The bytes go to the waiting read m, the first of its queue, which is done.
 fn hand_over(segment: &mut [u8], buffers: &mut [u8], f: usize, m: Entry, bytes: &[u8])
@@ -72,25 +62,18 @@ pub fn serve_reader(
     let m = segment::read_entry(segment, e);
     let row = segment::read_place(segment, m.place as usize);
     let typed = row.typed == 1;
-    let own = share(blocks, f);
-    let cursor = found(own, file.ring, file.words, typed);
-    let ring = cursor.ring;
-    if ring.held == 0 {
+    let found = fetch(blocks, f, file, typed, m.keep == 1);
+    let next = found.file;
+    if !found.got {
         return Turn {
             moved: false,
-            file: File {
-                words: file.words,
-                ring,
-            },
+            file: next,
         };
     }
-    let bytes = handed(own, cursor.at, typed, m.limit);
+    let bytes = handed(share(blocks, f), found.at, typed, m.limit);
     hand_over(segment, buffers, f, m, bytes);
     Turn {
         moved: true,
-        file: File {
-            words: file.words,
-            ring: taken(ring, m.keep == 1),
-        },
+        file: next,
     }
 }

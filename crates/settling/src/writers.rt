@@ -1,40 +1,33 @@
 // The first waiting writer.
 ghost use mathlib.Core.Path.{_≡_};
-ghost use Prim.Native.Nat.{_+_, _*_, _≤_, _<_};
+ghost use Prim.Native.Nat.{_*_, _≤_, _<_};
 ghost use lib.ListN.{length};
 ghost use lib.Seq.{sets};
 ghost use Rattle.words.specs.Word.{zeros};
 ghost use Rattle.segment.specs.Layout.{segmentBytes, writeQueue, deskPlaces};
 ghost use Rattle.segment.specs.Table.{nth};
-ghost use Rattle.rules.specs.Limits.{entries, bufferBytes, shareBytes};
+ghost use Rattle.rules.specs.Limits.{entries, bufferBytes};
 ghost use Rattle.rules.specs.State.{Built};
+ghost use Rattle.rules.specs.Requests.{putRec};
 ghost use Rattle.rules.specs.Settle.{serveWriter, atHead};
 ghost use Rattle.requests.specs.Moves.{completed};
-ghost use Rattle.ring.specs.Ring.{Ranged, put};
-ghost use Rattle.blocks.specs.Writing.{recOf, Ready, inscribed};
+ghost use Rattle.blocks.specs.Writing.{recOf, Ready};
 ghost use Rattle.blocks.specs.Memory.{blocksBytes, shareAt};
 ghost use Rattle.buffers.specs.Buffer.{buffersBytes};
 ghost use Rattle.memory.specs.Fine.{Fine};
 ghost use Rattle.midst.specs.Mid.{Start, Mid};
-ghost use Rattle.settling.specs.Turns.{Amid, Served, wroteWords, fitsRing, dataOf};
+ghost use Rattle.store.specs.Door.{Keeps};
+ghost use Rattle.settling.specs.Turns.{Amid, Served, wroteWords, dataOf};
 use crate::Turn;
 use accessors::sides::count_side;
-use blocks::by_file::put_at;
 use kinds::record_types::DATA;
 use kinds::sides::WRITER;
 use midst::File;
-use ring::Ring;
 use segment::Entry;
 use segment::layout;
+use store::fits;
+use store::put;
 use transfer_counts::log_of;
-
-// "a data record fits exactly when used + W + 1 ≤ C: one place is kept for each close record."
-pub fn fits(ring: Ring, writers: u16) -> bool
-    requires { ⌜ Ranged ring × (writers ≤ 8) ⌝ }
-    ensures { λ r. ⌜ r ≡ fitsRing ring writers ⌝ }
-{
-    ring.used() + writers + 1 <= ring.factor * ring.blocks
-}
 
 // The data of the waiting write m, the first of its queue, become a record of the writer with the ID, and the write is done.
 fn take(
@@ -45,18 +38,17 @@ fn take(
     file: File,
     m: Entry,
     id: u16,
-) -> Ring
+) -> File
     requires { ⌜ (length (now segment) ≡ segmentBytes) × (length (now blocks) ≡ blocksBytes) × (length (now buffers) ≡ buffersBytes) × (f < 8) ⌝ }
     requires { ⌜ (m .place < deskPlaces) × (m .size ≤ bufferBytes) × (nth (now segment) (writeQueue f) < entries) ⌝ }
     requires { ⌜ Ready (file .words) (file .ring) (shareAt f (now blocks)) (length (dataOf m (now buffers))) ⌝ }
-    ensures ring { λ r. ⌜ r ≡ put (file .ring) ⌝ }
-    ensures blocks { λ _. ⌜ now (blocks .exit) ≡ sets (now (blocks .entry)) (shareBytes * f) (inscribed (file .words) (file .ring) (recOf 0 id (dataOf m (now (buffers .entry)))) (shareAt f (now (blocks .entry)))) ⌝ }
+    ensures put { λ r. ⌜ Keeps f (putRec (recOf 0 id (dataOf m (now (buffers .entry))))) (now (blocks .entry)) file (now (blocks .exit)) r ⌝ }
     ensures buffers { λ _. ⌜ now (buffers .exit) ≡ sets (now (buffers .entry)) (bufferBytes * m .place) (zeros bufferBytes) ⌝ }
     ensures segment { λ _. ⌜ now (segment .exit) ≡ completed (now (segment .entry)) (writeQueue f) (m .place) (wroteWords m) ⌝ }
 {
     let place = m.place as usize;
     let data = buffers::lies(buffers, place, m.size as usize);
-    let ring = put_at(blocks, f, file.ring, file.words, DATA, id, data);
+    let next = put(blocks, f, file, DATA, id, data);
     buffers::clear_at(buffers, place);
     let done = Entry {
         place: m.place,
@@ -69,7 +61,7 @@ fn take(
         seconds: 0,
     };
     requests::complete(segment, layout::WRITE_QUEUES + f, done);
-    ring
+    next
 }
 
 // The first waiting writer puts its record, if it fits.
@@ -87,17 +79,14 @@ pub fn serve_writer(
     if e >= layout::ENTRIES {
         return Turn { moved: false, file };
     }
-    if !fits(file.ring, count_side(segment, f, WRITER)) {
+    if !fits(file, count_side(segment, f, WRITER)) {
         return Turn { moved: false, file };
     }
     let m = segment::read_entry(segment, e);
     let row = segment::read_place(segment, m.place as usize);
-    let ring = take(segment, blocks, buffers, f, file, m, row.id);
+    let next = take(segment, blocks, buffers, f, file, m, row.id);
     Turn {
         moved: true,
-        file: File {
-            words: file.words,
-            ring,
-        },
+        file: next,
     }
 }

@@ -16,7 +16,7 @@ use Rattle.rules.specs.Geometry.{capacity}
 use Rattle.ring.specs.declared.Ring.{Ring}
 use Rattle.accessors.specs.Sides.{countSide, sidesFrom}
 use Rattle.ring.specs.Ring.{used}
-use Rattle.settling.specs.Turns.{fitsRing}
+use Rattle.store.specs.Door.{fitsRing}
 use Rattle.transfers.specs.Rows.{mayWaitRow, admits}
 
 any-first : (s t u : Bool) → s ≡ true → true ≡ s || t || u

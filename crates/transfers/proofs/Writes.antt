@@ -9,7 +9,7 @@ use borrow.Author.Tests.{lt-ltb, le-ltb, leb-true}
 use lib.ListN.{length}
 use lib.Seq.{sets}
 use Rattle.kinds.specs.declared.Answer.the-variants.{Written, Status}
-use Rattle.rules.specs.Limits.{entries, bufferBytes, shareBytes}
+use Rattle.rules.specs.Limits.{entries, bufferBytes, files}
 use Rattle.rules.specs.State.{Rec, Offered, writing, idle, Acc, Built}
 use Rattle.rules.specs.Count.{inWords, countBytes, logOf}
 use Rattle.rules.specs.Requests.{readers, fits, accAt, withStore, withAccs, alterAcc, say, putRec, begun, wait}
@@ -22,24 +22,19 @@ use Rattle.rules.specs.Desk.{Desk, on, fileOf, answered}
 use Rattle.rules.specs.Allocation.{Alloc, placeOf}
 use Rattle.rules.proofs.Split.{pick-true, pick-false, and-left}
 use Rattle.laws.specs.Outstanding.{waitsRead, waitsWrite}
-use Rattle.shares.proofs.Image.{recordWords-most}
-use Rattle.laws.specs.Midst as laws
 use Rattle.laws.proofs.Calls.{begun-mild}
-use Rattle.laws.proofs.Midst.{mid-walks}
 use Rattle.segment.specs.declared.PlaceRow.{PlaceRow}
 use Rattle.segment.specs.Layout.{writeQueue, freeList, segmentBytes}
 use Rattle.segment.specs.Table.{nth}
 use Rattle.segment.specs.Fields.{fileAt, placeAt}
 use Rattle.requests.specs.Moves.{queued, waiting}
 use Rattle.buffers.specs.Buffer.{filled}
-use Rattle.ring.specs.declared.Ring.{Ring}
 use Rattle.ring.specs.Ring as ring
 use Rattle.blocks.specs.Memory as code
-use Rattle.blocks.specs.Writing.{recOf, Ready, inscribed}
-use Rattle.blocks.proofs.Held.{held-ready}
+use Rattle.blocks.specs.Memory.{blocksBytes}
+use Rattle.blocks.specs.Writing.{recOf, Ready}
 use Rattle.accessors.specs.Sides.{countSide}
 use Rattle.memory.specs.Image.{reqWords}
-use Rattle.memory.specs.Stands.{shareAt}
 use Rattle.memory.specs.Fine.{Fine, StandsFor}
 use Rattle.midst.specs.declared.File as hand
 use Rattle.midst.specs.File.{fileOfRow}
@@ -51,10 +46,10 @@ use Rattle.midst.proofs.Begins.{mid-lengths}
 use Rattle.midst.proofs.Changes.{fine-knows, stands-rest}
 use Rattle.midst.proofs.Heads.{head-none, head-some}
 use Rattle.midst.proofs.Requests.{step-wait-free, step-wait-write}
-use Rattle.midst.proofs.Stores.{mid-held, mid-put}
 use Rattle.midst.proofs.Walks.{fine-walks}
-use Rattle.settling.specs.Turns.{fitsRing}
-use Rattle.settling.proofs.FirstWriter.{fits-is}
+use Rattle.store.specs.Door.{Keeps, fitsRing}
+use Rattle.store.proofs.Hands.{fine-stored, hand-ready, through}
+use Rattle.store.proofs.Room.{fits-is}
 use Rattle.transfers.specs.Rows.{begunSegment, mayWaitRow, admits, writeEntry}
 use Rattle.transfers.specs.Acts.{Acts}
 use Rattle.transfers.proofs.Fits.{Fit, fit}
@@ -106,12 +101,9 @@ module _ {xs blocks buffers : List ℕ} {d : Desk} {s : Alloc} (S : StandsFor xs
     write-bytes = omega (arith, write-short, M .good .room .geo .words-high)
 
     -- what a put of its data asks
-    pub write-ready : Ready (x .words) (x .ring) (code.shareAt f blocks) (length v)
-    unfolding shareAt dataRec
-    write-ready =
-        let r : Rec = dataRec a v in
-        let w : x .words ≡ b .geo .words = ap (λ (y : hand.File). y .words) (M .row) in
-        held-ready (x .words) (x .ring) (shareAt f blocks) (mid-held M (M .good .room .geo) (M .good .room .holds)) r (recordWords-most (x .words) r (rw w write-short))
+    pub write-ready : ((length blocks ≡ blocksBytes) × (f < files)) × Ready (x .words) (x .ring) (code.shareAt f blocks) (length v)
+    unfolding dataRec
+    write-ready = hand-ready M (fine-stored (M .good)) (dataRec a v) write-short
 
     -- the accessor's row, read and written
     module _ (row : PlaceRow) (read : row ≡ placeAt xs (placeOf f p)) (xs₁ : List ℕ) (began : xs₁ ≡ begunSegment xs (placeOf f p)) where
@@ -138,28 +130,18 @@ module _ {xs blocks buffers : List ℕ} {d : Desk} {s : Alloc} (S : StandsFor xs
             fine-walks .mild p begun (putRec r b) begun-mild
             (fine-walks .writes p a v b (known .known .at) (known .known .side) write-short (and-left (fits b) _ now) (M .good))
 
-        laws-put : laws.Mid f s (putRec r b₁)
-        unfolding putRec say withStore alterAcc withAccs
-        laws-put =
-            mid-walks f (M .file) s .mild p begun (putRec r b) begun-mild
-            (mid-walks f (M .file) s .writes p a v b (known .known .at) (known .known .side) write-short (and-left (fits b) _ now) (M .allots))
-
         put-out : ask (fileOf d f) (calls.write p n v) ≡ leaves (answers (Written (logOf (inWords n) (length v))) []) (settle (putRec r b₁))
         unfolding writeOn answering putRec say withStore alterAcc withAccs
         put-out = known .known .out ∙ pick-true (fits b && isNil (b .wq)) _ _ now
 
-        pub write-put : (blocks₁ : List ℕ) (z : Ring) (log : ℕ) (t : Bool) → z ≡ ring.put (x .ring)
-            → blocks₁ ≡ sets blocks (shareBytes * f) (inscribed (x .words) (x .ring) (recOf 0 (row .id) v) (code.shareAt f blocks)) → log ≡ logOf t (length v) → t ≡ inWords n
-            → Acts f o (ask (fileOf d f) (calls.write p n v)) xs₁ blocks₁ buffers (record { words = x .words; ring = z }) (Written log) []
-        unfolding shareAt dataRec
-        write-put blocks₁ z log t ez eb el et = record {
+        pub write-put : (blocks₁ : List ℕ) (y : hand.File) (log : ℕ) (t : Bool) → Keeps f (putRec (recOf 0 (row .id) v)) blocks x blocks₁ y → log ≡ logOf t (length v) → t ≡ inWords n
+            → Acts f o (ask (fileOf d f) (calls.write p n v)) xs₁ blocks₁ buffers y (Written log) []
+        unfolding dataRec
+        write-put blocks₁ y log t keeps el et = record {
           acted = putRec r b₁;
           mid =
-              subst (λ (y : Ring). Mid Fine f o xs₁ blocks₁ buffers (record { words = x .words; ring = y }) (putRec r b₁)) (sym ez)
-              (subst (λ (ys : List ℕ). Mid Fine f o xs₁ ys buffers (record { words = x .words; ring = ring.put (x .ring) }) (putRec r b₁))
-              (sym (eb ∙ ap (λ (k : ℕ). sets blocks (shareBytes * f) (inscribed (x .words) (x .ring) (recOf 0 k v) (shareAt f blocks)))
-              (row-id S f p (known .file) b (known .stands) a (known .known .at) row read)))
-              (mid-put N (N .good .room .geo) (N .good .room .holds) r fine-put laws-put));
+              through N (putRec r) blocks₁ y
+              (subst (λ (k : ℕ). Keeps f (putRec (recOf 0 k v)) blocks x blocks₁ y) (row-id S f p (known .file) b (known .stands) a (known .known .at) row read) keeps) (fine-stored (N .good)) fine-put;
           out = put-out ∙ ap (λ (k : ℕ). leaves (answers (Written k) []) (settle (putRec r b₁))) (sym (el ∙ ap (λ (u : Bool). logOf u (length v)) et));
         }
 
@@ -235,4 +217,4 @@ write-fit {d = d} S f p n v A size = let k = accepted-write d f p n v A in fit S
 -- the ring's numbers are in their ranges
 pub write-ranged : {xs blocks buffers : List ℕ} {d : Desk} {s : Alloc} → StandsFor xs blocks buffers d s → (f p n : ℕ) (v : List ℕ)
     → refusalOf (answered d (on f (calls.write p n v)) .reply) ≡ 0 → length v ≡ countBytes n → (x : hand.File) → x ≡ fileOfRow (fileAt xs f) → ring.Ranged (x .ring)
-write-ranged S f p n v A size x took = write-ready S f p n v A size x took .ranged
+write-ranged S f p n v A size x took = write-ready S f p n v A size x took .1 .ranged

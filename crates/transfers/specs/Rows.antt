@@ -11,7 +11,7 @@ use Rattle.segment.specs.Table.{nth, fill}
 use Rattle.segment.specs.Fields.{placeWords, placeAt}
 use Rattle.ring.specs.declared.Ring.{Ring}
 use Rattle.accessors.specs.Sides.{countSide}
-use Rattle.settling.specs.Turns.{fitsRing}
+use Rattle.store.specs.Door.{fitsRing}
 
 -- no longer the first; a read spends control 47
 unfoldable pub begunRow : PlaceRow → PlaceRow

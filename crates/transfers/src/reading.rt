@@ -5,6 +5,7 @@ ghost use Prim.Native.Nat.{ℕ, _≤_};
 ghost use lib.ListN.{length};
 ghost use lib.Seq.{sets};
 ghost use Rattle.rules.specs.Limits.{bufferBytes, answerRoom, answerHead};
+ghost use Rattle.kinds.specs.declared.Answer.the-variants.{Status};
 ghost use Rattle.rules.specs.Settle.{handed};
 ghost use Rattle.rules.specs.Calls.{ask};
 ghost use Rattle.rules.specs.Calls as calls;
@@ -29,10 +30,9 @@ use kinds::sides::WRITER;
 use kinds::statuses;
 use midst::File;
 use midst::take_file;
-use records::fetch::found;
 use records::fetch::handed;
 use settling::rest;
-use settling::taken;
+use store::fetch;
 use transfer_counts::count_bytes;
 use transfer_counts::in_words;
 use transfer_counts::log_of;
@@ -56,6 +56,20 @@ fn give(own: &[u8], answer: &mut [u8], at: usize, typed: bool, limit: u16) -> u1
     bytes.len() as u16
 }
 
+// A read that finds nothing: it waits, or it ends.
+fn unserved(status: u8, file: File) -> Handed
+    ensures { λ r. ⌜ r ≡ record { answer = Status 3 status; size = 0; file = file } ⌝ }
+{
+    Handed {
+        answer: Answer::Status {
+            operation: operations::READ,
+            status,
+        },
+        size: 0,
+        file,
+    }
+}
+
 // "first act, which fixes their answer".
 fn act(
     segment: &mut [u8],
@@ -73,54 +87,25 @@ fn act(
     let row = segment::read_place(segment, place);
     let file = take_file(segment, f);
     let typed = row.typed == 1;
-    let own = share(blocks, f);
-    let cursor = found(own, file.ring, file.words, typed);
-    let ring = cursor.ring;
     begin(segment, place, row);
+    let found = fetch(blocks, f, file, typed, row.keep == 1);
+    let next = found.file;
+    let words = in_words(count);
     let limit = count_bytes(count) as u16;
-    let in_hand = File {
-        words: file.words,
-        ring,
-    };
-    if ring.held > 0 {
-        let size = give(own, answer, cursor.at, typed, limit);
-        let log = log_of(in_words(count), size);
+    if found.got {
+        let size = give(share(blocks, f), answer, found.at, typed, limit);
+        let log = log_of(words, size);
         return Handed {
             answer: Answer::Read { log },
             size,
-            file: File {
-                words: file.words,
-                ring: taken(ring, row.keep == 1),
-            },
+            file: next,
         };
     }
     if may_wait(segment, f, WRITER, row) {
-        wait_read(
-            segment,
-            f,
-            place,
-            row.timeout,
-            in_words(count),
-            limit,
-            row.keep,
-        );
-        return Handed {
-            answer: Answer::Status {
-                operation: operations::READ,
-                status: statuses::WAITING,
-            },
-            size: 0,
-            file: in_hand,
-        };
+        wait_read(segment, f, place, row.timeout, words, limit, row.keep);
+        return unserved(statuses::WAITING, next);
     }
-    Handed {
-        answer: Answer::Status {
-            operation: operations::READ,
-            status: statuses::END_OF_FILE,
-        },
-        size: 0,
-        file: in_hand,
-    }
+    unserved(statuses::END_OF_FILE, next)
 }
 
 pub fn read(

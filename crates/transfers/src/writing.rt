@@ -5,6 +5,7 @@ ghost use Prim.Native.Nat.{_<_};
 ghost use lib.ListN.{length};
 ghost use Rattle.segment.specs.Layout.{segmentBytes};
 ghost use Rattle.rules.specs.Count.{countBytes};
+ghost use Rattle.kinds.specs.declared.Answer.the-variants.{Status};
 ghost use Rattle.rules.specs.Calls.{ask};
 ghost use Rattle.rules.specs.Calls as calls;
 ghost use Rattle.rules.specs.Desk.{Desk, fileOf};
@@ -19,7 +20,6 @@ use crate::waiting::begin;
 use crate::waiting::may_wait;
 use crate::waiting::wait_write;
 use accessors::sides::count_side;
-use blocks::by_file::put_at;
 use kinds::Answer;
 use kinds::limits::PLACES;
 use kinds::operations;
@@ -29,10 +29,10 @@ use kinds::sides::WRITER;
 use kinds::statuses;
 use midst::File;
 use midst::take_file;
-use ring::Ring;
 use segment::layout;
-use settling::fits;
 use settling::rest;
+use store::fits;
+use store::put;
 use transfer_counts::in_words;
 use transfer_counts::log_of;
 
@@ -43,18 +43,31 @@ pub struct Acted {
 }
 
 // Whether a write is taken at once: it fits and has no writers waiting ahead.
-fn taken_now(segment: &[u8], f: usize, ring: Ring) -> bool
-    requires { ⌜ (length (now segment) ≡ segmentBytes) × (f < 8) × Ranged ring ⌝ }
-    ensures { λ r. ⌜ r ≡ admits (now (segment .entry)) f ring ⌝ }
+fn taken_now(segment: &[u8], f: usize, file: File) -> bool
+    requires { ⌜ (length (now segment) ≡ segmentBytes) × (f < 8) × Ranged (file .ring) ⌝ }
+    ensures { λ r. ⌜ r ≡ admits (now (segment .entry)) f (file .ring) ⌝ }
 {
     if segment::get(segment, layout::WRITE_QUEUES + f) < layout::ENTRIES {
         return false;
     }
     // beside as many writers as a file has places: they need no counting
-    if fits(ring, PLACES as u16) {
+    if fits(file, PLACES as u16) {
         return true;
     }
-    fits(ring, count_side(segment, f, WRITER))
+    fits(file, count_side(segment, f, WRITER))
+}
+
+// A write that is not taken: it waits, or it ends.
+fn untaken(status: u8, file: File) -> Acted
+    ensures { λ r. ⌜ r ≡ record { answer = Status 4 status; file = file } ⌝ }
+{
+    Acted {
+        answer: Answer::Status {
+            operation: operations::WRITE,
+            status,
+        },
+        file,
+    }
 }
 
 // "first act, which fixes their answer".
@@ -74,44 +87,22 @@ fn act(
     let place = PLACES * f + acc;
     let row = segment::read_place(segment, place);
     let file = take_file(segment, f);
-    let at_once = taken_now(segment, f, file.ring);
+    let words = in_words(count);
+    let at_once = taken_now(segment, f, file);
     begin(segment, place, row);
     if at_once {
-        let ring = put_at(blocks, f, file.ring, file.words, DATA, row.id, data);
-        let log = log_of(in_words(count), data.len() as u16);
+        let next = put(blocks, f, file, DATA, row.id, data);
+        let log = log_of(words, data.len() as u16);
         return Acted {
             answer: Answer::Written { log },
-            file: File {
-                words: file.words,
-                ring,
-            },
+            file: next,
         };
     }
     if may_wait(segment, f, READER, row) {
-        wait_write(
-            segment,
-            buffers,
-            f,
-            place,
-            row.timeout,
-            in_words(count),
-            data,
-        );
-        return Acted {
-            answer: Answer::Status {
-                operation: operations::WRITE,
-                status: statuses::WAITING,
-            },
-            file,
-        };
+        wait_write(segment, buffers, f, place, row.timeout, words, data);
+        return untaken(statuses::WAITING, file);
     }
-    Acted {
-        answer: Answer::Status {
-            operation: operations::WRITE,
-            status: statuses::END_OF_FILE,
-        },
-        file,
-    }
+    untaken(statuses::END_OF_FILE, file)
 }
 
 pub fn write(

@@ -7,16 +7,16 @@ use Rattle.closing.proofs.part.Tie as tie
 last-gone-requires : tie.Need-last-gone-requires
 last-gone-requires c κs = let (buffers, o, b, M) = c .before .before .before .pre in (_, _, buffers, _, o, b, M)
 
-slice-aggregate-put-at : tie.Need-slice-aggregate-put-at
-slice-aggregate-put-at c = search needs
+slice-aggregate-put : tie.Need-slice-aggregate-put
+slice-aggregate-put c = search needs
 
-put-at-requires : tie.Need-put-at-requires
-put-at-requires c κs =
+put-requires : tie.Need-put-requires
+put-requires c κs =
     let here : tie.After-last-gone = search in let last-gone = here .last-gone in
     let start : tie.Start = search in
     let (buffers, o, b, M) = start .pre in
     let N = last-gone .ensures _ _ buffers _ o b M in
-    ((N .blocks-size, N .file), close-ready N)
+    close-ready N
 
 same-length : tie.Need-same-length
 same-length c = search needs
@@ -28,16 +28,15 @@ returns : tie.Need-returns
 returns c =
     let here : tie.After-last-gone = search in let last-gone = here .last-gone in
     λ buffers o b M.
-    close-put (last-gone .ensures _ _ buffers _ o b M) _ _ (c .before .before .put-at .ensures .1)
-    (c .before .before .put-at .ensures .0)
+    close-put (last-gone .ensures _ _ buffers _ o b M) _ _ (c .before .before .put .ensures .1 .1)
 
 pub part-spec : {M : Type 1} → statement M
 part-spec =
     tie.close
     (tie.spec
     last-gone-requires
-    slice-aggregate-put-at
-    put-at-requires
+    slice-aggregate-put
+    put-requires
     same-length
     same-length-2
     returns)

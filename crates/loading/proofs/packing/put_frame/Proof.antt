@@ -1,3 +1,5 @@
+use Rattle.midst.specs.declared.File.{File}
+use mathlib.Core.Path.{ap}
 use borrow.Author.Needs.{needs}
 use Rattle.loading.proofs.packing.put_frame.Statement.{statement}
 use Rattle.loading.proofs.packing.put_frame.Tie as tie
@@ -8,17 +10,17 @@ get-requires c κs = search needs
 get-requires-2 : tie.Need-get-requires-2
 get-requires-2 c κs = search needs
 
-sub-put-at : tie.Need-sub-put-at
-sub-put-at c = search needs
+sub-put : tie.Need-sub-put
+sub-put c = search needs
 
-part-put-at-start : tie.Need-part-put-at-start
-part-put-at-start c = search needs
+part-put-start : tie.Need-part-put-start
+part-put-start c = search needs
 
-part-put-at-end : tie.Need-part-put-at-end
-part-put-at-end c = search needs
+part-put-end : tie.Need-part-put-end
+part-put-end c = search needs
 
-put-at-requires : tie.Need-put-at-requires
-put-at-requires c κs = search needs
+put-requires : tie.Need-put-requires
+put-requires c κs = search needs
 
 same-length : tie.Need-same-length
 same-length c = search needs
@@ -27,8 +29,9 @@ returns : tie.Need-returns
 returns c =
     let here : tie.After-get2 = search in let get2 = here .get2 in
     let here : tie.After-get = search in let get = here .get in
-    let p = c .before .before .put-at .ensures in
-    (p .0, rw (get .ensures, get2 .ensures) at (p .1))
+    let here : tie.After-put = search in
+    let p = here .put .ensures in
+    (ap (λ (x : File). x .ring) (p .0), rw (get .ensures, get2 .ensures) at (p .1 .0))
 
 pub put-frame-spec : {M : Type 1} → statement M
 put-frame-spec =
@@ -36,9 +39,9 @@ put-frame-spec =
     (tie.spec
     get-requires
     get-requires-2
-    sub-put-at
-    part-put-at-start
-    part-put-at-end
-    put-at-requires
+    sub-put
+    part-put-start
+    part-put-end
+    put-requires
     same-length
     returns)

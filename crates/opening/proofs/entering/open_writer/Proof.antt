@@ -1,5 +1,5 @@
 -- `entering::open_writer` meets its contract: an answer to each need, in the order of the code.
-use Rattle.opening.proofs.Enters.{each-at, each-file, each-sizes, place-low, hand-ranged, writer-ready, writer-in, writer-done}
+use Rattle.opening.proofs.Enters.{each-at, each-file, each-sizes, place-low, row-ranged, writer-ready, writer-in, writer-done}
 use borrow.Author.Needs.{needs}
 use Rattle.opening.proofs.entering.open_writer.Statement.{statement}
 use Rattle.opening.proofs.entering.open_writer.Tie as tie
@@ -19,17 +19,17 @@ take-requires c κs =
     let start : tie.Start = search in
     let (d, s, S) = start .pre .0 in
     let (hf, b, e, k) = start .pre .1 d s S in
-    (each-sizes (start .pre) .0, hf, hand-ranged S _ hf b e)
+    (each-sizes (start .pre) .0, hf, row-ranged S _ hf b e)
 
-slice-aggregate-put-at : tie.Need-slice-aggregate-put-at
-slice-aggregate-put-at c = search needs
+slice-aggregate-put : tie.Need-slice-aggregate-put
+slice-aggregate-put c = search needs
 
-put-at-requires : tie.Need-put-at-requires
-put-at-requires c κs =
+put-requires : tie.Need-put-requires
+put-requires c κs =
     let start : tie.Start = search in
     let (d, s, S) = start .pre .0 in
     let (hf, b, e, k) = start .pre .1 d s S in
-    ((each-sizes (start .pre) .1, hf), writer-ready S _ hf b e _ _ (c .before .before .take .ensures))
+    writer-ready S _ hf b e _ _ (c .before .before .take .ensures)
 
 enter-requires : tie.Need-enter-requires
 enter-requires c κs =
@@ -42,7 +42,7 @@ enter-requires c κs =
 rest-requires : tie.Need-rest-requires
 rest-requires c κs =
     let here : tie.After-enter = search in let enter = here .enter in
-    let here : tie.After-put-at = search in let put-at = here .put-at in
+    let here : tie.After-put = search in let put = here .put in
     let here : tie.After-take = search in let take = here .take in
     let here : tie.After-free-id = search in let free-id = here .free-id in
     let here : tie.After-free-place = search in let free-place = here .free-place in
@@ -52,7 +52,7 @@ rest-requires c κs =
       _,
       _,
       writer-in S _ hf b e _ _ (take .ensures) _ _ _ _ _ _ k (free-place .ensures .0) (free-id .ensures)
-          (put-at .ensures .0) (put-at .ensures .1) (enter .ensures),
+          (put .ensures .1 .1) (enter .ensures),
     )
 
 same-length : tie.Need-same-length
@@ -68,7 +68,7 @@ returns : tie.Need-returns
 returns c =
     let here : tie.After-rest = search in let rest = here .rest in
     let here : tie.After-enter = search in let enter = here .enter in
-    let here : tie.After-put-at = search in let put-at = here .put-at in
+    let here : tie.After-put = search in let put = here .put in
     let here : tie.After-take = search in let take = here .take in
     let here : tie.After-free-id = search in let free-id = here .free-id in
     let here : tie.After-free-place = search in let free-place = here .free-place in
@@ -78,7 +78,7 @@ returns c =
     writer-done S _ hf b e _ _ (take .ensures) _ _ _ _ _ _ (free-place .ensures .0) (free-id .ensures)
     (rest .ensures _ _
     (writer-in S _ hf b e _ _ (take .ensures) _ _ _ _ _ _ k (free-place .ensures .0) (free-id .ensures)
-    (put-at .ensures .0) (put-at .ensures .1) (enter .ensures)) (S .stands .bodies))
+    (put .ensures .1 .1) (enter .ensures)) (S .stands .bodies))
 
 pub open-writer-spec : {M : Type 1} → statement M
 open-writer-spec =
@@ -87,8 +87,8 @@ open-writer-spec =
     free-place-requires
     free-id-requires
     take-requires
-    slice-aggregate-put-at
-    put-at-requires
+    slice-aggregate-put
+    put-requires
     enter-requires
     rest-requires
     same-length

@@ -15,19 +15,19 @@ purges-requires : tie.Need-purges-requires
 purges-requires c κs = search needs
 
 returns : tie.Need-returns
-returns c = taken-plain _ _ _ _ (c .before .before .take-file .ensures) _ (c .before .purges .ensures) (not-true _ (c .if1 .taken))
+returns c = taken-plain _ _ _ _ (c .before .purges .ensures) _ (c .before .before .take-file .ensures) (not-true _ (c .if1 .taken))
 
-purged-requires : tie.Need-purged-requires
-purged-requires c κs =
+purge-requires : tie.Need-purge-requires
+purge-requires c κs =
     let here : tie.After-take-file = search in let take-file = here .take-file in
     let start : tie.Start = search in
     subst (λ (x : File). Ranged (x .ring)) (sym (take-file .ensures)) (start .pre .2)
 
 returns-2 : tie.Need-returns-2
 returns-2 c =
-    let here : tie.After-take-file = search in let take-file = here .take-file in
-    taken-purged _ _ _ _ (take-file .ensures) _ (c .before .before .before .purges .ensures)
-    (not-false _ (c .before .before .if1 .left)) _ (c .purged .ensures)
+    let here : tie.After-take-file = search in
+    let else1 : tie.Else1 = search in
+    taken-purged _ _ _ _ (else1 .before .purges .ensures) _ (here .take-file .ensures) (not-false _ (else1 .if1 .left)) _ (c .purge .ensures .1)
 
 pub take-spec : {M : Type 1} → statement M
-take-spec = tie.close (tie.spec take-file-requires purges-requires returns purged-requires returns-2)
+take-spec = tie.close (tie.spec take-file-requires purges-requires returns purge-requires returns-2)

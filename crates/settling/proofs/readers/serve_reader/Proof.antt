@@ -1,13 +1,12 @@
 -- `readers::serve_reader` meets its contract: an answer to each need, in the order of the code.
-use Rattle.settling.proofs.Laws.{positive, held-share}
 use Rattle.settling.proofs.ReadTurns.{Seen, turn-nobody, turn-nothing, handed-short, served}
 use Rattle.settling.proofs.FirstReader.{reader-of, reader-under}
+use Rattle.store.proofs.Hands.{fine-stored, hand-held}
+use Rattle.midst.proofs.Begins.{mid-lengths}
 use Rattle.segment.specs.Layout.{readQueue}
 use Rattle.segment.specs.Table.{nth}
 use Rattle.rules.specs.Limits.{entries}
-use Rattle.midst.proofs.Stores.{mid-held}
-use Rattle.midst.proofs.Begins.{mid-lengths}
-use Rattle.records.proofs.cursor.Laws.{stands-ranged, stands-readable}
+use borrow.Author.Tests.{not-true, not-false}
 use native.Mathlib.Omega.{arith}
 use Prim.Native.Nat.{_<_}
 use mathlib.Core.Path.{refl}
@@ -15,39 +14,38 @@ use borrow.Author.Needs.{needs}
 use Rattle.settling.proofs.readers.serve_reader.Statement.{statement}
 use Rattle.settling.proofs.readers.serve_reader.Tie as tie
 
--- back from the cursor to the calls before it, and to the start
-abbrev found-row : tie.After-found → tie.After-read-place
-found-row c = c .before .before .before
+-- back from the fetch to the calls before it, and to the start
+abbrev fetch-row : tie.After-fetch → tie.After-read-place
+fetch-row c = c .before .before .before
 
-abbrev found-entry : tie.After-found → tie.After-read-entry
-found-entry c = found-row c .before .before .before
+abbrev fetch-entry : tie.After-fetch → tie.After-read-entry
+fetch-entry c = fetch-row c .before .before .before
 
-abbrev found-waits : tie.After-found → tie.Else1
-found-waits c = found-entry c .before .before
+abbrev fetch-waits : tie.After-fetch → tie.Else1
+fetch-waits c = fetch-entry c .before .before
 
-abbrev found-head : tie.After-found → tie.After-get
-found-head c = found-waits c .before
+abbrev fetch-head : tie.After-fetch → tie.After-get
+fetch-head c = fetch-waits c .before
 
 abbrev start : tie.After-slice-known2 → tie.Start
 start c = c .before .before .before
 
-abbrev found-start : tie.After-found → tie.Start
-found-start c = start (found-head c .before .before)
+abbrev fetch-start : tie.After-fetch → tie.Start
+fetch-start c = start (fetch-head c .before .before)
 
--- what the code has seen when it has the cursor
-seen : (c : tie.After-found)
-    → Seen (found-start c .args .f) (found-start c .args .segment .now) (found-start c .args .blocks .now) (found-start c .args .file) (found-head c .get .result) (found-entry c .read-entry .result) (found-row c .read-place .result) (c .before .share .result .now) (c .found .result)
+-- what the code has seen when it has fetched
+seen : (c : tie.After-fetch)
+    → Seen (fetch-start c .args .f) (fetch-start c .args .segment .now) (fetch-start c .args .blocks .now) (fetch-start c .args .file) (fetch-head c .get .result) (fetch-entry c .read-entry .result) (fetch-row c .read-place .result) (c .fetch .result)
 seen c = record {
-  first = found-head c .get .ensures;
-  entry = found-entry c .read-entry .ensures;
-  place = found-row c .read-place .ensures;
-  share = c .before .share .ensures;
-  ring = c .found .ensures .0;
-  stands = c .found .ensures .1;
+  first = fetch-head c .get .ensures;
+  entry = fetch-entry c .read-entry .ensures;
+  place = fetch-row c .read-place .ensures;
+  keeps = c .fetch .ensures .1 .1 .0;
+  gets = c .fetch .ensures .1 .1 .1;
 }
 
-somebody : (c : tie.After-found) → nth (found-start c .args .segment .now) (readQueue (found-start c .args .f)) < entries
-somebody c = rw (← found-head c .get .ensures) (found-waits c .if1 .left)
+somebody : (c : tie.After-fetch) → nth (fetch-start c .args .segment .now) (readQueue (fetch-start c .args .f)) < entries
+somebody c = rw (← fetch-head c .get .ensures) (fetch-waits c .if1 .left)
 
 add-get : tie.Need-add-get
 add-get c =
@@ -83,52 +81,48 @@ read-place-requires c κs =
           (get .ensures) (c .before .before .read-entry .ensures),
     )
 
-share-requires : tie.Need-share-requires
-share-requires c κs =
+fetch-requires : tie.Need-fetch-requires
+fetch-requires c κs =
     let start : tie.Start = search in
-    (start .pre .2 .blocks-size, start .pre .2 .file)
-
-found-requires : tie.Need-found-requires
-found-requires c κs =
-    let start : tie.Start = search in
-    held-share _ _ _ _ _ (c .share .ensures)
-    (mid-held (start .pre .2) (start .pre .2 .good .room .geo) (start .pre .2 .good .room .holds))
+    hand-held (start .pre .2) (fine-stored (start .pre .2 .good))
 
 same-length-2 : tie.Need-same-length-2
 same-length-2 c = refl
 
 returns-2 : tie.Need-returns-2
 returns-2 c =
-    let found : tie.After-found = search in
+    let fetched : tie.After-fetch = search in
     λ o b M.
-    turn-nothing M (reader-of M (somebody found)) (seen found) (c .if2 .taken)
+    turn-nothing M (reader-of M (somebody fetched)) (seen fetched) (not-true _ (c .if2 .taken))
+
+share-requires : tie.Need-share-requires
+share-requires c κs =
+    let fetched : tie.After-fetch = search in
+    let M = fetch-start fetched .pre .2 in
+    (M .blocks-size, M .file)
 
 handed-requires : tie.Need-handed-requires
 handed-requires c κs =
-    let found : tie.After-found = search in
+    let fetched : tie.After-fetch = search in
     let else2 : tie.Else2 = search in
-    stands-readable _ _ _ (seen found .stands) (positive _ (else2 .if2 .left))
+    rw (c .share .ensures) (fetched .fetch .ensures .1 .0 (not-false _ (else2 .if2 .left)))
 
 hand-over-requires : tie.Need-hand-over-requires
 hand-over-requires c κs =
     let handed : tie.After-handed = search in
-    let found : tie.After-found = search in
+    let share : tie.After-share = search in
+    let fetched : tie.After-fetch = search in
     let else2 : tie.Else2 = search in
-    let M = found-start found .pre .2 in
-    let v = seen found in
-    let r = reader-of M (somebody found) in (
+    let M = fetch-start fetched .pre .2 in
+    let v = seen fetched in
+    let r = reader-of M (somebody fetched) in (
       (mid-lengths M, M .buffers-size, M .file),
       (
         reader-under M r _ _ (v .first) (v .entry),
-        handed-short M r v (positive _ (else2 .if2 .left)) _ (handed .handed .ensures),
-        somebody found,
+        handed-short M r v (not-false _ (else2 .if2 .left)) _ (share .share .ensures) _ (handed .handed .ensures),
+        somebody fetched,
       ),
     )
-
-taken-requires : tie.Need-taken-requires
-taken-requires c κs =
-    let found : tie.After-found = search in
-    stands-ranged _ _ _ (seen found .stands)
 
 same-length-3 : tie.Need-same-length-3
 same-length-3 c = search needs
@@ -140,13 +134,12 @@ returns-3 : tie.Need-returns-3
 returns-3 c =
     let over : tie.After-hand-over = search in
     let handed : tie.After-handed = search in
-    let found : tie.After-found = search in
+    let share : tie.After-share = search in
+    let fetched : tie.After-fetch = search in
     let else2 : tie.Else2 = search in
-    let v = seen found in
     λ o b M.
-    rw (c .taken .ensures)
-    (served M (reader-of M (somebody found)) v (positive _ (else2 .if2 .left)) _ (handed .handed .ensures) _ _
-    (over .hand-over .ensures .0) (over .hand-over .ensures .1))
+    served M (reader-of M (somebody fetched)) (seen fetched) (not-false _ (else2 .if2 .left)) _ (share .share .ensures) _ (handed .handed .ensures) _ _
+    (over .hand-over .ensures .0) (over .hand-over .ensures .1)
 
 pub serve-reader-spec : {M : Type 1} → statement M
 serve-reader-spec =
@@ -159,13 +152,12 @@ serve-reader-spec =
     read-entry-requires
     cast-read-place
     read-place-requires
-    share-requires
-    found-requires
+    fetch-requires
     same-length-2
     returns-2
+    share-requires
     handed-requires
     hand-over-requires
-    taken-requires
     same-length-3
     same-length-4
     returns-3)

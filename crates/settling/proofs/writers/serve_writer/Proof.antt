@@ -1,10 +1,8 @@
 -- `writers::serve_writer` meets its contract: an answer to each need, in the order of the code.
 use Rattle.settling.proofs.WriteTurns.{turn-nobody, turn-full, data-ready, served}
 use Rattle.settling.proofs.FirstWriter.{writer-of, writer-under, writer-size}
-use Rattle.midst.proofs.Stores.{mid-held}
+use Rattle.store.proofs.Hands.{fine-stored, hand-ranged}
 use Rattle.midst.proofs.Begins.{mid-lengths}
-use Rattle.memory.specs.Stands.{shareAt}
-use Rattle.ring.proofs.Held.{held-ranged}
 use borrow.Author.Tests.{not-true, not-false}
 use native.Mathlib.Omega.{arith}
 use mathlib.Core.Path.{refl}
@@ -37,7 +35,7 @@ fits-requires : tie.Need-fits-requires
 fits-requires c κs =
     let start : tie.Start = search in
     let M = start .pre .2 in
-    (held-ranged _ _ _ (mid-held M (M .good .room .geo) (M .good .room .holds)), c .count-side .ensures .1)
+    (hand-ranged M (fine-stored (M .good)), c .count-side .ensures .1)
 
 same-length-2 : tie.Need-same-length-2
 same-length-2 c = refl
@@ -71,7 +69,6 @@ read-place-requires c κs =
     )
 
 take-requires : tie.Need-take-requires
-unfolding shareAt
 take-requires c κs =
     let here : tie.After-read-entry = search in let read-entry = here .read-entry in
     let here : tie.Else1 = search in let if1 = here .if1 in
@@ -86,7 +83,7 @@ take-requires c κs =
           writer-size M r _ _ (get .ensures) (read-entry .ensures),
           rw (← get .ensures) (if1 .left),
         ),
-        data-ready M r _ _ (get .ensures) (read-entry .ensures),
+        data-ready M r _ _ (get .ensures) (read-entry .ensures) .1,
       ),
     )
 
@@ -100,7 +97,6 @@ same-length-5 : tie.Need-same-length-5
 same-length-5 c = search needs
 
 returns-3 : tie.Need-returns-3
-unfolding shareAt
 returns-3 c =
     let here : tie.After-take = search in let take = here .take in
     let here : tie.After-read-place = search in let read-place = here .read-place in
@@ -113,7 +109,7 @@ returns-3 c =
     λ o b M.
     served M (writer-of M (rw (← get .ensures) (if1 .left))) _ _ (get .ensures) (read-entry .ensures) _
     (read-place .ensures) (rw (← count-side .ensures .0, ← fits2 .ensures) (not-false _ (if2 .left))) _ _ _ _
-    (take .ensures .0) (take .ensures .1 .0) (take .ensures .1 .1 .0) (take .ensures .1 .1 .1)
+    (take .ensures .0) (take .ensures .1 .0) (take .ensures .1 .1)
 
 pub serve-writer-spec : {M : Type 1} → statement M
 serve-writer-spec =

@@ -15,8 +15,8 @@ cast-lies c = search needs
 lies-requires : tie.Need-lies-requires
 lies-requires c κs = search needs
 
-put-at-requires : tie.Need-put-at-requires
-put-at-requires c κs =
+put-requires : tie.Need-put-requires
+put-requires c κs =
     let start : tie.Start = search in
     ((start .pre .0 .1, start .pre .0 .3), rw (c .before .lies .ensures) (start .pre .1 .1))
 
@@ -50,13 +50,10 @@ unfolding wroteWords entryWords
 returns c =
     let here : tie.After-log-of = search in let log-of = here .log-of in
     let here : tie.After-clear-at = search in let clear-at = here .clear-at in
-    let here : tie.After-put-at = search in let put-at = here .put-at in
+    let here : tie.After-put = search in let put = here .put in
     let here : tie.After-lies = search in let lies = here .lies in (
-      put-at .ensures .0,
-      (
-        rw (← lies .ensures) (put-at .ensures .1),
-        (clear-at .ensures, rw (← log-of .ensures) (c .before .before .complete .ensures)),
-      ),
+      rw (← lies .ensures) (put .ensures .1 .1),
+      (clear-at .ensures, rw (← log-of .ensures) (c .before .before .complete .ensures)),
     )
 
 pub take-spec : {M : Type 1} → statement M
@@ -66,7 +63,7 @@ take-spec =
     cast-place
     cast-lies
     lies-requires
-    put-at-requires
+    put-requires
     clear-at-requires
     log-of-requires
     add-complete

@@ -20,8 +20,14 @@ file-start c = row-start (c .before .before)
 abbrev file-row : tie.After-take-file → tie.After-read-place
 file-row c = c .before .before
 
+abbrev taken-file : tie.After-taken-now → tie.After-take-file
+taken-file c = c .before .before .before
+
+abbrev began-taken : tie.After-begin → tie.After-taken-now
+began-taken c = c .before .before
+
 abbrev began-file : tie.After-begin → tie.After-take-file
-began-file c = c .before .before .before .before
+began-file c = taken-file (began-taken c)
 
 abbrev began-start : tie.After-begin → tie.Start
 began-start c = file-start (began-file c)
@@ -32,14 +38,17 @@ then-began c = c .before .before .before
 abbrev else-began : tie.Else1 → tie.After-begin
 else-began c = c .before .before .before
 
-abbrev put-then : tie.After-put-at → tie.Then1
+abbrev put-then : tie.After-put → tie.Then1
 put-then c = c .before .before
 
 abbrev may-else : tie.After-may-wait → tie.Else1
 may-else c = c .before .before
 
-abbrev words-may : tie.After-in-words2 → tie.After-may-wait
-words-may c = c .before .before .before .before
+abbrev wait-then : tie.After-wait-write → tie.Then2
+wait-then c = c .before .before .before
+
+abbrev untaken-buffers : tie.After-untaken → tie.After-slice-known6
+untaken-buffers c = c .before .before .before
 
 -- what is asked of numbers and lengths
 fit : (c : tie.Start) → Fit (c .args .segment .now) (c .args .blocks .now) (c .args .buffers .now) (c .args .f) (c .args .acc)
@@ -59,29 +68,30 @@ take-file-requires c κs = let F = fit (row-start (c .before)) in (F .segment, F
 
 taken-now-requires : tie.Need-taken-now-requires
 taken-now-requires c κs =
-    let s = file-start (c .before) in
+    let k = c .before .before in
+    let s = file-start k in
     let S = s .pre .0 .0 .2 in
-    (fit s .segment, fit s .file, write-ranged S _ _ _ _ (s .pre .0 .1 _ _ S) (s .pre .1) _ (c .before .take-file .ensures))
+    (fit s .segment, fit s .file, write-ranged S _ _ _ _ (s .pre .0 .1 _ _ S) (s .pre .1) _ (k .take-file .ensures))
 
 begin-requires : tie.Need-begin-requires
 begin-requires c κs =
-    let read : tie.After-read-place = search in
-    let F = fit (file-start (c .before .before .before)) in
-    (F .segment, omega (arith, F .file, F .place), read .read-place .ensures)
+    let k = taken-file (c .before) in
+    let F = fit (file-start k) in
+    (F .segment, omega (arith, F .file, F .place), file-row k .read-place .ensures)
 
-put-at-requires : tie.Need-put-at-requires
-put-at-requires c κs =
+put-requires : tie.Need-put-requires
+put-requires c κs =
     let k = began-file (then-began (c .before)) in
     let s = file-start k in
     let S = s .pre .0 .0 .2 in
-    ((fit s .blocks-size, fit s .file), write-ready S _ _ _ _ (s .pre .0 .1 _ _ S) (s .pre .1) _ (k .take-file .ensures))
+    write-ready S _ _ _ _ (s .pre .0 .1 _ _ S) (s .pre .1) _ (k .take-file .ensures)
 
 in-words-requires : tie.Need-in-words-requires
 in-words-requires c κs = search needs
 
 cast-log-of : tie.Need-cast-log-of
 cast-log-of c =
-    let k = began-file (then-began (put-then (c .before .before .before))) in
+    let k = began-file (then-began (put-then (c .before .before))) in
     let s = file-start k in
     let S = s .pre .0 .0 .2 in
     record { fits = omega (arith, write-bytes S _ _ _ _ (s .pre .0 .1 _ _ S) (s .pre .1) _ (k .take-file .ensures)) }
@@ -99,15 +109,15 @@ returns : tie.Need-returns
 unfolding placeOf
 returns c =
     λ d s S.
-    let put = c .before .before .before .before in
+    let put = c .before .before .before in
     let then = put-then put in
     let b = then-began then in
     let k = began-file b in
     let z = file-start k in
     write-put S _ _ _ _ (z .pre .0 .1 d s S) (z .pre .1) _ (k .take-file .ensures) _
     (file-row k .read-place .ensures) _ (b .begin .ensures)
-    (sym (then .if1 .taken) ∙ b .before .before .taken-now .ensures) _ _ _ _ (put .put-at .ensures .0)
-    (put .put-at .ensures .1) (c .log-of .ensures) (c .before .in-words .ensures)
+    (sym (then .if1 .taken) ∙ began-taken b .taken-now .ensures) _ _ _ _ (put .put .ensures .1 .1)
+    (c .log-of .ensures) (began-taken b .before .before .in-words .ensures)
 
 may-wait-requires : tie.Need-may-wait-requires
 unfolding placeOf
@@ -118,17 +128,14 @@ may-wait-requires c κs =
     let S = s .pre .0 .0 .2 in (
       write-free S _ _ _ _ (s .pre .0 .1 _ _ S) (s .pre .1) _ (k .take-file .ensures) _
           (file-row k .read-place .ensures) _ (b .begin .ensures)
-          (sym (c .before .if1 .left) ∙ b .before .before .taken-now .ensures) _ refl .0,
+          (sym (c .before .if1 .left) ∙ began-taken b .taken-now .ensures) _ refl .0,
       fit s .file,
     )
-
-in-words-requires-2 : tie.Need-in-words-requires-2
-in-words-requires-2 c κs = search needs
 
 wait-write-requires : tie.Need-wait-write-requires
 unfolding placeOf
 wait-write-requires c κs =
-    let e = may-else (words-may c) in
+    let e = may-else (c .before .before .before) in
     let b = else-began e in
     let k = began-file b in
     let s = file-start k in
@@ -136,9 +143,12 @@ wait-write-requires c κs =
     let F = fit s in
     let free = write-free S _ _ _ _ (s .pre .0 .1 _ _ S) (s .pre .1) _ (k .take-file .ensures) _
     (file-row k .read-place .ensures) _ (b .begin .ensures)
-    (sym (e .if1 .left) ∙ b .before .before .taken-now .ensures) _ (c .in-words2 .ensures) in
+    (sym (e .if1 .left) ∙ began-taken b .taken-now .ensures) _ (began-taken b .before .before .in-words .ensures) in
     let short = write-bytes S _ _ _ _ (s .pre .0 .1 _ _ S) (s .pre .1) _ (k .take-file .ensures) in
     ((free .0, F .buffers-size, F .file, omega (arith, F .file, F .place), short, free .1), free .2)
+
+untaken-requires : tie.Need-untaken-requires
+untaken-requires c κs = search needs
 
 same-length-3 : tie.Need-same-length-3
 same-length-3 c = search needs
@@ -150,17 +160,21 @@ returns-2 : tie.Need-returns-2
 unfolding placeOf
 returns-2 c =
     λ d s S.
-    let w = c .before .before .before .before in
-    let m = words-may (w .before) in
+    let w = untaken-buffers c .before .before in
+    let m = wait-then w .before in
     let e = may-else m in
     let b = else-began e in
     let k = began-file b in
     let z = file-start k in
-    write-waits S _ _ _ _ (z .pre .0 .1 d s S) (z .pre .1) _ (k .take-file .ensures) _
+    rw (c .untaken .ensures)
+    (write-waits S _ _ _ _ (z .pre .0 .1 d s S) (z .pre .1) _ (k .take-file .ensures) _
     (file-row k .read-place .ensures) _ (b .begin .ensures)
-    (sym (e .if1 .left) ∙ b .before .before .taken-now .ensures)
-    (sym (w .before .before .before .before .if2 .taken) ∙ m .may-wait .ensures) _ _ _
-    (w .before .in-words2 .ensures) (w .wait-write .ensures .0) (w .wait-write .ensures .1)
+    (sym (e .if1 .left) ∙ began-taken b .taken-now .ensures)
+    (sym (wait-then w .if2 .taken) ∙ m .may-wait .ensures) _ _ _
+    (began-taken b .before .before .in-words .ensures) (w .wait-write .ensures .0) (w .wait-write .ensures .1))
+
+untaken-requires-2 : tie.Need-untaken-requires-2
+untaken-requires-2 c κs = search needs
 
 same-length-5 : tie.Need-same-length-5
 same-length-5 c = search needs
@@ -169,14 +183,16 @@ returns-3 : tie.Need-returns-3
 unfolding placeOf
 returns-3 c =
     λ d s S.
-    let e = may-else (c .before) in
+    let m = c .before .before in
+    let e = may-else m in
     let b = else-began e in
     let k = began-file b in
     let z = file-start k in
-    write-ends S _ _ _ _ (z .pre .0 .1 d s S) (z .pre .1) _ (k .take-file .ensures) _
+    rw (c .untaken2 .ensures)
+    (write-ends S _ _ _ _ (z .pre .0 .1 d s S) (z .pre .1) _ (k .take-file .ensures) _
     (file-row k .read-place .ensures) _ (b .begin .ensures)
-    (sym (e .if1 .left) ∙ b .before .before .taken-now .ensures)
-    (sym (c .if2 .left) ∙ c .before .may-wait .ensures)
+    (sym (e .if1 .left) ∙ began-taken b .taken-now .ensures)
+    (sym (c .before .if2 .left) ∙ m .may-wait .ensures))
 
 pub act-spec : {M : Type 1} → statement M
 act-spec =
@@ -186,20 +202,21 @@ act-spec =
     add-place
     read-place-requires
     take-file-requires
+    in-words-requires
     taken-now-requires
     begin-requires
-    put-at-requires
-    in-words-requires
+    put-requires
     cast-log-of
     log-of-requires
     same-length
     same-length-2
     returns
     may-wait-requires
-    in-words-requires-2
     wait-write-requires
+    untaken-requires
     same-length-3
     same-length-4
     returns-2
+    untaken-requires-2
     same-length-5
     returns-3)

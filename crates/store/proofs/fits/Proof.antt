@@ -1,9 +1,9 @@
--- `writers::fits` meets its contract: an answer to each need, in the order of the code.
+-- `fits` meets its contract: an answer to each need, in the order of the code.
 use Rattle.rules.specs.Geometry.{capacity}
-use Rattle.settling.specs.Turns.{fitsRing}
+use Rattle.store.specs.Door.{fitsRing}
 use borrow.Author.Needs.{needs}
-use Rattle.settling.proofs.writers.fits.Statement.{statement}
-use Rattle.settling.proofs.writers.fits.Tie as tie
+use Rattle.store.proofs.fits.Statement.{statement}
+use Rattle.store.proofs.fits.Tie as tie
 
 used-requires : tie.Need-used-requires
 used-requires c κs = search needs

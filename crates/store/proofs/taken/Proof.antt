@@ -1,8 +1,8 @@
--- `readers::taken` meets its contract: an answer to each need, in the order of the code.
-use Rattle.settling.specs.Turns.{takenRing}
+-- `taken` meets its contract: an answer to each need, in the order of the code.
+use Rattle.store.specs.Door.{takenRing}
 use borrow.Author.Needs.{needs}
-use Rattle.settling.proofs.readers.taken.Statement.{statement}
-use Rattle.settling.proofs.readers.taken.Tie as tie
+use Rattle.store.proofs.taken.Statement.{statement}
+use Rattle.store.proofs.taken.Tie as tie
 
 advanced-requires : tie.Need-advanced-requires
 advanced-requires c κs = search needs
