@@ -1,4 +1,4 @@
--- The night board: what is printed of a desk of the rules, file by file. Each line has at most 80 columns (proofs/Columns.antt).
+-- The night board: what is printed of a desk of the rules, file by file. Each line has at most 80 columns (`board-narrow` in columns/proofs/Board.antt).
 use Prim.Native.Nat.{ℕ, zero, suc, _+_, _-_, _*_}
 use mathlib.Core.Bool.{true, false}
 use mathlib.Core.List.{List, [], _∷_, _++_}
