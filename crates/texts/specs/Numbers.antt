@@ -1,5 +1,5 @@
 -- Numbers in decimal digits, and with a noun.
-use Prim.Native.Nat.{ℕ, _+_, _/_, _%_}
+use Prim.Native.Nat.{ℕ, _+_, _-_, _*_, _/_, _%_}
 use mathlib.Core.Bool.{cond}
 use mathlib.Core.List.{List, [], _∷_, _++_}
 use lib.Dec.{ltb, eqb}
@@ -18,6 +18,11 @@ leading n = cond (ltb n 10) 4 (cond (ltb n 100) 3 (cond (ltb n 1000) 2 (cond (lt
 
 unfoldable pub decimal : ℕ → List ℕ
 decimal n = drop (leading n) (fiveDigits n)
+
+-- the number that digits say, behind those that say n
+unfoldable pub said : ℕ → List ℕ → ℕ
+said n [] = n
+said n (d ∷ t) = said (10 * n + (d - 48)) t
 
 -- a number below 10
 unfoldable pub oneDigit : ℕ → List ℕ
