@@ -11,7 +11,9 @@ static uint8_t answer[TENDRILHOOK_ANSWER_BYTES];
 enum { WORDS = 40, FACTOR = 10 };
 
 static const uint8_t build[] = { 1, 0, 0, WORDS, FACTOR, 0, 30, 1 }, writer[] = { 2, 0, 3, 3, 0 }, reader[] = { 2, 0, 0, 3, 0 };
-static const uint8_t written[5 + 2 * WORDS] = { 4, 0, 0, 0, WORDS }, read[] = { 3, 0, 1, 0, WORDS };
+static const uint8_t written[5 + 2 * WORDS] = { 4, 0, 0, 0, WORDS }, shorter[3 + 2 * WORDS] = { 4, 0, 0, 0, WORDS - 1 };
+/* of the lengths that the record may have, 15 bytes take the most: they are copied one by one */
+static const uint8_t dearest[5 + 15] = { 4, 0, 0, 0xFF, 0xF1 }, read[] = { 3, 0, 1, 0, WORDS };
 
 static size_t ask(const uint8_t *frame, size_t length)
 {
@@ -26,6 +28,19 @@ __attribute__((noipa)) void counted(const uint8_t *frame, size_t length)
 static void must(const uint8_t *frame, size_t length)
 {
     if (ask(frame, length) < 4 || answer[1] != 0) exit(2);
+}
+
+/* a block is filled and another begun; then the block is read, and the reads behind none, one and all but one of its records are counted */
+static void block(const uint8_t *frame, size_t length, int written_before, const char *what)
+{
+    for (int n = written_before; n <= FACTOR; n++) must(frame, length);
+    for (int n = 0; n < FACTOR; n++) {
+        if (n == 0 || n == 1 || n == FACTOR - 1) {
+            printf("a read behind %d spent in its block%s\n", n, what);
+            counted(read, sizeof read);
+        } else
+            must(read, sizeof read);
+    }
 }
 
 int main(void)
@@ -44,14 +59,12 @@ int main(void)
     must(written, sizeof written);
     puts("a write behind another");
     counted(written, sizeof written);
-    for (int n = 3; n <= FACTOR; n++) must(written, sizeof written);
-    must(written, sizeof written);
-    for (int n = 0; n < FACTOR; n++) {
-        if (n == 0 || n == 1 || n == FACTOR - 1) {
-            printf("a read behind %d spent in its block\n", n);
-            counted(read, sizeof read);
-        } else
-            must(read, sizeof read);
-    }
+    block(written, sizeof written, 2, "");
+    must(read, sizeof read);
+    block(shorter, sizeof shorter, 0, ", of records of 78 bytes");
+    must(read, sizeof read);
+    puts("a write of 15 bytes that begins a block");
+    counted(dearest, sizeof dearest);
+    block(dearest, sizeof dearest, 1, ", of records of 15 bytes");
     return 0;
 }

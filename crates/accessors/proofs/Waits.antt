@@ -27,6 +27,7 @@ use Rattle.laws.specs.Outstanding.{reqAt, waitsRead, waitsWrite, awaits, reqOf}
 use Rattle.laws.specs.Outstanding as laws
 use Rattle.laws.specs.Queues.{Agree}
 use Rattle.laws.specs.Sides.{Fitting, Sided}
+use Rattle.memory.specs.Memories.{Memories}
 use Rattle.memory.specs.Image.{accOf, reqWords, queueWords, rqOf, wqOf, listsOf, boxesOf}
 use Rattle.memory.proofs.Image.{placeAcc-at, listOf-port, boxOf-read, boxOf-write}
 use Rattle.memory.proofs.Boxes.{getD-listsOf, getD-boxesOf, segment-boxes}
@@ -155,16 +156,16 @@ module _ {xs hand : List ℕ} {hm rs : List (List ℕ)} (d : Desk) (s : Alloc) (
       go w (writeDone q) F c r k = shows-completed (ltb port entries) (ltb (nth xs (seek (has 0 i) xs (queueOf f (1 + bit w)) entries)) entries) (lt-ltb port entries (omega (arith, c .0, c .1)))
 
 -- in a segment that stands for a desk
-module _ {xs blocks buffers : List ℕ} {d : Desk} {s : Alloc} (S : StandsFor xs blocks buffers d s) where
+module _ {m : Memories} {d : Desk} {s : Alloc} (S : StandsFor m d s) where
   pub fine-at : (f : ℕ) → f < files → (b : Built) → fileOf d f ≡ built b → Fine b
   unfolding OnFile
   fine-at f h b e = rw e at (S .fine f h)
 
   pub outstanding-is : (f : ℕ) → f < files → (b : Built) → fileOf d f ≡ built b → (p : ℕ) (a : Acc) → p < places → accAt b p ≡ some a
-      → outstandingAt xs f p (sideOf (some a)) ≡ outstandingOf (a .req)
+      → outstandingAt (m .segment) f p (sideOf (some a)) ≡ outstandingOf (a .req)
   outstanding-is f h b e p a k i =
       let F : Fine b = fine-at f h b e in
-      outstanding-boxes d s (segment-boxes d s xs (agreed-once d s (S .agreed) queues) (S .stands .segment)) f h b e (F .queues) p a k i (F .sides p a i)
+      outstanding-boxes d s (segment-boxes d s (m .segment) (agreed-once d s (S .agreed) queues) (S .stands .segment)) f h b e (F .queues) p a k i (F .sides p a i)
     where
       queues : (g : ℕ) → g < files → OnFile Agree (fileOf d g)
       queues g l = on-file Fine Agree (λ c z. z .queues) (fileOf d g) (S .fine g l)

@@ -60,10 +60,10 @@ pub fn accessor_of(segment: &[u8], file: usize, acc: usize) -> Accessor
 }
 
 // Share 1: one reader and one writer.
-const SINGLE: u16 = 1;
+pub const SINGLE: u16 = 1;
 
 // "Share 0 counts as 1"
-pub fn share_of(share: u8) -> u16
+pub fn sharing_of(share: u8) -> u16
     ensures { λ r. ⌜ r ≡ sharingOf share ⌝ }
 {
     if share == 0 {

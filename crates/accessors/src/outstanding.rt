@@ -33,6 +33,10 @@ pub fn outstanding_at(segment: &[u8], f: usize, acc: usize, side: u16) -> Outsta
         return Outstanding::Completed;
     }
     let queue = queue_of(f, side);
+    // nobody waits, as most often: nothing is looked for
+    if segment::get(segment, queue) >= layout::ENTRIES {
+        return Outstanding::Nothing;
+    }
     let slot = ports::seek_place(segment, queue, place as u16);
     if segment::get(segment, slot) < layout::ENTRIES {
         return Outstanding::Waiting;

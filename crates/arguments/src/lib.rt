@@ -1,12 +1,19 @@
 // The arguments of the command-line programs:
 //     PROGRAM FILE [SHEET]
 // FILE is a file's number and SHEET a path. What is wrong with them is said on standard error.
+use kinds::limits::FILES;
 use libc::STDERR_FILENO;
 ghost use Prim.Native.Nat.{_≤_};
 ghost use lib.ListN.{length};
 
 // In place of a file's number: the program cannot go on.
-pub const NO_FILE: usize = 8;
+pub const NO_FILE: usize = FILES;
+
+// The first digit that names no file.
+const NO_DIGIT: u8 = b'0' + FILES as u8;
+
+// Room for the text of a sheet: more than the longest has.
+pub const TEXT_BYTES: usize = 65536;
 
 // The file's number, whether a sheet is named, and how many bytes of text it has.
 pub struct Named {
@@ -40,7 +47,7 @@ fn file_named() -> usize {
     if digit < b'0' {
         return NO_FILE;
     }
-    if digit > b'7' {
+    if digit >= NO_DIGIT {
         return NO_FILE;
     }
     (digit - b'0') as usize

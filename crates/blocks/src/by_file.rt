@@ -1,4 +1,4 @@
-// The blocks memory: eight shares, that of a file from 4,096 × file on.
+// The blocks memory: one share a file, by its number.
 use crate::writing::put;
 use kinds::limits::SHARE_BYTES;
 use ring::Ring;

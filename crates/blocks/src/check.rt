@@ -56,7 +56,7 @@ fn fair(share: &[u8], words: u16, e: usize, p: usize) -> bool
     if follow % 2 == 0 {
         return true;
     }
-    share[p + 2 + follow as usize] == 0
+    share[p + TYPE + follow as usize] == 0
 }
 
 // Whether n such records stand from `at` on, the last ends at `end`, and all is zero from there to e.

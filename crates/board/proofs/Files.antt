@@ -1,7 +1,7 @@
 -- What is put of a file is what the rules have of it.
 use Prim.Native.Nat.{ℕ, _+_, _-_, _*_, _≤_, _<_}
 use mathlib.Core.Path.{_≡_, sym, ap, _∙_}
-use mathlib.Core.List.{List, [], _∷_, _++_}
+use mathlib.Core.List.{[], _∷_, _++_}
 use types.Run.{OneOf, miss}
 use denote.Enum.Declared.{tagOf}
 use lib.ListN.{length}
@@ -21,6 +21,7 @@ use Rattle.laws.proofs.Room.{good-sized}
 use Rattle.segment.specs.Fields.{fileAt}
 use Rattle.ring.specs.Ring.{Ranged, used}
 use Rattle.ring.proofs.Stores.{ranged}
+use Rattle.memory.specs.Memories.{Memories}
 use Rattle.memory.specs.Fine.{StandsFor}
 use Rattle.midst.specs.declared.File as hand
 use Rattle.midst.specs.File.{fileOfRow}
@@ -46,8 +47,8 @@ pub counts-only : (b : Built) (r : Answer) → counts b ≡ answering r b → On
 counts-only b r e k = miss (0 ∷ 1 ∷ 2 ∷ 3 ∷ 4 ∷ 5 ∷ 6 ∷ 7 ∷ 9 ∷ []) 8 tt (rw (counted-as b r e) at k)
 
 -- the memories stand for a desk whose file f is b, and x is that file in hand
-module _ {xs blocks buffers : List ℕ} {d : Desk} {s : Alloc} (S : StandsFor xs blocks buffers d s) (f : ℕ) (hf : f < files) (b : Built) (is : fileOf d f ≡ built b)
-    (x : hand.File) (e : x ≡ fileOfRow (fileAt xs f)) where
+module _ {m : Memories} {d : Desk} {s : Alloc} (S : StandsFor m d s) (f : ℕ) (hf : f < files) (b : Built) (is : fileOf d f ≡ built b)
+    (x : hand.File) (e : x ≡ fileOfRow (fileAt (m .segment) f)) where
   pub ring-ranged : Ranged (x .ring)
   ring-ranged = rw (e ∙ row-is S f hf b is) (ranged (b .geo) (b .store) (good-sized (b .geo) (room S f hf b is .geo)) (room S f hf b is .holds))
 
@@ -60,7 +61,7 @@ module _ {xs blocks buffers : List ℕ} {d : Desk} {s : Alloc} (S : StandsFor xs
 
   pub file-is : (n all w left : ℕ) → n ≡ dataCount (b .store .recs) → all ≡ length (b .store .recs) → w ≡ writers b
       → left ≡ x .ring .factor * x .ring .blocks - (used (x .ring) + w)
-      → geometryLine f (x .words) (x .ring .factor) (x .ring .blocks) ++ (heldLine n all left ++ accessorsAt xs f) ≡ fileText f (built b)
+      → geometryLine f (x .words) (x .ring .factor) (x .ring .blocks) ++ (heldLine n all left ++ accessorsAt (m .segment) f) ≡ fileText f (built b)
   unfolding fileText roomLeft capacityOf rules.used capacity
   file-is n all w left en ea ew el =
       let k : left ≡ roomLeft b = rw (e ∙ row-is S f hf b is, ew) at el in

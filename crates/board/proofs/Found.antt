@@ -32,6 +32,7 @@ use Rattle.ports.proofs.Chains.{slotAt}
 use Rattle.ports.proofs.Boxes.{length-box, data-box, slot-box, end-box, seek-box}
 use Rattle.ports.proofs.Index.{index-map}
 use Rattle.ports.proofs.Maps.{map-at}
+use Rattle.memory.specs.Memories.{Memories}
 use Rattle.memory.specs.Image.{accOf, reqWords, timerWords, queueWords, portWords, rqOf, wqOf, listsOf, boxesOf, rowsOf}
 use Rattle.memory.specs.Fine.{StandsFor}
 use Rattle.memory.proofs.Image.{placeAcc-at, boxOf-read, boxOf-write, boxOf-port, boxOf-timers}
@@ -73,9 +74,9 @@ is-completed true u e = refl
 is-completed false true e = absurd (false≢true cc)
 is-completed false false e = absurd (false≢true cc)
 
-module _ {xs blocks buffers : List ℕ} {d : Desk} {s : Alloc} (S : StandsFor xs blocks buffers d s) where
-  boxed : Boxes xs [] [] (listsOf d s) (boxesOf d s) (rowsOf d)
-  boxed = segment-boxes d s xs (agreed-once d s (S .agreed) (λ g l. fine-agree (fileOf d g) (S .fine g l))) (S .stands .segment)
+module _ {ms : Memories} {d : Desk} {s : Alloc} (S : StandsFor ms d s) where
+  boxed : Boxes (ms .segment) [] [] (listsOf d s) (boxesOf d s) (rowsOf d)
+  boxed = segment-boxes d s (ms .segment) (agreed-once d s (S .agreed) (λ g l. fine-agree (fileOf d g) (S .fine g l))) (S .stands .segment)
 
   -- list l, whose entries hold ws
   module _ (l : ℕ) (h : l < listCount) (ws : List (List ℕ)) (e : getD (boxesOf d s) l [] ≡ ws) where
@@ -84,31 +85,31 @@ module _ {xs blocks buffers : List ℕ} {d : Desk} {s : Alloc} (S : StandsFor xs
 
     -- the entry of place i
     module _ (i : ℕ) where
-      slot : seek (has 0 i) xs l entries ≡ slotAt l (take (index (has 0 i) ws) (getD (listsOf d s) l []))
+      slot : seek (has 0 i) (ms .segment) l entries ≡ slotAt l (take (index (has 0 i) ws) (getD (listsOf d s) l []))
       slot = rw e at (seek-box boxed l h (has 0 i))
 
-      found-in : index (has 0 i) ws < length ws → (foundAt xs l i < entries) × (dataOf xs (foundAt xs l i) ≡ getD ws (index (has 0 i) ws) [])
+      found-in : index (has 0 i) ws < length ws → (foundAt (ms .segment) l i < entries) × (dataOf (ms .segment) (foundAt (ms .segment) l i) ≡ getD ws (index (has 0 i) ws) [])
       found-in k =
           let n : index (has 0 i) ws < length (getD (listsOf d s) l []) = omega (arith, long) in
           let b = slot-box boxed l h (index (has 0 i) ws) n in
-          let z : foundAt xs l i ≡ getD (getD (listsOf d s) l []) (index (has 0 i) ws) 0 = ap (nth xs) slot ∙ b .0 in
-          (rw z (b .1), ap (dataOf xs) z ∙ data-box boxed l h (index (has 0 i) ws) n ∙ ap (λ (m : List (List ℕ)). getD m (index (has 0 i) ws) []) e)
+          let z : foundAt (ms .segment) l i ≡ getD (getD (listsOf d s) l []) (index (has 0 i) ws) 0 = ap (nth (ms .segment)) slot ∙ b .0 in
+          (rw z (b .1), ap (dataOf (ms .segment)) z ∙ data-box boxed l h (index (has 0 i) ws) n ∙ ap (λ (m : List (List ℕ)). getD m (index (has 0 i) ws) []) e)
 
-      found-none : index (has 0 i) ws ≡ length ws → entries ≤ foundAt xs l i
+      found-none : index (has 0 i) ws ≡ length ws → entries ≤ foundAt (ms .segment) l i
       found-none k = rw slot (end-box boxed l h (index (has 0 i) ws) (k ∙ long) .0)
 
     -- its first entry
-    head-in : 0 < length ws → (nth xs l < entries) × (dataOf xs (nth xs l) ≡ getD ws 0 [])
+    head-in : 0 < length ws → (nth (ms .segment) l < entries) × (dataOf (ms .segment) (nth (ms .segment) l) ≡ getD ws 0 [])
     head-in k =
         let n : 0 < length (getD (listsOf d s) l []) = omega (arith, long) in
         let b = slot-box boxed l h 0 n in
-        (rw (b .0) (b .1), ap (dataOf xs) (b .0) ∙ data-box boxed l h 0 n ∙ ap (λ (m : List (List ℕ)). getD m 0 []) e)
+        (rw (b .0) (b .1), ap (dataOf (ms .segment)) (b .0) ∙ data-box boxed l h 0 n ∙ ap (λ (m : List (List ℕ)). getD m 0 []) e)
 
-    head-none : 0 ≡ length ws → entries ≤ nth xs l
+    head-none : 0 ≡ length ws → entries ≤ nth (ms .segment) l
     head-none k = end-box boxed l h 0 (k ∙ long) .0
 
   -- what is left of a timeout
-  left-clock : (i : ℕ) → leftAt xs i ≡ leftOf i (s .clock)
+  left-clock : (i : ℕ) → leftAt (ms .segment) i ≡ leftOf i (s .clock)
   unfolding leftIn entryAt entryOf timerWords
   left-clock i = go (timed i u (s .clock))
     where
@@ -127,18 +128,18 @@ module _ {xs blocks buffers : List ℕ} {d : Desk} {s : Alloc} (S : StandsFor xs
       k : length (map timerWords (s .clock)) ≡ length (s .clock)
       k = length-map (s .clock) timerWords
 
-      go : Timed i u (s .clock) → leftIn xs (foundAt xs timerList i) ≡ leftOf i (s .clock)
+      go : Timed i u (s .clock) → leftIn (ms .segment) (foundAt (ms .segment) timerList i) ≡ leftOf i (s .clock)
       go (inl (h, r)) =
           let z = found-in timerList (omega arith) (map timerWords (s .clock)) e i (omega (arith, h, n, k)) in
-          let m : dataOf xs (foundAt xs timerList i) ≡ timerWords (getD (s .clock) (index (λ t. eqb (t .place) i) (s .clock)) u) =
+          let m : dataOf (ms .segment) (foundAt (ms .segment) timerList i) ≡ timerWords (getD (s .clock) (index (λ t. eqb (t .place) i) (s .clock)) u) =
           z .1 ∙ ap (λ (j : ℕ). getD (map timerWords (s .clock)) j []) n ∙ map-at timerWords (s .clock) (index (λ t. eqb (t .place) i) (s .clock)) u [] h in
-          rw (lt-ltb (foundAt xs timerList i) entries (z .0)) (ap (λ (w : List ℕ). Seconds (getD w 7 0)) m ∙ sym r)
+          rw (lt-ltb (foundAt (ms .segment) timerList i) entries (z .0)) (ap (λ (w : List ℕ). Seconds (getD w 7 0)) m ∙ sym r)
       go (inr (h, r)) =
-          rw (le-ltb (foundAt xs timerList i) entries (found-none timerList (omega arith) (map timerWords (s .clock)) e i (omega (arith, h, n, k)))) (sym r)
+          rw (le-ltb (foundAt (ms .segment) timerList i) entries (found-none timerList (omega arith) (map timerWords (s .clock)) e i (omega (arith, h, n, k)))) (sym r)
 
   -- a built file
   module _ (f : ℕ) (hf : f < files) (b : Built) (is : fileOf d f ≡ built b) where
-    left-is : (p : ℕ) → p < places → leftAt xs (places * f + p) ≡ leftOf p (b .timers)
+    left-is : (p : ℕ) → p < places → leftAt (ms .segment) (places * f + p) ≡ leftOf p (b .timers)
     unfolding timersOf
     left-is p h = left-clock (places * f + p) ∙ sym (left-sieve f p h (s .clock)) ∙ ap (leftOf p) (S .agreed .agrees f hf .clock ∙ ap timersOf is)
 
@@ -152,23 +153,23 @@ module _ {xs blocks buffers : List ℕ} {d : Desk} {s : Alloc} (S : StandsFor xs
           index-map (has 0 (places * f + p)) F q
           ∙ index-alike (λ x. eqb (getD (F x) 0 0) (places * f + p)) (λ x. eqb x p) q (λ x k. rw (words-place (places * f + x) (reqOf (accAt b x)) (w x k)) (same-place f x p))
 
-      queue-entry : (p : ℕ) → count p q ≡ 1 → entryAt xs (foundAt xs l (places * f + p)) ≡ entryOf (F p)
+      queue-entry : (p : ℕ) → count p q ≡ 1 → entryAt (ms .segment) (foundAt (ms .segment) l (places * f + p)) ≡ entryOf (F p)
       unfolding entryAt
       queue-entry p c =
           let k = place-in p q c in
           let z = found-in l h (map F q) e (places * f + p) (omega (arith, k, index-is p, length-map q F)) in
           ap entryOf (z .1 ∙ ap (λ (j : ℕ). getD (map F q) j []) (index-is p) ∙ map-at F q (index (λ x. eqb x p) q) 0 [] k ∙ ap F (place-at p q c))
 
-      first-is : (p : ℕ) → firstAt xs l (places * f + p) ≡ bit (isFirst p q)
+      first-is : (p : ℕ) → firstAt (ms .segment) l (places * f + p) ≡ bit (isFirst p q)
       unfolding firstIn isFirst entryAt entryOf
       first-is p = go q e w
         where
           go : (r : List ℕ) → getD (boxesOf d s) l [] ≡ map F r → ((x : ℕ) → 1 ≤ count x r → 1 ≤ awaits (reqOf (accAt b x)))
-              → cond (ltb (nth xs l) entries) (bit (eqb (getD (dataOf xs (nth xs l)) 0 0) (places * f + p))) 0 ≡ bit (isFirst p r)
-          go [] k v = rw (le-ltb (nth xs l) entries (head-none l h [] k refl))
+              → cond (ltb (nth (ms .segment) l) entries) (bit (eqb (getD (dataOf (ms .segment) (nth (ms .segment) l)) 0 0) (places * f + p))) 0 ≡ bit (isFirst p r)
+          go [] k v = rw (le-ltb (nth (ms .segment) l) entries (head-none l h [] k refl))
           go (x ∷ r) k v =
               let z = head-in l h (F x ∷ map F r) k (omega arith) in
-              rw (lt-ltb (nth xs l) entries (z .0))
+              rw (lt-ltb (nth (ms .segment) l) entries (z .0))
               (ap (λ (m : List ℕ). bit (eqb (getD m 0 0) (places * f + p))) (z .1)
               ∙ ap (λ (n : ℕ). bit (eqb n (places * f + p))) (words-place (places * f + x) (reqOf (accAt b x)) (v x (count-head x r)))
               ∙ ap bit (same-place f x p))
@@ -198,7 +199,7 @@ module _ {xs blocks buffers : List ℕ} {d : Desk} {s : Alloc} (S : StandsFor xs
       unfolding reqOf
       req-at = ap reqOf at
 
-      port-entry : (q : Req) (m : List ℕ) → a .req ≡ q → portWords (places * f + p) q ≡ m ∷ [] → entryAt xs (nth xs (replyPort (places * f + p))) ≡ entryOf m
+      port-entry : (q : Req) (m : List ℕ) → a .req ≡ q → portWords (places * f + p) q ≡ m ∷ [] → entryAt (ms .segment) (nth (ms .segment) (replyPort (places * f + p))) ≡ entryOf m
       unfolding accOf reqOf entryAt
       port-entry q m e k =
           let z : getD (boxesOf d s) (replyPort (places * f + p)) [] ≡ m ∷ [] =
@@ -207,14 +208,14 @@ module _ {xs blocks buffers : List ℕ} {d : Desk} {s : Alloc} (S : StandsFor xs
           ∙ ap (portWords (places * f + p)) e ∙ k in
           ap entryOf (head-in (replyPort (places * f + p)) (omega arith) (m ∷ []) z (omega arith) .1)
 
-      read-limit : (x : Wanted) → a .req ≡ reading x → entryAt xs (foundAt xs (readQueue f) (places * f + p)) .limit ≡ x .limit
+      read-limit : (x : Wanted) → a .req ≡ reading x → entryAt (ms .segment) (foundAt (ms .segment) (readQueue f) (places * f + p)) .limit ≡ x .limit
       unfolding entryOf reqWords waitsRead accAt
       read-limit x e =
           let c : count p (b .rq) ≡ 1 = agree p .reads ∙ ap waitsRead (req-at ∙ e) in
           ap (λ (m : Entry). m .limit)
           (queue-entry (readQueue f) (omega arith) (b .rq) reads-box reads-wait p c ∙ ap (λ (r : Req). entryOf (reqWords (places * f + p) r)) (req-at ∙ e))
 
-      write-size : (x : Offered) → a .req ≡ writing x → entryAt xs (foundAt xs (writeQueue f) (places * f + p)) .size ≡ length (x .bytes)
+      write-size : (x : Offered) → a .req ≡ writing x → entryAt (ms .segment) (foundAt (ms .segment) (writeQueue f) (places * f + p)) .size ≡ length (x .bytes)
       unfolding entryOf reqWords waitsWrite accAt
       write-size x e =
           let c : count p (b .wq) ≡ 1 = agree p .writes ∙ ap waitsWrite (req-at ∙ e) in
@@ -223,13 +224,13 @@ module _ {xs blocks buffers : List ℕ} {d : Desk} {s : Alloc} (S : StandsFor xs
 
       -- the tests of its reply port and of the queue of a side
       abbrev full : Bool
-      full = ltb (nth xs (replyPort (places * f + p))) entries
+      full = ltb (nth (ms .segment) (replyPort (places * f + p))) entries
 
       abbrev queued : ℕ → Bool
-      queued side = ltb (foundAt xs (queueOf f side) (places * f + p)) entries
+      queued side = ltb (foundAt (ms .segment) (queueOf f side) (places * f + p)) entries
 
       abbrev Shown : Bool → Req → Type 0
-      Shown w q = Fitting w q → outstandingAt xs f p (1 + bit w) ≡ outstandingOf q → requestAt xs f p (1 + bit w) ≡ requestOf b p q
+      Shown w q = Fitting w q → outstandingAt (ms .segment) f p (1 + bit w) ≡ outstandingOf q → requestAt (ms .segment) f p (1 + bit w) ≡ requestOf b p q
 
       shown-as : (w : Bool) (q : Req) → a .req ≡ q → Shown w q
       unfolding requestAt waitingIn completedIn requestOf outstandingAt outstandingOf Fitting entryOf reqWords portWords
@@ -247,6 +248,6 @@ module _ {xs blocks buffers : List ℕ} {d : Desk} {s : Alloc} (S : StandsFor xs
       shown-as false (writeDone x) e g o = absurd (false≢true g)
       shown-as true (writeDone x) e g o = rw (is-completed full (queued 2) o, port-entry (writeDone x) (reqWords (places * f + p) (writeDone x)) e refl)
 
-      pub request-is : requestAt xs f p (sideOf (some a)) ≡ requestOf b p (a .req)
+      pub request-is : requestAt (ms .segment) f p (sideOf (some a)) ≡ requestOf b p (a .req)
       unfolding sideOf
       request-is = shown-as (a .writer) (a .req) refl (fine-at S f hf b is .sides p a at .request) (outstanding-is S f hf b is p a h at)

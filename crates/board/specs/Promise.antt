@@ -9,6 +9,7 @@ use lib.ListN.{length}
 use lib.Seq.{sets}
 use Rattle.rules.specs.Desk.{Desk}
 use Rattle.rules.specs.Allocation.{Alloc}
+use Rattle.memory.specs.Memories.{Memories, memories}
 use Rattle.memory.specs.Fine.{StandsFor}
 use Rattle.promises.specs.Promise.{Given, written, Standing, Seen}
 use Rattle.texts.specs.Put.{Put}
@@ -24,12 +25,12 @@ shownOf none out = written 29 0 out
 shownOf (some v) out = shownOn (v .desk) out
 
 -- whatever the memories are seen as
-abbrev pub Board : List ℕ → List ℕ → List ℕ → List ℕ → Given → Type 0
-Board xs blocks buffers out g = (v : Option Standing) → Seen xs blocks buffers v → g ≡ shownOf v out
+abbrev pub Board : Memories → List ℕ → Given → Type 0
+Board m out g = (v : Option Standing) → Seen m v → g ≡ shownOf v out
 
 -- they are seen as a desk, whatever the buffers are
 abbrev pub Stood : List ℕ → List ℕ → Type 0
-Stood xs blocks = (buffers : List ℕ) × (d : Desk) × (s : Alloc) × StandsFor xs blocks buffers d s
+Stood xs blocks = (buffers : List ℕ) × (d : Desk) × (s : Alloc) × StandsFor (memories xs blocks buffers) d s
 
 -- what the last step makes of a text that ends there: where there is none it says so
 unfoldable pub Ends : List ℕ → ℕ → List ℕ → ℕ → Type 0

@@ -1,5 +1,5 @@
 // The night board: what a desk holds, who has its files open, who waits and what is not collected, as a text.
-mod requests;
+mod outstanding;
 
 use accessors::sides::count_side;
 use accessors::words_of;
@@ -12,7 +12,7 @@ use notices::put_accessor;
 use notices::put_geometry;
 use notices::put_held;
 use notices::put_request;
-use requests::request_at;
+use outstanding::request_at;
 use ring::Ring;
 use texts::put_text;
 ghost use mathlib.Core.Path.{_≡_};
@@ -24,6 +24,7 @@ ghost use Rattle.rules.specs.State.{Built, built};
 ghost use Rattle.rules.specs.Desk.{Desk, fileOf};
 ghost use Rattle.rules.specs.Allocation.{Alloc};
 ghost use Rattle.segment.specs.Layout.{segmentBytes};
+ghost use Rattle.memory.specs.Memories.{memories};
 ghost use Rattle.memory.specs.Fine.{StandsFor};
 ghost use Rattle.ring.specs.Ring.{Ranged, used};
 ghost use Rattle.midst.specs.FileStands.{FileStands};
@@ -102,7 +103,7 @@ fn room_left(ring: Ring, writers: u16) -> u16
 // A file that is built.
 fn put_file(segment: &[u8], blocks: &[u8], out: &mut [u8], at: usize, f: usize) -> usize
     requires { ⌜ FileStands (now segment) (now blocks) f × (at + fileRoom ≤ length (now out)) ⌝ }
-    ensures { λ r. ⌜ ((buffers : List ℕ) (d : Desk) (s : Alloc) (b : Built) → StandsFor (now (segment .entry)) (now (blocks .entry)) buffers d s → fileOf d f ≡ built b → Put fileRoom (now (out .entry)) at (fileText f (built b)) (now (out .exit)) r) ⌝ }
+    ensures { λ r. ⌜ ((buffers : List ℕ) (d : Desk) (s : Alloc) (b : Built) → StandsFor (memories (now (segment .entry)) (now (blocks .entry)) buffers) d s → fileOf d f ≡ built b → Put fileRoom (now (out .entry)) at (fileText f (built b)) (now (out .exit)) r) ⌝ }
 {
     let file = midst::take_file(segment, f);
     let ring = file.ring;
@@ -126,7 +127,7 @@ fn put_file(segment: &[u8], blocks: &[u8], out: &mut [u8], at: usize, f: usize) 
 fn put_if_built(segment: &[u8], blocks: &[u8], out: &mut [u8], at: usize, f: usize) -> usize
     requires { ⌜ Stood (now segment) (now blocks) × (f < files) × (at + fileRoom ≤ length (now out)) ⌝ }
     ensures bound { λ r. ⌜ r ≤ at + fileRoom ⌝ }
-    ensures text { λ r. ⌜ ((buffers : List ℕ) (d : Desk) (s : Alloc) → StandsFor (now (segment .entry)) (now (blocks .entry)) buffers d s → Put fileRoom (now (out .entry)) at (fileText f (fileOf d f)) (now (out .exit)) r) ⌝ }
+    ensures text { λ r. ⌜ ((buffers : List ℕ) (d : Desk) (s : Alloc) → StandsFor (memories (now (segment .entry)) (now (blocks .entry)) buffers) d s → Put fileRoom (now (out .entry)) at (fileText f (fileOf d f)) (now (out .exit)) r) ⌝ }
 {
     if words_of(segment, f) == 0 {
         return at;
@@ -137,7 +138,7 @@ fn put_if_built(segment: &[u8], blocks: &[u8], out: &mut [u8], at: usize, f: usi
 // All files.
 fn put_files(segment: &[u8], blocks: &[u8], out: &mut [u8]) -> usize
     requires { ⌜ Stood (now segment) (now blocks) × (boardRoom ≤ length (now out)) ⌝ }
-    ensures { λ r. ⌜ ((buffers : List ℕ) (d : Desk) (s : Alloc) → StandsFor (now (segment .entry)) (now (blocks .entry)) buffers d s → Put boardRoom (now (out .entry)) 0 (filesText d files) (now (out .exit)) r) ⌝ }
+    ensures { λ r. ⌜ ((buffers : List ℕ) (d : Desk) (s : Alloc) → StandsFor (memories (now (segment .entry)) (now (blocks .entry)) buffers) d s → Put boardRoom (now (out .entry)) 0 (filesText d files) (now (out .exit)) r) ⌝ }
 {
     let mut end = 0;
     let mut f = 0;
@@ -168,7 +169,7 @@ fn refused(status: u8) -> Shown
 // The board, from the first byte of the output on. 29: a memory of the wrong length, or unsound; 44: output shorter than BOARD_ROOM. Then nothing
 // is written.
 pub fn board(segment: &[u8], blocks: &[u8], buffers: &[u8], out: &mut [u8]) -> Shown
-    ensures board { λ r. ⌜ Board (now (segment .entry)) (now (blocks .entry)) (now (buffers .entry)) (now (out .entry)) (written (r .status) (r .length) (now (out .exit))) ⌝ }
+    ensures board { λ r. ⌜ Board (memories (now (segment .entry)) (now (blocks .entry)) (now (buffers .entry))) (now (out .entry)) (written (r .status) (r .length) (now (out .exit))) ⌝ }
     ensures fits { λ r. ⌜ r .length ≤ length (now (out .entry)) ⌝ }
 {
     if !sound::sound(segment, blocks, buffers) {

@@ -7,7 +7,7 @@ use mathlib.Core.Option.{some}
 use native.Mathlib.Omega.{arith}
 use lib.ListN.{length}
 use Rattle.kinds.specs.declared.Answer.the-variants.{Closed}
-use Rattle.rules.specs.Limits.{files, places, entries}
+use Rattle.rules.specs.Limits.{files, places}
 use Rattle.rules.specs.State.{Req, idle, reading, writing, readDone, writeDone, Acc, Built}
 use Rattle.rules.specs.Requests.{accAt, withReq, withAccs, withQueues, withTimers, alterAcc, say, requeue, leave, cancel}
 use Rattle.rules.specs.Settle.{settle}
@@ -20,9 +20,10 @@ use Rattle.rules.specs.Allocation.{Alloc}
 use Rattle.segment.specs.Layout.{segmentBytes}
 use Rattle.segment.specs.Fields.{fileAt, placeAt}
 use Rattle.buffers.specs.Buffer.{buffersBytes}
-use Rattle.requests.specs.Moves.{entryOf, cancelled}
+use Rattle.requests.specs.Moves.{slotOf, cancelled}
 use Rattle.laws.specs.Outstanding.{uncollected}
 use Rattle.laws.proofs.Accessors.{getD-alter-same}
+use Rattle.memory.specs.Memories.{Memories, memories}
 use Rattle.memory.specs.Fine.{Fine, StandsFor}
 use Rattle.midst.specs.declared.File as hand
 use Rattle.midst.specs.File.{fileOfRow}
@@ -34,7 +35,7 @@ use Rattle.midst.proofs.Changes.{mid-below}
 use Rattle.midst.proofs.Accepted.{accepted-close}
 use Rattle.accessors.specs.Outstanding.{queueOf, outstandingAt, outstandingOf}
 use Rattle.controls.specs.Removed.{isWaiting, emptied}
-use Rattle.controls.proofs.Cancels.{waiting-awaits, waits-is, removable, removed}
+use Rattle.controls.proofs.Cancels.{waiting-awaits, waits-is, removed}
 
 -- no request, or one that waits
 quiet : (q : Req) → isWaiting (outstandingOf q) ≡ false → uncollected q ≡ 0 → q ≡ idle
@@ -59,45 +60,40 @@ unfolding closed withReq
 cancel-closed p a b = refl
 
 -- the memories when no request waits any more, and what the close comes to
-pub record Cleared (f p : ℕ) (o : Start) (xs blocks buffers : List ℕ) (x : hand.File) (out : Out) : Type 0 where
+pub record Cleared (f p : ℕ) (o : Start) (m : Memories) (x : hand.File) (out : Out) : Type 0 where
   pub file : Built
   pub acc : Acc
-  pub mid : Mid Fine f o xs blocks buffers x file
+  pub mid : Mid Fine f o m x file
   pub at : accAt file p ≡ some acc
   pub still : acc .req ≡ idle
   pub comes : out ≡ answering Closed (settle (closed p acc file))
 
-module _ {xs blocks buffers : List ℕ} {d : Desk} {s : Alloc} (S : StandsFor xs blocks buffers d s) (f p : ℕ) (r : refusalOf (answered d (on f (calls.close p)) .reply) ≡ 0) where
-  pub close-size : (length xs ≡ segmentBytes) × (length buffers ≡ buffersBytes) × (f < files) × (p < places)
+module _ {m : Memories} {d : Desk} {s : Alloc} (S : StandsFor m d s) (f p : ℕ) (r : refusalOf (answered d (on f (calls.close p)) .reply) ≡ 0) where
+  pub close-size : (length (m .segment) ≡ segmentBytes) × (length (m .buffers) ≡ buffersBytes) × (f < files) × (p < places)
   close-size =
       let A = accepted-close d f p r in
-      let M : Mid Fine f (start d s blocks buffers) xs blocks buffers (fileOfRow (fileAt xs f)) (A .b) = mid-begin S f (A .b) (A .file) (A .stands) in
+      let M : Mid Fine f (start d s m) m (fileOfRow (fileAt (m .segment) f)) (A .b) = mid-begin S f (A .b) (A .file) (A .stands) in
       (S .stands .segment .size, S .stands .bodies .buffers-size, A .file, mid-below M p (A .known .a) (A .known .at))
 
-  module _ (side : ℕ) (k : side ≡ placeAt xs (places * f + p) .side) where
-    pub close-found : isWaiting (outstandingAt xs f p side) ≡ true → entryOf xs (queueOf f side) (places * f + p) < entries
-    close-found w =
-        let A = accepted-close d f p r in
-        removable (mid-begin S f (A .b) (A .file) (A .stands)) p (A .known .a) (A .known .at) side k w
-
-    pub clears : (x : hand.File) → x ≡ fileOfRow (fileAt xs f) → (xs′ buffers′ : List ℕ)
-        → xs′ ≡ cond (isWaiting (outstandingAt xs f p side)) (cancelled xs (queueOf f side) (places * f + p)) xs
-        → buffers′ ≡ cond (isWaiting (outstandingAt xs f p side)) (emptied side (places * f + p) buffers) buffers
-        → Cleared f p (start d s blocks buffers) xs′ blocks buffers′ x (ask (fileOf d f) (calls.close p))
-    clears x ex xs′ buffers′ u v = go (isWaiting (outstandingAt xs f p side)) refl u v
+  module _ (side : ℕ) (k : side ≡ placeAt (m .segment) (places * f + p) .side) where
+    pub clears : (x : hand.File) → x ≡ fileOfRow (fileAt (m .segment) f) → (xs′ buffers′ : List ℕ)
+        → xs′ ≡ cond (isWaiting (outstandingAt (m .segment) f p side)) (cancelled (m .segment) (slotOf (m .segment) (queueOf f side) (places * f + p)) (places * f + p)) (m .segment)
+        → buffers′ ≡ cond (isWaiting (outstandingAt (m .segment) f p side)) (emptied side (places * f + p) (m .buffers)) (m .buffers)
+        → Cleared f p (start d s m) (memories xs′ (m .blocks) buffers′) x (ask (fileOf d f) (calls.close p))
+    clears x ex xs′ buffers′ u v = go (isWaiting (outstandingAt (m .segment) f p side)) refl u v
       where
         A : Accepted (CloseKnown p) d f (calls.close p)
         A = accepted-close d f p r
 
-        M : Mid Fine f (start d s blocks buffers) xs blocks buffers x (A .b)
+        M : Mid Fine f (start d s m) m x (A .b)
         M = rw ex (mid-begin S f (A .b) (A .file) (A .stands))
 
-        waits : (t : Bool) → isWaiting (outstandingAt xs f p side) ≡ t → isWaiting (outstandingOf (A .known .a .req)) ≡ t
+        waits : (t : Bool) → isWaiting (outstandingAt (m .segment) f p side) ≡ t → isWaiting (outstandingOf (A .known .a .req)) ≡ t
         waits t e = sym (waits-is M p (A .known .a) (A .known .at) side k) ∙ e
 
-        go : (t : Bool) → isWaiting (outstandingAt xs f p side) ≡ t → xs′ ≡ cond t (cancelled xs (queueOf f side) (places * f + p)) xs
-            → buffers′ ≡ cond t (emptied side (places * f + p) buffers) buffers
-            → Cleared f p (start d s blocks buffers) xs′ blocks buffers′ x (ask (fileOf d f) (calls.close p))
+        go : (t : Bool) → isWaiting (outstandingAt (m .segment) f p side) ≡ t → xs′ ≡ cond t (cancelled (m .segment) (slotOf (m .segment) (queueOf f side) (places * f + p)) (places * f + p)) (m .segment)
+            → buffers′ ≡ cond t (emptied side (places * f + p) (m .buffers)) (m .buffers)
+            → Cleared f p (start d s m) (memories xs′ (m .blocks) buffers′) x (ask (fileOf d f) (calls.close p))
         go true e y z =
             record {
               file = cancel p (A .b);
@@ -118,9 +114,7 @@ module _ {xs blocks buffers : List ℕ} {d : Desk} {s : Alloc} (S : StandsFor xs
             }
 
 -- it is done
-pub close-done : {f p : ℕ} {d : Desk} {s : Alloc} {blocks buffers xs′ blocks′ buffers′ : List ℕ} {x : hand.File} {out : Out} {ys bs : List ℕ}
-    (C : Cleared f p (start d s blocks buffers) ys blocks bs x out)
-    → Outcome f d s (leaves (answers Closed []) (settle (closed p (C .acc) (C .file)))) blocks buffers xs′ blocks′ buffers′ → Done f d s out blocks buffers xs′ blocks′ buffers′ Closed
+pub close-done : {f p : ℕ} {d : Desk} {s : Alloc} {m m₁ m′ : Memories} {x : hand.File} {out : Out} (C : Cleared f p (start d s m) m₁ x out)
+    → Outcome f d s (leaves (answers Closed []) (settle (closed p (C .acc) (C .file)))) m m′ → Done f d s out m m′ Closed
 unfolding answering leaves
-close-done {f} {p} {d} {s} {blocks} {buffers} {xs′} {blocks′} {buffers′} C O =
-    subst (λ (y : Out). Done f d s y blocks buffers xs′ blocks′ buffers′ Closed) (sym (C .comes)) (record { outcome = O; reply = refl })
+close-done {f} {p} {d} {s} {m} {m₁} {m′} C O = subst (λ (y : Out). Done f d s y m m′ Closed) (sym (C .comes)) (record { outcome = O; reply = refl })

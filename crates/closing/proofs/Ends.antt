@@ -1,10 +1,11 @@
 -- The readers of a file whose last writer goes: what the functions of the walk hand each other.
 use Prim.Native.Nat.{ℕ, _-_, _<_}
 use mathlib.Core.Path.{_≡_, sym, ap, _∙_, subst}
+use mathlib.Core.Bool.{Bool, true, false}
 use mathlib.Core.List.{List}
 use native.Mathlib.Omega.{arith}
-use borrow.Author.Tests.{eq-eqb, ne-eqb}
-use lib.Dec.{eqb}
+use borrow.Author.Tests.{ltb-true, ltb-false, eq-eqb, ne-eqb}
+use lib.Dec.{ltb, eqb}
 use lib.ListN.{length}
 use Rattle.rules.specs.Limits.{files, entries}
 use Rattle.rules.specs.State.{Built}
@@ -17,15 +18,17 @@ use Rattle.segment.specs.Table.{nth}
 use Rattle.segment.specs.Fields.{entryAt, placeAt}
 use Rattle.requests.specs.Moves.{completed}
 use Rattle.accessors.specs.Sides.{countSide}
-use Rattle.accessors.proofs.Counted.{count-writers}
+use Rattle.settling.specs.Turns.{Counts}
+use Rattle.settling.proofs.Beside.{mid-writers, mid-counts}
 use Rattle.midst.specs.declared.File as hand
 use Rattle.midst.specs.Mid.{Start, Mid}
-use Rattle.midst.proofs.Begins.{mid-lengths, mid-row}
+use Rattle.midst.proofs.Begins.{mid-lengths}
 use Rattle.midst.proofs.Walks.{Owed}
 use Rattle.closing.specs.Walk.{endWords, Walk}
 use Rattle.closing.specs.Leaving.{Gone, Stops, Walked}
 use Rattle.closing.proofs.Walks.{walk-slot, walk-size, walk-next}
 use Rattle.closing.proofs.Passes.{next-place, next-kept, next-ended}
+use Rattle.memory.specs.Memories.{Memories, memories}
 
 -- the walk stands at an entry
 
@@ -36,16 +39,16 @@ module _ (xs : List ℕ) (slot e : ℕ) where
   pub stop-place : (p : ℕ) → p ≡ entryAt xs e .place → Stops xs slot e → p < deskPlaces
   stop-place p at ((n, f, blocks, buffers, x, o, b, left, W), h, k) = rw at (next-place W e (walk-next W e h k))
 
-module _ {n f : ℕ} {o : Start} {xs blocks buffers : List ℕ} {x : hand.File} {from : Built} {slot left : ℕ} (W : Walk (Owed n) f o xs blocks buffers x from slot left)
-    (e : ℕ) (h : e ≡ nth xs slot) (k : e < entries) (p : ℕ) (at : p ≡ entryAt xs e .place) (row : PlaceRow) (is : row ≡ placeAt xs p) where
-  extended-is : row .extended ≡ placeAt xs (entryAt xs e .place) .extended
-  extended-is = ap (λ (r : PlaceRow). r .extended) (is ∙ ap (placeAt xs) at)
+module _ {n f : ℕ} {o : Start} {m : Memories} {x : hand.File} {from : Built} {slot left : ℕ} (W : Walk (Owed n) f o m x from slot left)
+    (e : ℕ) (h : e ≡ nth (m .segment) slot) (k : e < entries) (p : ℕ) (at : p ≡ entryAt (m .segment) e .place) (row : PlaceRow) (is : row ≡ placeAt (m .segment) p) where
+  extended-is : row .extended ≡ placeAt (m .segment) (entryAt (m .segment) e .place) .extended
+  extended-is = ap (λ (r : PlaceRow). r .extended) (is ∙ ap (placeAt (m .segment)) at)
 
-  pub stays : row .extended ≡ 1 → (r : ℕ) → r ≡ linkAt e → Walk (Owed n) f o xs blocks buffers x from r (left - 1)
-  stays u r v = subst (λ (s : ℕ). Walk (Owed n) f o xs blocks buffers x from s (left - 1)) (sym v) (next-kept W e (walk-next W e h k) (sym extended-is ∙ u))
+  pub stays : row .extended ≡ 1 → (r : ℕ) → r ≡ linkAt e → Walk (Owed n) f o m x from r (left - 1)
+  stays u r v = subst (λ (s : ℕ). Walk (Owed n) f o m x from s (left - 1)) (sym v) (next-kept W e (walk-next W e h k) (sym extended-is ∙ u))
 
-  pub ends : (row .extended ≡ 1 → ⊥) → (xs′ : List ℕ) → xs′ ≡ completed xs slot p (endWords p) → Walk (Owed n) f o xs′ blocks buffers x from slot (left - 1)
-  ends u xs′ v = next-ended W e (walk-next W e h k) (λ z. u (extended-is ∙ z)) xs′ (v ∙ ap (λ (i : ℕ). completed xs slot i (endWords i)) at)
+  pub ends : (row .extended ≡ 1 → ⊥) → (xs′ : List ℕ) → xs′ ≡ completed (m .segment) slot p (endWords p) → Walk (Owed n) f o (memories xs′ (m .blocks) (m .buffers)) x from slot (left - 1)
+  ends u xs′ v = next-ended W e (walk-next W e h k) (λ z. u (extended-is ∙ z)) xs′ (v ∙ ap (λ (i : ℕ). completed (m .segment) slot i (endWords i)) at)
 
 -- the walk
 
@@ -59,17 +62,26 @@ module _ (f : ℕ) (xs₀ xs : List ℕ) (slot left : ℕ) (K : Walked f xs₀ x
 pub gone-size : (f : ℕ) (xs : List ℕ) → Gone f xs → (length xs ≡ segmentBytes) × (f < files)
 gone-size f xs (n, blocks, buffers, x, o, b, M) = (mid-lengths M, M .file)
 
--- "for the last writer"
-module _ {n f : ℕ} {o : Start} {xs blocks buffers : List ℕ} {x : hand.File} {b : Built} (M : Mid (Owed n) f o xs blocks buffers x b) (w : ℕ) (is : w ≡ countSide xs f 2) where
-  counted : w ≡ writers b
-  counted = is ∙ count-writers xs f b (M .allots .matches .agrees .eight) (mid-row M)
+pub gone-counts : (f : ℕ) (xs : List ℕ) → Gone f xs → Counts f xs
+gone-counts f xs (n, blocks, buffers, x, o, b, M) = mid-counts M (M .good .1 .0) (M .good .0 .1)
 
-  pub last-ends : w ≡ 0 → (xs′ : List ℕ) → Mid (Owed n) f o xs′ blocks buffers x (endReaders (b .rq) b) → Mid (Owed n) f o xs′ blocks buffers x (lastGone b)
+-- "for the last writer"
+module _ {n f : ℕ} {o : Start} {m : Memories} {x : hand.File} {b : Built} (M : Mid (Owed n) f o m x b) (t : Bool) (is : t ≡ ltb 0 (countSide (m .segment) f 2)) where
+  counted : t ≡ ltb 0 (writers b)
+  counted = is ∙ ap (ltb 0) (mid-writers M)
+
+  none-left : t ≡ false → writers b ≡ 0
+  none-left z = omega (arith, ltb-false 0 (writers b) (sym counted ∙ z))
+
+  some-left : t ≡ true → writers b ≡ 0 → ⊥
+  some-left z u = omega (arith, ltb-true 0 (writers b) (sym counted ∙ z))
+
+  pub last-ends : t ≡ false → (xs′ : List ℕ) → Mid (Owed n) f o (memories xs′ (m .blocks) (m .buffers)) x (endReaders (b .rq) b) → Mid (Owed n) f o (memories xs′ (m .blocks) (m .buffers)) x (lastGone b)
   unfolding lastGone
   last-ends z xs′ N =
-      subst (λ (c : Built). Mid (Owed n) f o xs′ blocks buffers x c) (sym (pick-true (eqb (writers b) 0) (endReaders (b .rq) b) b (eq-eqb (writers b) 0 (sym counted ∙ z)))) N
+      subst (λ (c : Built). Mid (Owed n) f o (memories xs′ (m .blocks) (m .buffers)) x c) (sym (pick-true (eqb (writers b) 0) (endReaders (b .rq) b) b (eq-eqb (writers b) 0 (none-left z)))) N
 
-  pub last-not : (w ≡ 0 → ⊥) → Mid (Owed n) f o xs blocks buffers x (lastGone b)
+  pub last-not : t ≡ true → Mid (Owed n) f o m x (lastGone b)
   unfolding lastGone
   last-not z =
-      subst (λ (c : Built). Mid (Owed n) f o xs blocks buffers x c) (sym (pick-false (eqb (writers b) 0) (endReaders (b .rq) b) b (ne-eqb (writers b) 0 (λ u. z (counted ∙ u))))) M
+      subst (λ (c : Built). Mid (Owed n) f o m x c) (sym (pick-false (eqb (writers b) 0) (endReaders (b .rq) b) b (ne-eqb (writers b) 0 (some-left z)))) M

@@ -20,6 +20,7 @@ use Rattle.segment.specs.Fields.{placeWords, placeAt, placeRowOf}
 use Rattle.blocks.specs.Writing.{recOf, Ready}
 use Rattle.blocks.specs.Memory as code
 use Rattle.blocks.specs.Memory.{blocksBytes}
+use Rattle.memory.specs.Memories.{Memories, memories}
 use Rattle.memory.specs.Image as image
 use Rattle.memory.specs.Fine.{Fine}
 use Rattle.midst.specs.declared.File as hand
@@ -33,23 +34,23 @@ use Rattle.store.proofs.Hands.{owed-stored, hand-ready, through}
 
 -- the close record
 
-module _ {n f : ℕ} {o : Start} {xs blocks buffers : List ℕ} {x : hand.File} {b : Built} (M : Mid (Owed n) f o xs blocks buffers x b) where
-  pub close-ready : ((length blocks ≡ blocksBytes) × (f < files)) × Ready (x .words) (x .ring) (code.shareAt f blocks) 0
+module _ {n f : ℕ} {o : Start} {m : Memories} {x : hand.File} {b : Built} (M : Mid (Owed n) f o m x b) where
+  pub close-ready : ((length (m .blocks) ≡ blocksBytes) × (f < files)) × Ready (x .words) (x .ring) (code.shareAt f (m .blocks)) 0
   unfolding closeRec
   close-ready = hand-ready M (owed-stored n b (M .good)) (closeRec n) (omega arith)
 
-  pub close-put : (blocks′ : List ℕ) (y : hand.File) → Keeps f (putRec (recOf 2 n [])) blocks x blocks′ y → Mid Fine f o xs blocks′ buffers y (putRec (closeRec n) b)
+  pub close-put : (blocks′ : List ℕ) (y : hand.File) → Keeps f (putRec (recOf 2 n [])) (m .blocks) x blocks′ y → Mid Fine f o (memories (m .segment) blocks′ (m .buffers)) y (putRec (closeRec n) b)
   unfolding closeRec
   close-put blocks′ y keeps = through M (putRec (closeRec n)) blocks′ y keeps (owed-stored n b (M .good)) (fine-walks .closes n b (M .good))
 
 -- the row
 
-module _ {f : ℕ} {o : Start} {xs blocks buffers : List ℕ} {x : hand.File} {b : Built} (M : Mid Fine f o xs blocks buffers x b) (p : ℕ) (a : Acc) (e : accAt b p ≡ some a) where
-  pub leave-size : (length xs ≡ segmentBytes) × (f < files) × (p < places)
+module _ {f : ℕ} {o : Start} {ms : Memories} {x : hand.File} {b : Built} (M : Mid Fine f o ms x b) (p : ℕ) (a : Acc) (e : accAt b p ≡ some a) where
+  pub leave-size : (length (ms .segment) ≡ segmentBytes) × (f < files) × (p < places)
   leave-size = (mid-lengths M, M .file, mid-below M p a e)
 
-  module _ (still : a .req ≡ idle) (row : PlaceRow) (is : row ≡ placeAt xs (places * f + p)) (xs′ : List ℕ)
-      (u : xs′ ≡ fill xs (placeRowAt (places * f + p)) (placeWords (record { side = 0; id = 0; share = 0; timeout = 0; extended = 0; typed = 0; keep = 0; first = 0 }))) where
+  module _ (still : a .req ≡ idle) (row : PlaceRow) (is : row ≡ placeAt (ms .segment) (places * f + p)) (xs′ : List ℕ)
+      (u : xs′ ≡ fill (ms .segment) (placeRowAt (places * f + p)) (placeWords (record { side = 0; id = 0; share = 0; timeout = 0; extended = 0; typed = 0; keep = 0; first = 0 }))) where
     row-is : row ≡ placeRowOf (image.placeWords (some a))
     unfolding placeOf
     row-is = is ∙ mid-place M p (mid-below M p a e) ∙ ap (λ (z : Option Acc). placeRowOf (image.placeWords z)) e
@@ -76,19 +77,19 @@ module _ {f : ℕ} {o : Start} {xs blocks buffers : List ℕ} {x : hand.File} {b
         go true q = q
         go false q = absurd (omega (arith, side-is, ap bit q))
 
-    vacated : {J : Built → Type 0} → J (vacate p b) → Mid J f o xs′ blocks buffers x (vacate p b)
+    vacated : {J : Built → Type 0} → J (vacate p b) → Mid J f o (memories xs′ (ms .blocks) (ms .buffers)) x (vacate p b)
     unfolding placeOf placeWords image.placeWords
     vacated {J} j = rw u (mid-vacate {J = J} M p a _ e still j refl)
 
     -- a reader
-    pub reader-gone : (row .side ≡ 2 → ⊥) → Mid Fine f o xs′ blocks buffers x (closed p a b)
+    pub reader-gone : (row .side ≡ 2 → ⊥) → Mid Fine f o (memories xs′ (ms .blocks) (ms .buffers)) x (closed p a b)
     unfolding closed
     reader-gone n =
-        subst (λ (c : Built). Mid Fine f o xs′ blocks buffers x c) (sym (pick-false (a .writer) (putRec (closeRec (a .ident)) (lastGone (vacate p b))) (vacate p b) (reader n)))
+        subst (λ (c : Built). Mid Fine f o (memories xs′ (ms .blocks) (ms .buffers)) x c) (sym (pick-false (a .writer) (putRec (closeRec (a .ident)) (lastGone (vacate p b))) (vacate p b) (reader n)))
         (vacated {J = Fine} (fine-walks .leaves p a b e still (reader n) (M .good)))
 
     -- a writer
-    pub writer-gone : row .side ≡ 2 → Mid (Owed (row .id)) f o xs′ blocks buffers x (vacate p b)
+    pub writer-gone : row .side ≡ 2 → Mid (Owed (row .id)) f o (memories xs′ (ms .blocks) (ms .buffers)) x (vacate p b)
     writer-gone h = vacated {J = Owed (row .id)} (subst (λ (m : ℕ). Owed m (vacate p b)) (sym id-is) (fine-walks .parts p a b e still (writer h) (M .good)))
 
     writer-closed : row .side ≡ 2 → putRec (closeRec (row .id)) (lastGone (vacate p b)) ≡ closed p a b
@@ -97,6 +98,6 @@ module _ {f : ℕ} {o : Start} {xs blocks buffers : List ℕ} {x : hand.File} {b
         ap (λ (m : ℕ). putRec (closeRec m) (lastGone (vacate p b))) id-is
         ∙ sym (pick-true (a .writer) (putRec (closeRec (a .ident)) (lastGone (vacate p b))) (vacate p b) (writer h))
 
-    pub writer-done : row .side ≡ 2 → {ys bs : List ℕ} {y : hand.File} → Mid Fine f o ys bs buffers y (putRec (closeRec (row .id)) (lastGone (vacate p b)))
-        → Mid Fine f o ys bs buffers y (closed p a b)
-    writer-done h {ys} {bs} {y} N = subst (λ (c : Built). Mid Fine f o ys bs buffers y c) (writer-closed h) N
+    pub writer-done : row .side ≡ 2 → {ys bs : List ℕ} {y : hand.File} → Mid Fine f o (memories ys bs (ms .buffers)) y (putRec (closeRec (row .id)) (lastGone (vacate p b)))
+        → Mid Fine f o (memories ys bs (ms .buffers)) y (closed p a b)
+    writer-done h {ys} {bs} {y} N = subst (λ (c : Built). Mid Fine f o (memories ys bs (ms .buffers)) y c) (writer-closed h) N

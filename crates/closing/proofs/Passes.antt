@@ -26,6 +26,7 @@ use Rattle.ports.proofs.Maps.{map-append, map-in}
 use Rattle.requests.specs.Moves.{completed}
 use Rattle.laws.specs.Outstanding.{waitsRead, waitsWrite}
 use Rattle.laws.specs.Changes.{Ends, readEnds}
+use Rattle.memory.specs.Memories.{Memories, memories}
 use Rattle.memory.specs.Image.{reqWords}
 use Rattle.memory.specs.Image as image
 use Rattle.midst.specs.declared.File as hand
@@ -86,31 +87,31 @@ ends-one p l b a w e r h =
     let i : endReaders (p ∷ l) b ≡ endReaders l (fail p 2 b) = rw (e, endReaders) (pick-false (a .extended) (endReaders l b) (endReaders l (fail p 2 b)) h) in
     i ∙ ap (endReaders l) (fails p b a w e r)
 
-module _ {n f : ℕ} {o : Start} {xs blocks buffers : List ℕ} {x : hand.File} {from : Built} {slot left : ℕ} (W : Walk (Owed n) f o xs blocks buffers x from slot left) where
+module _ {n f : ℕ} {o : Start} {m : Memories} {x : hand.File} {from : Built} {slot left : ℕ} (W : Walk (Owed n) f o m x from slot left) where
   abbrev b : Built
   b = W .file
 
   abbrev t : Alloc
   t = allotAll f (b .past) (o .alloc)
 
-  module _ (e : ℕ) (N : Next f o xs b (W .rest) e) where
+  module _ (e : ℕ) (N : Next f o (m .segment) b (W .rest) e) where
     below : N .place < places
     below = mid-below (W .mid) (N .place) (N .acc) (N .opens)
 
-    pub next-place : entryAt xs e .place < deskPlaces
+    pub next-place : entryAt (m .segment) e .place < deskPlaces
     next-place = rw (N .entry) (place-under f (N .place) (W .mid .file) below)
 
-    extended-is : placeAt xs (entryAt xs e .place) .extended ≡ bit (N .acc .extended)
+    extended-is : placeAt (m .segment) (entryAt (m .segment) e .place) .extended ≡ bit (N .acc .extended)
     unfolding placeRowOf image.placeWords
     extended-is =
-        ap (λ (r : PlaceRow). r .extended) (ap (placeAt xs) (N .entry) ∙ mid-place (W .mid) (N .place) below)
+        ap (λ (r : PlaceRow). r .extended) (ap (placeAt (m .segment)) (N .entry) ∙ mid-place (W .mid) (N .place) below)
         ∙ ap (λ (z : Option Acc). placeRowOf (image.placeWords z) .extended) (N .opens)
 
     queue-is : b .rq ≡ W .kept ++ N .place ∷ N .others
     queue-is = W .queue ∙ ap (λ (l : List ℕ). W .kept ++ l) (N .first)
 
     -- it waits on
-    pub next-kept : placeAt xs (entryAt xs e .place) .extended ≡ 1 → Walk (Owed n) f o xs blocks buffers x from (linkAt e) (left - 1)
+    pub next-kept : placeAt (m .segment) (entryAt (m .segment) e .place) .extended ≡ 1 → Walk (Owed n) f o m x from (linkAt e) (left - 1)
     next-kept h = record {
       file = b;
       kept = W .kept ++ (N .place ∷ []);
@@ -125,7 +126,7 @@ module _ {n f : ℕ} {o : Start} {xs blocks buffers : List ℕ} {x : hand.File} 
     }
 
     -- it ends
-    module _ (h : placeAt xs (entryAt xs e .place) .extended ≡ 1 → ⊥) where
+    module _ (h : placeAt (m .segment) (entryAt (m .segment) e .place) .extended ≡ 1 → ⊥) where
       abbrev c : Built
       c = finish (N .place) 2 (readFails 2) b
 
@@ -148,18 +149,18 @@ module _ {n f : ℕ} {o : Start} {xs blocks buffers : List ℕ} {x : hand.File} 
           ap (without (N .place)) queue-is
           ∙ without-seam (N .place) (W .kept) (N .others) (only .0) (only .1)
 
-      mid-now : (xs′ : List ℕ) → xs′ ≡ completed xs slot (entryAt xs e .place) (endWords (entryAt xs e .place)) → Mid (Owed n) f o xs′ blocks buffers x c
+      mid-now : (xs′ : List ℕ) → xs′ ≡ completed (m .segment) slot (entryAt (m .segment) e .place) (endWords (entryAt (m .segment) e .place)) → Mid (Owed n) f o (memories xs′ (m .blocks) (m .buffers)) x c
       unfolding endWords reqWords waitsRead waitsWrite lies
       mid-now xs′ u =
           let short : 0 ≤ N .wanted .limit = omega arith in
           let ending : Ends 2 (reading (N .wanted)) (readFails 2) = readEnds {x = N .wanted} refl short (omega arith) in
-          rw (u, N .entry) (subst (λ (z : ℕ). Mid (Owed n) f o (completed xs z (placeOf f (N .place)) (endWords (placeOf f (N .place)))) blocks buffers x c) (sym (W .at))
+          rw (u, N .entry) (subst (λ (z : ℕ). Mid (Owed n) f o (memories (completed (m .segment) z (placeOf f (N .place)) (endWords (placeOf f (N .place)))) (m .blocks) (m .buffers)) x c) (sym (W .at))
           (step-finish (owed-knows n) (W .mid) (N .place) (N .acc) (N .opens) false 2 (reading (N .wanted)) (readFails 2) (N .asks) refl
-          ending (W .kept) (N .others) queue-is (only .0) buffers
+          ending (W .kept) (N .others) queue-is (only .0) (m .buffers)
           (fine-walks .endings n (N .place) 2 (readFails 2) (N .acc) (reading (N .wanted)) b (N .opens) (N .asks) ending (W .mid .good))
           (keep refl (sym (ap lies (N .asks))))))
 
-      pub next-ended : (xs′ : List ℕ) → xs′ ≡ completed xs slot (entryAt xs e .place) (endWords (entryAt xs e .place)) → Walk (Owed n) f o xs′ blocks buffers x from slot (left - 1)
+      pub next-ended : (xs′ : List ℕ) → xs′ ≡ completed (m .segment) slot (entryAt (m .segment) e .place) (endWords (entryAt (m .segment) e .place)) → Walk (Owed n) f o (memories xs′ (m .blocks) (m .buffers)) x from slot (left - 1)
       next-ended xs′ u = record {
         file = c;
         kept = W .kept;

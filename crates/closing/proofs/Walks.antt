@@ -25,6 +25,7 @@ use Rattle.ports.proofs.Boxes.{data-box}
 use Rattle.ports.proofs.Maps.{map-append, map-at}
 use Rattle.laws.specs.Outstanding.{reqAt, waitsRead, reqOf}
 use Rattle.laws.proofs.Outstanding.{outstanding-most}
+use Rattle.memory.specs.Memories.{Memories}
 use Rattle.memory.specs.Image.{reqWords, listsOf, boxesOf}
 use Rattle.memory.proofs.Boxes.{getD-listsOf, getD-boxesOf}
 use Rattle.midst.specs.declared.File as hand
@@ -54,7 +55,7 @@ pub record Next (f : ℕ) (o : Start) (xs : List ℕ) (b : Built) (rest : List �
   pub own : e ≡ ownEntry (heldAt (allotAll f (b .past) (o .alloc)) (placeOf f place))
   pub entry : entryAt xs e .place ≡ placeOf f place
 
-module _ {n f : ℕ} {o : Start} {xs blocks buffers : List ℕ} {x : hand.File} {from : Built} {slot left : ℕ} (W : Walk (Owed n) f o xs blocks buffers x from slot left) where
+module _ {n f : ℕ} {o : Start} {ms : Memories} {x : hand.File} {from : Built} {slot left : ℕ} (W : Walk (Owed n) f o ms x from slot left) where
   abbrev b : Built
   b = W .file
 
@@ -79,37 +80,37 @@ module _ {n f : ℕ} {o : Start} {xs blocks buffers : List ℕ} {x : hand.File} 
   pub walk-slot : slot < fileRows
   walk-slot = rw (W .at) (slot-in (W .mid .segment .boxes .lists) (readQueue f) (entriesIn f t (W .kept)) (entriesIn f t (W .rest)) low split .0)
 
-  pub walk-size : length xs ≡ segmentBytes
+  pub walk-size : length (ms .segment) ≡ segmentBytes
   walk-size = mid-lengths (W .mid)
 
-  chain : Chain xs (readQueue f) (entriesIn f t (W .kept) ++ entriesIn f t (W .rest))
+  chain : Chain (ms .segment) (readQueue f) (entriesIn f t (W .kept) ++ entriesIn f t (W .rest))
   chain = rw split at (W .mid .segment .boxes .lists .chains (readQueue f) low)
 
   -- nobody
-  none-left : W .rest ≡ [] → (entries ≤ nth xs slot) × Mid (Owed n) f o xs blocks buffers x (endReaders (from .rq) from)
+  none-left : W .rest ≡ [] → (entries ≤ nth (ms .segment) slot) × Mid (Owed n) f o ms x (endReaders (from .rq) from)
   unfolding endReaders
   none-left e = (
-    omega (arith, slot-none xs (readQueue f) (entriesIn f t (W .kept)) (entriesIn f t (W .rest)) chain (ap (entriesIn f t) e), ap (nth xs) (W .at)),
-    subst (λ (c : Built). Mid (Owed n) f o xs blocks buffers x c) (ap (λ (l : List ℕ). endReaders l b) (sym e) ∙ W .same) (W .mid),
+    omega (arith, slot-none (ms .segment) (readQueue f) (entriesIn f t (W .kept)) (entriesIn f t (W .rest)) chain (ap (entriesIn f t) e), ap (nth (ms .segment)) (W .at)),
+    subst (λ (c : Built). Mid (Owed n) f o ms x c) (ap (λ (l : List ℕ). endReaders l b) (sym e) ∙ W .same) (W .mid),
   )
 
   -- somebody
-  one-left : (p : ℕ) (l : List ℕ) → W .rest ≡ p ∷ l → (nth xs slot ≡ ownEntry (heldAt t (placeOf f p))) × (ownEntry (heldAt t (placeOf f p)) < entries)
+  one-left : (p : ℕ) (l : List ℕ) → W .rest ≡ p ∷ l → (nth (ms .segment) slot ≡ ownEntry (heldAt t (placeOf f p))) × (ownEntry (heldAt t (placeOf f p)) < entries)
   one-left p l e =
-      let s = slot-one xs (readQueue f) (entriesIn f t (W .kept)) (entriesIn f t (W .rest)) (ownEntry (heldAt t (placeOf f p))) (entriesIn f t l) chain (ap (entriesIn f t) e) in
-      (ap (nth xs) (W .at) ∙ s .0, s .1)
+      let s = slot-one (ms .segment) (readQueue f) (entriesIn f t (W .kept)) (entriesIn f t (W .rest)) (ownEntry (heldAt t (placeOf f p))) (entriesIn f t l) chain (ap (entriesIn f t) e) in
+      (ap (nth (ms .segment)) (W .at) ∙ s .0, s .1)
 
-  pub walk-stop : (e : ℕ) → e ≡ nth xs slot → entries ≤ e → Mid (Owed n) f o xs blocks buffers x (endReaders (from .rq) from)
+  pub walk-stop : (e : ℕ) → e ≡ nth (ms .segment) slot → entries ≤ e → Mid (Owed n) f o ms x (endReaders (from .rq) from)
   walk-stop e h k = go (W .rest) refl
     where
-      go : (l : List ℕ) → W .rest ≡ l → Mid (Owed n) f o xs blocks buffers x (endReaders (from .rq) from)
+      go : (l : List ℕ) → W .rest ≡ l → Mid (Owed n) f o ms x (endReaders (from .rq) from)
       go [] q = none-left q .1
       go (p ∷ l) q = absurd (omega (arith, one-left p l q .0, one-left p l q .1, h))
 
-  pub walk-done : left ≤ 0 → Mid (Owed n) f o xs blocks buffers x (endReaders (from .rq) from)
+  pub walk-done : left ≤ 0 → Mid (Owed n) f o ms x (endReaders (from .rq) from)
   walk-done h = go (W .rest) refl
     where
-      go : (l : List ℕ) → W .rest ≡ l → Mid (Owed n) f o xs blocks buffers x (endReaders (from .rq) from)
+      go : (l : List ℕ) → W .rest ≡ l → Mid (Owed n) f o ms x (endReaders (from .rq) from)
       go [] q = none-left q .1
       go (p ∷ l) q = absurd (omega (arith, W .few, ap length q))
 
@@ -127,7 +128,7 @@ module _ {n f : ℕ} {o : Start} {xs blocks buffers : List ℕ} {x : hand.File} 
     within : length (W .kept) < length (W .kept ++ p ∷ l)
     within = omega (arith, length-append (W .kept) (p ∷ l))
 
-    entry-data : dataOf xs (ownEntry (heldAt t (placeOf f p))) ≡ reqWords (placeOf f p) (reqOf (accAt b p))
+    entry-data : dataOf (ms .segment) (ownEntry (heldAt t (placeOf f p))) ≡ reqWords (placeOf f p) (reqOf (accAt b p))
     entry-data =
         let i : ℕ = length (W .kept) in
         let q : List ℕ = W .kept ++ p ∷ l in
@@ -138,14 +139,14 @@ module _ {n f : ℕ} {o : Start} {xs blocks buffers : List ℕ} {x : hand.File} 
         ap (λ (r : List ℕ). getD r i 0) j ∙ map-at (λ y. ownEntry (heldAt t (placeOf f y))) q i 0 0 within ∙ ap (λ (y : ℕ). ownEntry (heldAt t (placeOf f y))) s
         in
         let m : i < length (getD (listsOf d t) (readQueue f) []) = rw (j, length-map) within in
-        ap (dataOf xs) (sym a) ∙ data-box (W .mid .segment .boxes) (readQueue f) low i m ∙ ap (λ (r : List (List ℕ)). getD r i []) k
+        ap (dataOf (ms .segment)) (sym a) ∙ data-box (W .mid .segment .boxes) (readQueue f) low i m ∙ ap (λ (r : List (List ℕ)). getD r i []) k
         ∙ map-at (λ y. reqWords (placeOf f y) (reqOf (accAt b y))) q i 0 [] within ∙ ap (λ (y : ℕ). reqWords (placeOf f y) (reqOf (accAt b y))) s
 
-  pub walk-next : (e : ℕ) → e ≡ nth xs slot → e < entries → Next f o xs b (W .rest) e
+  pub walk-next : (e : ℕ) → e ≡ nth (ms .segment) slot → e < entries → Next f o (ms .segment) b (W .rest) e
   unfolding entryAt entryOf reqOf reqWords
   walk-next e h k = go (W .rest) refl
     where
-      go : (l : List ℕ) → W .rest ≡ l → Next f o xs b (W .rest) e
+      go : (l : List ℕ) → W .rest ≡ l → Next f o (ms .segment) b (W .rest) e
       go [] q = absurd (omega (arith, none-left q .0, h))
       go (p ∷ l) q =
           let (a, w, v, r) = reads-in b p (omega (arith, counted p l q)) in
@@ -158,13 +159,13 @@ module _ {n f : ℕ} {o : Start} {xs blocks buffers : List ℕ} {x : hand.File} 
             opens = v;
             asks = r;
             own = h ∙ one-left p l q .0;
-            entry = ap (λ (z : ℕ). getD (dataOf xs z) 0 0) (h ∙ one-left p l q .0)
+            entry = ap (λ (z : ℕ). getD (dataOf (ms .segment) z) 0 0) (h ∙ one-left p l q .0)
                 ∙ ap (λ (z : List ℕ). getD z 0 0) (entry-data p l q ∙ ap (reqWords (placeOf f p)) (ap reqOf v ∙ r));
           }
 
 -- it begins
-pub walk-begin : {n f : ℕ} {o : Start} {xs blocks buffers : List ℕ} {x : hand.File} {b : Built} → Mid (Owed n) f o xs blocks buffers x b
-    → Walk (Owed n) f o xs blocks buffers x b (readQueue f) entries
+pub walk-begin : {n f : ℕ} {o : Start} {m : Memories} {x : hand.File} {b : Built} → Mid (Owed n) f o m x b
+    → Walk (Owed n) f o m x b (readQueue f) entries
 walk-begin {f = f} {o = o} {b = b} M = record {
   file = b;
   kept = [];

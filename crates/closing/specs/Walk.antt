@@ -11,6 +11,7 @@ use Rattle.ports.proofs.Chains.{slotAt}
 use Rattle.midst.specs.declared.File as hand
 use Rattle.midst.specs.Mid.{Start, Mid}
 use Rattle.midst.proofs.Lists.{entriesIn}
+use Rattle.memory.specs.Memories.{Memories}
 
 -- the data of a read that ended with status 2 and brought nothing
 unfoldable pub endWords : ℕ → List ℕ
@@ -18,11 +19,11 @@ endWords i = i ∷ 0 ∷ 0 ∷ 0 ∷ 2 ∷ 0 ∷ 0 ∷ 0 ∷ 0 ∷ []
 
 -- the walk, which began with the file `from`, has come to this slot: of the queue the readers `kept` were passed and wait on, the readers `rest`,
 -- at most so many, are left, and ending those of them is what is left to do
-pub record Walk (I : Built → Type 0) (f : ℕ) (o : Start) (xs blocks buffers : List ℕ) (x : hand.File) (from : Built) (slot left : ℕ) : Type 0 where
+pub record Walk (I : Built → Type 0) (f : ℕ) (o : Start) (m : Memories) (x : hand.File) (from : Built) (slot left : ℕ) : Type 0 where
   pub file : Built
   pub kept : List ℕ
   pub rest : List ℕ
-  pub mid : Mid I f o xs blocks buffers x file
+  pub mid : Mid I f o m x file
   pub queue : file .rq ≡ kept ++ rest
   pub at : slot ≡ slotAt (readQueue f) (entriesIn f (allotAll f (file .past) (o .alloc)) kept)
   pub few : length rest ≤ left

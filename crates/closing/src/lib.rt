@@ -1,33 +1,22 @@
 // Close: "a waiting request is cancelled; for the last writer, every waiting reader without extended wait, in queue order, completes with status 2;
 // then a writer's close record is put." What is asked has been judged and is not refused.
 ghost use mathlib.Core.Path.{_≡_};
-ghost use mathlib.Core.Bool.{true, cond};
 ghost use mathlib.Core.List.{List};
 ghost use mathlib.Core.Option.{some};
-ghost use Prim.Native.Nat.{ℕ, _+_, _*_, _<_};
-ghost use lib.ListN.{length};
-ghost use Rattle.rules.specs.Limits.{files, places, entries};
+ghost use Prim.Native.Nat.{ℕ};
 ghost use Rattle.rules.specs.State.{idle, Acc, Built};
 ghost use Rattle.rules.specs.Requests.{accAt, putRec};
 ghost use Rattle.rules.specs.Close.{closeRec, lastGone, closed};
-ghost use Rattle.rules.specs.Calls.{ask};
 ghost use Rattle.rules.specs.Calls as calls;
-ghost use Rattle.rules.specs.Desk.{Desk, fileOf};
-ghost use Rattle.rules.specs.Allocation.{Alloc};
-ghost use Rattle.segment.specs.Layout.{segmentBytes};
-ghost use Rattle.buffers.specs.Buffer.{buffersBytes};
-ghost use Rattle.requests.specs.Moves.{entryOf, cancelled};
-ghost use Rattle.accessors.specs.Outstanding.{queueOf, outstandingAt};
-ghost use Rattle.controls.specs.Removed.{isWaiting, emptied};
-ghost use Rattle.memory.specs.Fine.{Fine, StandsFor};
+ghost use Rattle.memory.specs.Memories.{memories};
+ghost use Rattle.memory.specs.Fine.{Fine};
 ghost use Rattle.midst.specs.Mid.{Start, Mid};
-ghost use Rattle.midst.specs.Outcome.{Sound, Accepted, Done};
+ghost use Rattle.midst.specs.Outcome.{Sound, Accepted, Does};
 ghost use Rattle.midst.proofs.Walks.{Owed};
 
 mod readers;
 
 use controls::waiting::remove;
-use controls::waiting::waits;
 use kinds::Answer;
 use kinds::limits::PLACES;
 use kinds::record_types::CLOSE;
@@ -39,22 +28,10 @@ use segment::PlaceRow;
 use settling::rest;
 use store::put;
 
-// The request of place acc, if it waits, is cancelled; the side is its accessor's.
-fn cancel(segment: &mut [u8], buffers: &mut [u8], f: usize, acc: usize, side: u16)
-    requires { ⌜ (length (now segment) ≡ segmentBytes) × (length (now buffers) ≡ buffersBytes) × (f < files) × (acc < places) ⌝ }
-    requires { ⌜ (isWaiting (outstandingAt (now segment) f acc side) ≡ true → entryOf (now segment) (queueOf f side) (places * f + acc) < entries) ⌝ }
-    ensures segment { λ _. ⌜ now (segment .exit) ≡ cond (isWaiting (outstandingAt (now (segment .entry)) f acc side)) (cancelled (now (segment .entry)) (queueOf f side) (places * f + acc)) (now (segment .entry)) ⌝ }
-    ensures buffers { λ _. ⌜ now (buffers .exit) ≡ cond (isWaiting (outstandingAt (now (segment .entry)) f acc side)) (emptied side (places * f + acc) (now (buffers .entry))) (now (buffers .entry)) ⌝ }
-{
-    if waits(segment, f, acc, side) {
-        remove(segment, buffers, f, acc, side);
-    }
-}
-
 // A writer has gone: the readers end if it was the last, "then a writer's close record is put".
 fn part(segment: &mut [u8], blocks: &mut [u8], f: usize, file: File, id: u16) -> File
-    requires { ⌜ ((buffers : List ℕ) × (o : Start) × (b : Built) × Mid (Owed id) f o (now segment) (now blocks) buffers file b) ⌝ }
-    ensures { λ r. ⌜ ((buffers : List ℕ) (o : Start) (b : Built) → Mid (Owed id) f o (now (segment .entry)) (now (blocks .entry)) buffers file b → Mid Fine f o (now (segment .exit)) (now (blocks .exit)) buffers r (putRec (closeRec id) (lastGone b))) ⌝ }
+    requires { ⌜ ((buffers : List ℕ) × (o : Start) × (b : Built) × Mid (Owed id) f o (memories (now segment) (now blocks) buffers) file b) ⌝ }
+    ensures { λ r. ⌜ ((buffers : List ℕ) (o : Start) (b : Built) → Mid (Owed id) f o (memories (now (segment .entry)) (now (blocks .entry)) buffers) file b → Mid Fine f o (memories (now (segment .exit)) (now (blocks .exit)) buffers) r (putRec (closeRec id) (lastGone b))) ⌝ }
 {
     last_gone(segment, f);
     let nothing = [0u8; 0];
@@ -63,8 +40,8 @@ fn part(segment: &mut [u8], blocks: &mut [u8], f: usize, file: File, id: u16) ->
 
 // The accessor at place acc, which has no request, goes.
 fn leave(segment: &mut [u8], blocks: &mut [u8], f: usize, acc: usize, file: File) -> File
-    requires { ⌜ ((buffers : List ℕ) × (o : Start) × (b : Built) × (a : Acc) × Mid Fine f o (now segment) (now blocks) buffers file b × (accAt b acc ≡ some a) × (a .req ≡ idle)) ⌝ }
-    ensures { λ r. ⌜ ((buffers : List ℕ) (o : Start) (b : Built) (a : Acc) → Mid Fine f o (now (segment .entry)) (now (blocks .entry)) buffers file b → accAt b acc ≡ some a → a .req ≡ idle → Mid Fine f o (now (segment .exit)) (now (blocks .exit)) buffers r (closed acc a b)) ⌝ }
+    requires { ⌜ ((buffers : List ℕ) × (o : Start) × (b : Built) × (a : Acc) × Mid Fine f o (memories (now segment) (now blocks) buffers) file b × (accAt b acc ≡ some a) × (a .req ≡ idle)) ⌝ }
+    ensures { λ r. ⌜ ((buffers : List ℕ) (o : Start) (b : Built) (a : Acc) → Mid Fine f o (memories (now (segment .entry)) (now (blocks .entry)) buffers) file b → accAt b acc ≡ some a → a .req ≡ idle → Mid Fine f o (memories (now (segment .exit)) (now (blocks .exit)) buffers) r (closed acc a b)) ⌝ }
 {
     let place = PLACES * f + acc;
     let row = segment::read_place(segment, place);
@@ -92,12 +69,12 @@ pub fn close(
     f: usize,
     acc: usize,
 ) -> Answer
-    requires { ⌜ Sound (now segment) (now blocks) (now buffers) × Accepted f (calls.close acc) (now segment) (now blocks) (now buffers) ⌝ }
-    ensures { λ r. ⌜ ((d : Desk) (s : Alloc) → StandsFor (now (segment .entry)) (now (blocks .entry)) (now (buffers .entry)) d s → Done f d s (ask (fileOf d f) (calls.close acc)) (now (blocks .entry)) (now (buffers .entry)) (now (segment .exit)) (now (blocks .exit)) (now (buffers .exit)) r) ⌝ }
+    requires { ⌜ Sound (memories (now segment) (now blocks) (now buffers)) × Accepted f (calls.close acc) (memories (now segment) (now blocks) (now buffers)) ⌝ }
+    ensures { λ r. ⌜ Does f (calls.close acc) (memories (now (segment .entry)) (now (blocks .entry)) (now (buffers .entry))) (memories (now (segment .exit)) (now (blocks .exit)) (now (buffers .exit))) r ⌝ }
 {
     let side = segment::place_side(segment, PLACES * f + acc);
     let file = take_file(segment, f);
-    cancel(segment, buffers, f, acc, side);
+    remove(segment, buffers, f, acc, side);
     let left = leave(segment, blocks, f, acc, file);
     rest(segment, blocks, buffers, f, left);
     Answer::Closed

@@ -14,11 +14,11 @@ ghost use Rattle.midst.specs.Mid.{Start};
 ghost use Rattle.midst.proofs.Walks.{Owed};
 ghost use Rattle.closing.specs.Walk.{endWords, Walk};
 ghost use Rattle.closing.specs.Leaving.{Gone, Goes, Stops};
-use accessors::sides::count_side;
-use kinds::sides::WRITER;
+ghost use Rattle.memory.specs.Memories.{memories};
 use kinds::statuses;
 use segment::Entry;
 use segment::layout;
+use settling::has_writer;
 
 const END_OF_FILE: u16 = statuses::END_OF_FILE as u16;
 
@@ -43,7 +43,7 @@ fn end_read(segment: &mut [u8], slot: usize, place: u16)
 // The reader whose entry e stands at the slot: it waits on, and the walk goes on behind it, or it ends, and the next one stands at the slot.
 fn pass(segment: &mut [u8], slot: usize, e: u16) -> usize
     requires { ⌜ Stops (now segment) slot e ⌝ }
-    ensures { λ r. ⌜ ((n f : ℕ) (blocks buffers : List ℕ) (x : hand.File) (o : Start) (b : Built) (left : ℕ) → Walk (Owed n) f o (now (segment .entry)) blocks buffers x b slot left → Walk (Owed n) f o (now (segment .exit)) blocks buffers x b r (left - 1)) ⌝ }
+    ensures { λ r. ⌜ ((n f : ℕ) (blocks buffers : List ℕ) (x : hand.File) (o : Start) (b : Built) (left : ℕ) → Walk (Owed n) f o (memories (now (segment .entry)) blocks buffers) x b slot left → Walk (Owed n) f o (memories (now (segment .exit)) blocks buffers) x b r (left - 1)) ⌝ }
 {
     let place = segment::entry_place(segment, e);
     let row = segment::read_place(segment, place as usize);
@@ -75,7 +75,7 @@ pub fn last_gone(segment: &mut [u8], f: usize)
     requires { ⌜ Gone f (now segment) ⌝ }
     ensures { λ _. ⌜ Goes lastGone f (now (segment .entry)) (now (segment .exit)) ⌝ }
 {
-    if count_side(segment, f, WRITER) == 0 {
+    if !has_writer(segment, f) {
         end_readers(segment, f);
     }
 }

@@ -1,14 +1,14 @@
 -- A control that is accepted, and the abort.
 use Prim.Native.Nat.{ℕ, _+_, _*_, _<_}
-use mathlib.Core.Path.{_≡_, refl, sym, _∙_}
-use mathlib.Core.Bool.{true, false, true≢false}
+use mathlib.Core.Path.{_≡_, refl, sym, ap, _∙_}
+use mathlib.Core.Bool.{Bool, true, false, cond, true≢false}
 use mathlib.Core.List.{List}
 use mathlib.Core.Option.{some}
 use lib.ListN.{length}
 use Rattle.kinds.specs.declared.Answer.the-variants.{Controlled, Status}
 use Rattle.kinds.specs.declared.Control.{Control}
 use Rattle.kinds.specs.declared.Control.the-variants.{Timeout, Verify, Abort, Extended, Typed, Keep}
-use Rattle.rules.specs.Limits.{files, places, entries}
+use Rattle.rules.specs.Limits.{files, places}
 use Rattle.rules.specs.State.{Req, idle, reading, writing, readDone, writeDone, Acc, Built}
 use Rattle.rules.specs.Requests.{accAt, cancel}
 use Rattle.rules.specs.Reply.{Out, status}
@@ -19,9 +19,10 @@ use Rattle.rules.specs.Allocation.{Alloc}
 use Rattle.segment.specs.Layout.{segmentBytes}
 use Rattle.segment.specs.Fields.{fileAt, placeAt}
 use Rattle.buffers.specs.Buffer.{buffersBytes}
-use Rattle.requests.specs.Moves.{entryOf, cancelled}
+use Rattle.requests.specs.Moves.{slotOf, cancelled}
 use Rattle.laws.specs.Outstanding.{uncollected}
 use Rattle.words.specs.Word.{Bytes}
+use Rattle.memory.specs.Memories.{Memories, memories}
 use Rattle.memory.specs.Fine.{Fine, StandsFor}
 use Rattle.midst.specs.File.{fileOfRow}
 use Rattle.midst.specs.Mid.{Mid, start}
@@ -34,7 +35,7 @@ use Rattle.accessors.specs.Outstanding.{queueOf, outstandingAt, outstandingOf}
 use Rattle.controls.specs.Removed.{isWaiting, emptied}
 use Rattle.controls.specs.Acts.{Taken}
 use Rattle.controls.proofs.Stood.{begins-rowed, stays-done}
-use Rattle.controls.proofs.Cancels.{waiting-awaits, waits-is, removable, removed, removed-rowed}
+use Rattle.controls.proofs.Cancels.{waiting-awaits, waits-is, removed, removed-rowed}
 
 -- the accessor of a control that is accepted
 known-at : (p : ℕ) (c : Control) (b : Built) (o : Out) → ControlKnown p (some c) b o → (a : Acc) × (accAt b p ≡ some a)
@@ -65,35 +66,38 @@ pub record Sized (f p : ℕ) (xs buffers : List ℕ) : Type 0 where
 pub taken-sized : (f p : ℕ) (c : Control) (xs buffers : List ℕ) → Taken f (calls.control p (some c)) xs buffers → Sized f p xs buffers
 taken-sized f p c xs buffers (blocks, d, s, S, r) =
     let A = accepted-control d f p (some c) r in
-    let M : Mid Fine f (start d s blocks buffers) xs blocks buffers (fileOfRow (fileAt xs f)) (A .b) = mid-begin S f (A .b) (A .file) (A .stands) in
+    let M : Mid Fine f (start d s (memories xs blocks buffers)) (memories xs blocks buffers) (fileOfRow (fileAt xs f)) (A .b) = mid-begin S f (A .b) (A .file) (A .stands) in
     let k = known-at p c (A .b) _ (A .known) in
     record { segment = S .stands .segment .size; buffers-size = S .stands .bodies .buffers-size; file = A .file; place = mid-below M p (k .0) (k .1) }
 
-pub abort-removable : (f p v : ℕ) (xs buffers : List ℕ) → Taken f (calls.control p (some (Abort v))) xs buffers → (side : ℕ) → side ≡ placeAt xs (places * f + p) .side
-    → isWaiting (outstandingAt xs f p side) ≡ true → entryOf xs (queueOf f side) (places * f + p) < entries
-abort-removable f p v xs buffers (blocks, d, s, S, r) side k w =
-    let A = accepted-abort d f p v r in
-    removable (mid-begin S f (A .b) (A .file) (A .stands)) p (A .known .a) (A .known .at) side k w
+module _ {m : Memories} {d : Desk} {s : Alloc} (S : StandsFor m d s) (f p v : ℕ)
+    (r : refusalOf (answered d (on f (calls.control p (some (Abort v)))) .reply) ≡ 0) (side : ℕ) (k : side ≡ placeAt (m .segment) (places * f + p) .side) where
+  abbrev out : List ℕ
+  out = cancelled (m .segment) (slotOf (m .segment) (queueOf f side) (places * f + p)) (places * f + p)
 
-module _ {xs blocks buffers : List ℕ} {d : Desk} {s : Alloc} (S : StandsFor xs blocks buffers d s) (f p v : ℕ)
-    (r : refusalOf (answered d (on f (calls.control p (some (Abort v)))) .reply) ≡ 0) (side : ℕ) (k : side ≡ placeAt xs (places * f + p) .side) where
-  pub abort-waits : isWaiting (outstandingAt xs f p side) ≡ true → (xs′ buffers′ : List ℕ) → xs′ ≡ cancelled xs (queueOf f side) (places * f + p)
-      → buffers′ ≡ emptied side (places * f + p) buffers → Bytes xs′ → Bytes buffers′
-      → Done f d s (ask (fileOf d f) (calls.control p (some (Abort v)))) blocks buffers xs′ blocks buffers′ Controlled
-  abort-waits w xs′ buffers′ u z bs bf =
-      let A = accepted-abort d f p v r in
-      let M : Mid Fine f (start d s blocks buffers) xs blocks buffers (fileOfRow (fileAt xs f)) (A .b) = mid-begin S f (A .b) (A .file) (A .stands) in
-      stays-done S f xs′ buffers′ (fileOfRow (fileAt xs f)) (cancel p (A .b)) Controlled _
-      (A .known .waits (waiting-awaits (A .known .a .req) (sym (waits-is M p (A .known .a) (A .known .at) side k) ∙ w)))
-      (removed M p (A .known .a) (A .known .at) side k w xs′ buffers′ u z)
-      (removed-rowed M p (A .known .a) (A .known .at) side k w xs′ u (begins-rowed S f (A .b) (A .file) (A .stands))) bs bf
+  abbrev rest : List ℕ
+  rest = emptied side (places * f + p) (m .buffers)
 
-  pub abort-completed : isWaiting (outstandingAt xs f p side) ≡ false
-      → Done f d s (ask (fileOf d f) (calls.control p (some (Abort v)))) blocks buffers xs blocks buffers (Status 5 2)
-  unfolding status
-  abort-completed w =
-      let A = accepted-abort d f p v r in
-      let M : Mid Fine f (start d s blocks buffers) xs blocks buffers (fileOfRow (fileAt xs f)) (A .b) = mid-begin S f (A .b) (A .file) (A .stands) in
-      stays-done S f xs buffers (fileOfRow (fileAt xs f)) (A .b) (Status 5 2) _
-      (A .known .completed (completes (A .known .a .req) (sym (waits-is M p (A .known .a) (A .known .at) side k) ∙ w) (A .known .outstands)))
-      M (begins-rowed S f (A .b) (A .file) (A .stands)) (S .stands .segment .bytes) (S .stands .bodies .buffers-bytes)
+  module _ (xs′ buffers′ : List ℕ) (u : xs′ ≡ cond (isWaiting (outstandingAt (m .segment) f p side)) (cancelled (m .segment) (slotOf (m .segment) (queueOf f side) (places * f + p)) (places * f + p)) (m .segment))
+      (z : buffers′ ≡ cond (isWaiting (outstandingAt (m .segment) f p side)) (emptied side (places * f + p) (m .buffers)) (m .buffers)) where
+    pub abort-waits : isWaiting (outstandingAt (m .segment) f p side) ≡ true → Bytes xs′ → Bytes buffers′
+        → Done f d s (ask (fileOf d f) (calls.control p (some (Abort v)))) m (memories xs′ (m .blocks) buffers′) Controlled
+    abort-waits w bs bf =
+        let A = accepted-abort d f p v r in
+        let M : Mid Fine f (start d s m) m (fileOfRow (fileAt (m .segment) f)) (A .b) = mid-begin S f (A .b) (A .file) (A .stands) in
+        let u′ : xs′ ≡ cancelled (m .segment) (slotOf (m .segment) (queueOf f side) (places * f + p)) (places * f + p) = u ∙ ap (λ (t : Bool). cond t out (m .segment)) w in
+        stays-done S f xs′ buffers′ (fileOfRow (fileAt (m .segment) f)) (cancel p (A .b)) Controlled _
+        (A .known .waits (waiting-awaits (A .known .a .req) (sym (waits-is M p (A .known .a) (A .known .at) side k) ∙ w)))
+        (removed M p (A .known .a) (A .known .at) side k w xs′ buffers′ u′ (z ∙ ap (λ (t : Bool). cond t rest (m .buffers)) w))
+        (removed-rowed M p (A .known .a) (A .known .at) side k w xs′ u′ (begins-rowed S f (A .b) (A .file) (A .stands))) bs bf
+
+    pub abort-completed : isWaiting (outstandingAt (m .segment) f p side) ≡ false
+        → Done f d s (ask (fileOf d f) (calls.control p (some (Abort v)))) m (memories xs′ (m .blocks) buffers′) (Status 5 2)
+    unfolding status
+    abort-completed w =
+        let A = accepted-abort d f p v r in
+        let M : Mid Fine f (start d s m) m (fileOfRow (fileAt (m .segment) f)) (A .b) = mid-begin S f (A .b) (A .file) (A .stands) in
+        rw (u ∙ ap (λ (t : Bool). cond t out (m .segment)) w, z ∙ ap (λ (t : Bool). cond t rest (m .buffers)) w)
+        (stays-done S f (m .segment) (m .buffers) (fileOfRow (fileAt (m .segment) f)) (A .b) (Status 5 2) _
+        (A .known .completed (completes (A .known .a .req) (sym (waits-is M p (A .known .a) (A .known .at) side k) ∙ w) (A .known .outstands)))
+        M (begins-rowed S f (A .b) (A .file) (A .stands)) (S .stands .segment .bytes) (S .stands .bodies .buffers-bytes))

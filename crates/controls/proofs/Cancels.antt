@@ -1,5 +1,5 @@
 -- In the midst of a call the waiting request of an accessor is removed.
-use Prim.Native.Nat.{ℕ, _+_, _*_, _<_}
+use Prim.Native.Nat.{ℕ, _+_, _*_}
 use mathlib.Core.Path.{_≡_, refl, sym, ap, _∙_}
 use mathlib.Core.Bool.{Bool, true, false, cond, true≢false}
 use mathlib.Core.List.{List}
@@ -7,7 +7,7 @@ use mathlib.Core.Option.{some}
 use native.Mathlib.Omega.{arith}
 use lib.Dec.{eqb}
 use Rattle.occurrences.specs.Count.{bit}
-use Rattle.rules.specs.Limits.{places, entries}
+use Rattle.rules.specs.Limits.{places}
 use Rattle.rules.specs.State.{Req, idle, reading, writing, readDone, writeDone, Acc, Built, built}
 use Rattle.rules.specs.Desk.{withFile}
 use Rattle.rules.specs.Requests.{accAt, cancel}
@@ -15,9 +15,10 @@ use Rattle.rules.specs.Memories.{lies}
 use Rattle.rules.specs.Allocation.{placeOf, allotAll}
 use Rattle.segment.specs.Layout.{readQueue, writeQueue}
 use Rattle.segment.specs.Fields.{placeAt, placeRowOf}
-use Rattle.requests.specs.Moves.{entryOf, cancelled}
+use Rattle.requests.specs.Moves.{slotOf, cancelled}
 use Rattle.laws.specs.Outstanding.{waitsRead, waitsWrite, awaits}
 use Rattle.laws.specs.Sides.{Fitting}
+use Rattle.memory.specs.Memories.{Memories, memories}
 use Rattle.memory.specs.Image as image
 use Rattle.memory.specs.Fine.{Fine}
 use Rattle.midst.specs.declared.File as hand
@@ -25,7 +26,7 @@ use Rattle.midst.specs.Seg.{queueAt}
 use Rattle.midst.specs.Mid.{Start, Mid}
 use Rattle.midst.proofs.Begins.{mid-file, mid-place}
 use Rattle.midst.proofs.Changes.{fine-knows, Laid, keep, clear, mid-below}
-use Rattle.midst.proofs.Requests.{step-cancel-entry, step-cancel}
+use Rattle.midst.proofs.Requests.{step-cancel}
 use Rattle.midst.proofs.Terms.{waitsAt}
 use Rattle.midst.proofs.Walks.{fine-walks}
 use Rattle.midst.proofs.EndsUnwritten.{Rowed, rowed-cancel}
@@ -70,8 +71,8 @@ unfolding emptied lies
 laid true f p q ys h = clear refl refl
 laid false f p q ys h = keep refl (reads-nothing q h)
 
-module _ {f : ℕ} {o : Start} {xs blocks buffers : List ℕ} {x : hand.File} {b : Built} (M : Mid Fine f o xs blocks buffers x b) (p : ℕ) (a : Acc) (e : accAt b p ≡ some a)
-    (side : ℕ) (k : side ≡ placeAt xs (places * f + p) .side) where
+module _ {f : ℕ} {o : Start} {m : Memories} {x : hand.File} {b : Built} (M : Mid Fine f o m x b) (p : ℕ) (a : Acc) (e : accAt b p ≡ some a)
+    (side : ℕ) (k : side ≡ placeAt (m .segment) (places * f + p) .side) where
   side-is : side ≡ 1 + bit (a .writer)
   unfolding placeOf placeRowOf image.placeWords
   side-is = k ∙ ap (λ r. r .side) (mid-place M p (mid-below M p a e)) ∙ ap (λ z. placeRowOf (image.placeWords z) .side) e
@@ -80,35 +81,31 @@ module _ {f : ℕ} {o : Start} {xs blocks buffers : List ℕ} {x : hand.File} {b
   queue-is = ap (queueOf f) side-is ∙ ap (λ (t : Bool). cond t (writeQueue f) (readQueue f)) (two (a .writer))
 
   -- the lists say whether the request waits
-  pub waits-is : isWaiting (outstandingAt xs f p side) ≡ isWaiting (outstandingOf (a .req))
+  pub waits-is : isWaiting (outstandingAt (m .segment) f p side) ≡ isWaiting (outstandingOf (a .req))
   unfolding sideOf
   waits-is =
-      ap isWaiting (ap (outstandingAt xs f p) side-is
+      ap isWaiting (ap (outstandingAt (m .segment) f p) side-is
       ∙ outstanding-boxes (withFile (o .desk) f (built b)) (allotAll f (b .past) (o .alloc)) (M .segment .boxes) f (M .file) b (mid-file M) (M .good .queues) p a (mid-below M p a e) e (M .good .sides p a e))
 
-  module _ (w : isWaiting (outstandingAt xs f p side) ≡ true) where
+  module _ (w : isWaiting (outstandingAt (m .segment) f p side) ≡ true) where
     waits : waitsAt (a .writer) (a .req) ≡ 1
     waits = waits-side (a .writer) (a .req) (M .good .sides p a e .request) (sym waits-is ∙ w)
 
-    pub removable : entryOf xs (queueOf f side) (places * f + p) < entries
-    unfolding placeOf
-    removable = rw queue-is (step-cancel-entry fine-knows M p a e (a .writer) waits)
-
-    emptied-is : emptied side (places * f + p) buffers ≡ cond (a .writer) (emptied 2 (placeOf f p) buffers) buffers
+    emptied-is : emptied side (places * f + p) (m .buffers) ≡ cond (a .writer) (emptied 2 (placeOf f p) (m .buffers)) (m .buffers)
     unfolding emptied placeOf
-    emptied-is = ap (λ n. emptied n (places * f + p) buffers) side-is ∙ go (a .writer)
+    emptied-is = ap (λ n. emptied n (places * f + p) (m .buffers)) side-is ∙ go (a .writer)
       where
-        go : (t : Bool) → emptied (1 + bit t) (places * f + p) buffers ≡ cond t (emptied 2 (placeOf f p) buffers) buffers
+        go : (t : Bool) → emptied (1 + bit t) (places * f + p) (m .buffers) ≡ cond t (emptied 2 (placeOf f p) (m .buffers)) (m .buffers)
         go true = refl
         go false = refl
 
-    pub removed : (xs′ buffers′ : List ℕ) → xs′ ≡ cancelled xs (queueOf f side) (places * f + p) → buffers′ ≡ emptied side (places * f + p) buffers
-        → Mid Fine f o xs′ blocks buffers′ x (cancel p b)
+    pub removed : (xs′ buffers′ : List ℕ) → xs′ ≡ cancelled (m .segment) (slotOf (m .segment) (queueOf f side) (places * f + p)) (places * f + p) → buffers′ ≡ emptied side (places * f + p) (m .buffers)
+        → Mid Fine f o (memories xs′ (m .blocks) buffers′) x (cancel p b)
     unfolding placeOf
     removed xs′ buffers′ u v =
         rw (u, v, queue-is, emptied-is) (step-cancel fine-knows M p a e (a .writer) waits _
-        (fine-walks .cancels p a b e (waiting-awaits (a .req) (sym waits-is ∙ w)) (M .good)) (laid (a .writer) f p (a .req) buffers waits))
+        (fine-walks .cancels p a b e (waiting-awaits (a .req) (sym waits-is ∙ w)) (M .good)) (laid (a .writer) f p (a .req) (m .buffers) waits))
 
-    pub removed-rowed : (xs′ : List ℕ) → xs′ ≡ cancelled xs (queueOf f side) (places * f + p) → Rowed xs f b → Rowed xs′ f (cancel p b)
+    pub removed-rowed : (xs′ : List ℕ) → xs′ ≡ cancelled (m .segment) (slotOf (m .segment) (queueOf f side) (places * f + p)) (places * f + p) → Rowed (m .segment) f b → Rowed xs′ f (cancel p b)
     unfolding placeOf
     removed-rowed xs′ u r = rw (u, queue-is) (rowed-cancel M r fine-knows p a e (a .writer) waits)

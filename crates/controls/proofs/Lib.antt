@@ -1,4 +1,5 @@
 pub mod Stood
+pub mod Removes
 pub mod Cancels
 pub mod Settings
 pub mod Aborts

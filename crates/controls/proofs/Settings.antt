@@ -26,8 +26,9 @@ use Rattle.rules.specs.Allocation.{Alloc, placeOf}
 use Rattle.segment.specs.declared.PlaceRow.{PlaceRow}
 use Rattle.segment.specs.Layout.{placeRowAt}
 use Rattle.segment.specs.Table.{fill}
-use Rattle.segment.specs.Fields.{placeWords, fileAt, placeAt, placeRowOf}
+use Rattle.segment.specs.Fields.{placeWords, spared, fileAt, placeAt, placeRowOf}
 use Rattle.laws.specs.Changes.{Mild}
+use Rattle.memory.specs.Memories.{Memories, memories}
 use Rattle.memory.specs.Image as image
 use Rattle.words.specs.Word.{Bytes}
 use Rattle.memory.specs.Fine.{Fine, StandsFor}
@@ -72,7 +73,7 @@ mild-keep v a = (refl, refl, refl, refl)
 
 -- and the row of an accessor is that of the accessor as set
 abbrev Sets : Control → (Acc → Acc) → Type 0
-Sets c g = (a : Acc) → placeWords (changedRow c (placeRowOf (image.placeWords (some a)))) ≡ image.placeWords (some (g a))
+Sets c g = (a : Acc) → spared (placeWords (changedRow c (placeRowOf (image.placeWords (some a))))) ≡ image.placeWords (some (g a))
 
 row-timeout : (v : ℕ) → Sets (Timeout v) (setTimeout v)
 unfolding placeWords changedRow placeRowOf image.placeWords setTimeout
@@ -116,24 +117,24 @@ alter-rowed xs f p g b e = e
 abbrev pub written : Control → ℕ → ℕ → List ℕ → List ℕ
 written c f p xs = fill xs (placeRowAt (places * f + p)) (placeWords (changedRow c (placeAt xs (places * f + p))))
 
-module _ {xs blocks buffers : List ℕ} {d : Desk} {s : Alloc} (S : StandsFor xs blocks buffers d s) (f p : ℕ) (bytes : Bytes buffers) where
+module _ {ms : Memories} {d : Desk} {s : Alloc} (S : StandsFor ms d s) (f p : ℕ) (bytes : Bytes (ms .buffers)) where
   setting : (c : Control) (g : Acc → Acc) (b : Built) (a : Acc) (out : Out) (xs′ : List ℕ) → Mild g → Sets c g → f < files → fileOf d f ≡ built b → accAt b p ≡ some a
-      → out ≡ answering Controlled (alterAcc p g b) → xs′ ≡ written c f p xs → Bytes xs′ → Done f d s out blocks buffers xs′ blocks buffers Controlled
+      → out ≡ answering Controlled (alterAcc p g b) → xs′ ≡ written c f p (ms .segment) → Bytes xs′ → Done f d s out ms (memories xs′ (ms .blocks) (ms .buffers)) Controlled
   unfolding placeOf
   setting c g b a out xs′ m r h e k u v bs =
-      let M : Mid Fine f (start d s blocks buffers) xs blocks buffers (fileOfRow (fileAt xs f)) b = mid-begin S f b h e in
-      let row : placeWords (changedRow c (placeAt xs (places * f + p))) ≡ image.placeWords (some (g a)) =
-      ap (λ (y : PlaceRow). placeWords (changedRow c y)) (mid-place M p (mid-below M p a k) ∙ ap (λ z. placeRowOf (image.placeWords z)) k) ∙ r a
+      let M : Mid Fine f (start d s ms) ms (fileOfRow (fileAt (ms .segment) f)) b = mid-begin S f b h e in
+      let row : spared (placeWords (changedRow c (placeAt (ms .segment) (places * f + p)))) ≡ image.placeWords (some (g a)) =
+      ap (λ (y : PlaceRow). spared (placeWords (changedRow c y))) (mid-place M p (mid-below M p a k) ∙ ap (λ z. placeRowOf (image.placeWords z)) k) ∙ r a
       in
-      let N : Mid Fine f (start d s blocks buffers) xs′ blocks buffers (fileOfRow (fileAt xs f)) (alterAcc p g b) =
-      rw v (mid-mild {J = Fine} M p g a (changedRow c (placeAt xs (places * f + p))) m k (fine-walks .mild p g b m (M .good)) row)
+      let N : Mid Fine f (start d s ms) (memories xs′ (ms .blocks) (ms .buffers)) (fileOfRow (fileAt (ms .segment) f)) (alterAcc p g b) =
+      rw v (mid-mild {J = Fine} M p g a (changedRow c (placeAt (ms .segment) (places * f + p))) m k (fine-walks .mild p g b m (M .good)) row)
       in
-      stays-done S f xs′ buffers _ (alterAcc p g b) Controlled out u N
-      (alter-rowed xs′ f p g b (rw v (rowed-place xs f (places * f + p) (placeWords (changedRow c (placeAt xs (places * f + p)))) b h (begins-rowed S f b h e)))) bs bytes
+      stays-done S f xs′ (ms .buffers) _ (alterAcc p g b) Controlled out u N
+      (alter-rowed xs′ f p g b (rw v (rowed-place (ms .segment) f (places * f + p) (placeWords (changedRow c (placeAt (ms .segment) (places * f + p)))) b h (begins-rowed S f b h e)))) bs bytes
 
   -- every control but the abort
   pub set-done : (c : Control) → OneOf (0 ∷ 1 ∷ 3 ∷ 4 ∷ 5 ∷ []) (tagOf control.the-type c) → refusalOf (answered d (on f (calls.control p (some c))) .reply) ≡ 0
-      → (xs′ : List ℕ) → xs′ ≡ written c f p xs → Bytes xs′ → Done f d s (ask (fileOf d f) (calls.control p (some c))) blocks buffers xs′ blocks buffers Controlled
+      → (xs′ : List ℕ) → xs′ ≡ written c f p (ms .segment) → Bytes xs′ → Done f d s (ask (fileOf d f) (calls.control p (some c))) ms (memories xs′ (ms .blocks) (ms .buffers)) Controlled
   set-done (Timeout v) t r xs′ e bs =
       let A = accepted-timeout d f p v r in
       setting (Timeout v) (setTimeout v) (A .b) (A .known .a) _ xs′ (mild-timeout v) (row-timeout v) (A .file) (A .stands) (A .known .at) (A .known .out) e bs

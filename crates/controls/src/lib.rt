@@ -20,7 +20,6 @@ use kinds::operations;
 use kinds::statuses;
 use segment::PlaceRow;
 use waiting::remove;
-use waiting::waits;
 
 // The row of a place with the control's setting.
 fn changed(row: PlaceRow, asked: Control) -> PlaceRow
@@ -63,8 +62,7 @@ fn abort(segment: &mut [u8], buffers: &mut [u8], f: usize, acc: usize) -> Answer
     ensures { λ r. ⌜ ((v : ℕ) → Acts f (calls.control acc (some (variant.Abort v))) (now (segment .entry)) (now (buffers .entry)) (now (segment .exit)) (now (buffers .exit)) r) ⌝ }
 {
     let side = segment::place_side(segment, PLACES * f + acc);
-    if waits(segment, f, acc, side) {
-        remove(segment, buffers, f, acc, side);
+    if remove(segment, buffers, f, acc, side) {
         return Answer::Controlled;
     }
     Answer::Status {

@@ -15,6 +15,7 @@ use Rattle.rules.specs.Calls.{Ask, ask}
 use Rattle.rules.specs.Desk.{Desk, event, on, asked, frameAsks, fileOf, Responded, answered, respond}
 use Rattle.rules.specs.Allocation.{Alloc}
 use Rattle.laws.specs.Runs.{Proper}
+use Rattle.memory.specs.Memories.{Memories}
 use Rattle.memory.specs.Fine.{StandsFor}
 use Rattle.midst.specs.Outcome.{refusalOf, Done, Gave}
 use Rattle.midst.specs.Outcome as outcome
@@ -31,11 +32,11 @@ module _ (fr : List ℕ) (e : Event) (q : Ask) (f : ℕ) (said : frameOf fr ≡ 
   unfolding respond
   answered-is d = ap (answered d) asked-is
 
-  module _ {xs blocks buffers : List ℕ} (never : (d : Desk) (s : Alloc) → StandsFor xs blocks buffers d s → refusalOf (respond d (event fr) .reply) ≡ 0) where
-    pub accepts : outcome.Accepted f q xs blocks buffers
+  module _ {m : Memories} (never : (d : Desk) (s : Alloc) → StandsFor m d s → refusalOf (respond d (event fr) .reply) ≡ 0) where
+    pub accepts : outcome.Accepted f q m
     accepts d s S = ap (λ (r : Responded). refusalOf (r .reply)) (sym (answered-is d)) ∙ never d s S
 
-    module _ (d : Desk) (s : Alloc) (S : StandsFor xs blocks buffers d s) where
+    module _ (d : Desk) (s : Alloc) (S : StandsFor m d s) where
       pub file-low : f < files
       file-low = accepted-file d f q (accepts d s S)
 
@@ -43,9 +44,9 @@ module _ (fr : List ℕ) (e : Event) (q : Ask) (f : ℕ) (said : frameOf fr ≡ 
       reply-is = ap (λ (r : Responded). r .reply) (respond-is d s (event fr) f q asked-is file-low)
 
       -- answered with nothing behind
-      pub acted : (memory xs′ blocks′ buffers′ : List ℕ) (a : Answer) → Built′ (ask (fileOf d f) q) → Done f d s (ask (fileOf d f) q) blocks buffers xs′ blocks′ buffers′ a
-          → Acted d s (event fr) blocks buffers memory xs′ blocks′ buffers′ memory a 0
-      acted memory xs′ blocks′ buffers′ a B D = record {
+      pub acted : (memory : List ℕ) (m′ : Memories) (a : Answer) → Built′ (ask (fileOf d f) q) → Done f d s (ask (fileOf d f) q) m m′ a
+          → Acted d s (event fr) m memory m′ memory a 0
+      acted memory m′ a B D = record {
         stays = outcome-stays S (event fr) f q asked-is file-low B (D .outcome);
         bytes = [];
         reply = reply-is ∙ D .reply;
@@ -55,9 +56,9 @@ module _ (fr : List ℕ) (e : Event) (q : Ask) (f : ℕ) (said : frameOf fr ≡ 
       }
 
       -- answered with a record's data
-      pub acted-data : (memory xs′ blocks′ buffers′ memory′ : List ℕ) (a : Answer) (n : ℕ) → Built′ (ask (fileOf d f) q)
-          → Gave f d s (ask (fileOf d f) q) blocks buffers memory xs′ blocks′ buffers′ memory′ a n → Acted d s (event fr) blocks buffers memory xs′ blocks′ buffers′ memory′ a n
-      acted-data memory xs′ blocks′ buffers′ memory′ a n B G = record {
+      pub acted-data : (memory : List ℕ) (m′ : Memories) (memory′ : List ℕ) (a : Answer) (n : ℕ) → Built′ (ask (fileOf d f) q)
+          → Gave f d s (ask (fileOf d f) q) m memory m′ memory′ a n → Acted d s (event fr) m memory m′ memory′ a n
+      acted-data memory m′ memory′ a n B G = record {
         stays = outcome-stays S (event fr) f q asked-is file-low B (G .outcome);
         bytes = G .bytes;
         reply = reply-is ∙ G .reply;

@@ -18,6 +18,7 @@ use Rattle.rules.specs.Desk.{Desk, on, fileOf, withFile, answered}
 use Rattle.rules.specs.Allocation.{Alloc, allotAll}
 use Rattle.laws.specs.Runs.{OnFile, Proper}
 use Rattle.laws.proofs.EightFiles.{file-here}
+use Rattle.memory.specs.Memories.{Memories}
 use Rattle.memory.specs.Fine.{StandsFor}
 use Rattle.midst.specs.Outcome.{refusalOf, Done}
 use Rattle.midst.proofs.Accepted.{accepted-build, accepted-open, accepted-read, accepted-write, accepted-control, accepted-collect, accepted-close, accepted-counts}
@@ -65,10 +66,10 @@ hushed-same : (b : Built) → b .past ≡ [] → hushed b ≡ b
 unfolding hushed
 hushed-same b e = ap {B = Built} (λ (l : List Hap). record { geo = b .geo; store = b .store; accs = b .accs; rq = b .rq; wq = b .wq; timers = b .timers; past = l }) (sym e)
 
-pub counts-done : {xs blocks buffers : List ℕ} {d : Desk} {s : Alloc} → StandsFor xs blocks buffers d s → (f : ℕ) (r : Answer) → f < files → (b : Built) → fileOf d f ≡ built b
-    → counting.counts b ≡ answering r b → Done f d s (ask (fileOf d f) calls.counts) blocks buffers xs blocks buffers r
+pub counts-done : {m : Memories} {d : Desk} {s : Alloc} → StandsFor m d s → (f : ℕ) (r : Answer) → f < files → (b : Built) → fileOf d f ≡ built b
+    → counting.counts b ≡ answering r b → Done f d s (ask (fileOf d f) calls.counts) m m r
 unfolding ask calls.askBuilt
-counts-done {xs} {blocks} {buffers} {d} {s} S f r hf b e q = rw (e, ask) (subst (λ (o : Out). Done f d s o blocks buffers xs blocks buffers r) (sym q) same)
+counts-done {m} {d} {s} S f r hf b e q = rw (e, ask) (subst (λ (o : Out). Done f d s o m m r) (sym q) same)
   where
     calm : b .past ≡ []
     calm = unfold OnFile in (rw e at (S .agreed .calm f hf))
@@ -76,7 +77,7 @@ counts-done {xs} {blocks} {buffers} {d} {s} S f r hf b e q = rw (e, ask) (subst 
     file-same : withFile d f (built (hushed b)) ≡ d
     file-same = ap (λ (c : Built). withFile d f (built c)) (hushed-same b calm) ∙ file-here d f (built b) e
 
-    same : Done f d s (answering r b) blocks buffers xs blocks buffers r
+    same : Done f d s (answering r b) m m r
     same = unfold answering leaves allotAll in record {
       outcome = record {
         stands = rw (file-same, calm, allotAll) (S .stands);

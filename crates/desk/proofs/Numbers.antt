@@ -6,14 +6,16 @@ use mathlib.Core.List.{List}
 use mathlib.Core.Option.{Option}
 use lib.ListN.{drop}
 use Rattle.kinds.specs.declared.Frame.{Frame}
+use Rattle.rules.specs.Limits.{writeHead}
 use Rattle.rules.specs.Frames.{frameOf}
 use Rattle.rules.specs.Desk.{Call, event, bad, asked, frameAsks, answered, respond}
 use Rattle.midst.specs.Outcome.{replyStatus, statusOf, refusalOf}
 use Rattle.sound.specs.Sound.{soundly}
-use Rattle.promises.specs.Promise.{Memories, Standing, replyOf}
+use Rattle.promises.specs.Promise.{Standing, replyOf}
 use Rattle.promises.proofs.Seen.{seen-none, seen-some}
 use Rattle.judges.specs.Refused.{Refuses}
 use Rattle.desk.specs.Refusals.{RefusedWith}
+use Rattle.memory.specs.Memories.{Memories}
 
 -- a frame of no shape
 pub shape-number : (xs : List ℕ) → Refuses xs bad 30
@@ -22,14 +24,14 @@ shape-number xs blocks buffers d s S = refl
 
 module _ (m : Memories) where
   -- no desk
-  pub unsound-number : soundly (m .segment) (m .blocks) (m .buffers) ≡ false → (c : Call) → RefusedWith m c 29
+  pub unsound-number : soundly m ≡ false → (c : Call) → RefusedWith m c 29
   unfolding replyOf refusalOf replyStatus
   unsound-number e c = seen-none (λ (v : Option Standing). 29 ≡ refusalOf (replyOf v c)) e refl
 
   -- a desk, and what the frame says
-  pub frame-number : soundly (m .segment) (m .blocks) (m .buffers) ≡ true → (fr : List ℕ) (said : Frame) → said ≡ frameOf fr → (n : ℕ) → ((t : List ℕ) → Refuses (m .segment) (frameAsks said t) n)
+  pub frame-number : soundly m ≡ true → (fr : List ℕ) (said : Frame) → said ≡ frameOf fr → (n : ℕ) → ((t : List ℕ) → Refuses (m .segment) (frameAsks said t) n)
       → RefusedWith m (event fr) n
   unfolding replyOf respond asked
   frame-number e fr said k n h =
       seen-some (λ (v : Option Standing). n ≡ refusalOf (replyOf v (event fr))) e
-      (λ d s S. h (drop 5 fr) _ _ d s S ∙ ap (λ (y : Frame). refusalOf (answered d (frameAsks y (drop 5 fr)) .reply)) k)
+      (λ d s S. h (drop writeHead fr) _ _ d s S ∙ ap (λ (y : Frame). refusalOf (answered d (frameAsks y (drop writeHead fr)) .reply)) k)

@@ -22,6 +22,7 @@ use Rattle.rules.specs.Calls.{Ask, refusal}
 use Rattle.rules.specs.Calls as calls
 use Rattle.rules.specs.Desk.{Desk, event, on, bad, asked, frameAsks, Responded, answered, respond}
 use Rattle.rules.specs.Allocation.{Alloc, allocAsked}
+use Rattle.memory.specs.Memories.{Memories}
 use Rattle.memory.specs.Fine.{StandsFor}
 use Rattle.midst.specs.Outcome.{replyStatus, statusOf, refusalOf, Told}
 use Rattle.midst.proofs.Accepted.{accepted-code}
@@ -45,10 +46,10 @@ no-code xs (frame.Code f p) memory memory′ k (inl u) T = absurd (omega arith)
 no-code xs (frame.Code f p) memory memory′ k (inr u) T = absurd (omega arith)
 no-code xs frame.Shape memory memory′ k u T = T
 
-module _ {xs blocks buffers : List ℕ} {d : Desk} {s : Alloc} (S : StandsFor xs blocks buffers d s) (fr memory memory′ : List ℕ) (k : ℕ) where
+module _ {ms : Memories} {d : Desk} {s : Alloc} (S : StandsFor ms d s) (fr memory memory′ : List ℕ) (k : ℕ) where
   -- a call of a file
   on-refused : (f : ℕ) (q : Ask) (op n : ℕ) → asked (event fr) ≡ on f q → ((m : ℕ) → refusal q m ≡ answers (Status op m) []) → n ≡ refusalOf (answered d (on f q) .reply) → (n ≡ 0 → ⊥)
-      → Twice op n memory memory′ k → Responds d s (event fr) blocks buffers memory xs blocks buffers memory′ k
+      → Twice op n memory memory′ k → Responds d s (event fr) ms memory ms memory′ k
   on-refused f q op n is form e z T =
       let R = stands-refused f q S (λ u. z (e ∙ u)) in
       let r : respond d (event fr) ≡ answered d (on f q) = unfold respond in ap (answered d) is in
@@ -59,7 +60,7 @@ module _ {xs blocks buffers : List ℕ} {d : Desk} {s : Alloc} (S : StandsFor xs
 
   -- an event
   event-refused : (e : Event) (n : ℕ) → frameOf fr ≡ frame.Event e → n ≡ refusalOf (answered d (frameAsks (frame.Event e) (drop writeHead fr)) .reply) → (n ≡ 0 → ⊥)
-      → Twice (operationOf e) n memory memory′ k → Responds d s (event fr) blocks buffers memory xs blocks buffers memory′ k
+      → Twice (operationOf e) n memory memory′ k → Responds d s (event fr) ms memory ms memory′ k
   unfolding operationOf frameAsks asked refusal
   event-refused (Build f r b n x) m said e z T = on-refused f (calls.build r b n x) 1 m (ap (λ (y : Frame). frameAsks y (drop writeHead fr)) said) (λ _. refl) e z T
   event-refused (Open f a g n) m said e z T = on-refused f (calls.opens a g n) 2 m (ap (λ (y : Frame). frameAsks y (drop writeHead fr)) said) (λ _. refl) e z T
@@ -73,11 +74,11 @@ module _ {xs blocks buffers : List ℕ} {d : Desk} {s : Alloc} (S : StandsFor xs
 
   -- its first byte is repeated
   pub first-refused : (e : Event) (n : ℕ) → frameOf fr ≡ frame.Event e → n ≡ refusalOf (answered d (frameAsks (frame.Event e) (drop writeHead fr)) .reply) → (n ≡ 0 → ⊥)
-      → Twice (getD fr 0 0) n memory memory′ k → Responds d s (event fr) blocks buffers memory xs blocks buffers memory′ k
+      → Twice (getD fr 0 0) n memory memory′ k → Responds d s (event fr) ms memory ms memory′ k
   first-refused e n said h z T = event-refused e n said h z (subst (λ (op : ℕ). Twice op n memory memory′ k) (first-byte fr e said) T)
 
   -- a frame of no shape
-  shape-refused : asked (event fr) ≡ bad → Twice 0 30 memory memory′ k → Responds d s (event fr) blocks buffers memory xs blocks buffers memory′ k
+  shape-refused : asked (event fr) ≡ bad → Twice 0 30 memory memory′ k → Responds d s (event fr) ms memory ms memory′ k
   unfolding respond answered allocAsked
   shape-refused is T = record {
     stays = still-stays S (event fr) (ap (λ a. answered d a .desk) is) (ap (λ a. allocAsked d a s) is);
@@ -85,13 +86,13 @@ module _ {xs blocks buffers : List ℕ} {d : Desk} {s : Alloc} (S : StandsFor xs
   }
 
   -- a frame that is none: in the `else` of `let Frame::Event(..) = said else { .. }` the tag is another variant's
-  pub frame-refused : (y : Frame) → frameOf fr ≡ y → OneOf (1 ∷ 2 ∷ []) (tagOf D.the-type y) → Refusal xs y memory memory′ k
-      → Responds d s (event fr) blocks buffers memory xs blocks buffers memory′ k
+  pub frame-refused : (y : Frame) → frameOf fr ≡ y → OneOf (1 ∷ 2 ∷ []) (tagOf D.the-type y) → Refusal (ms .segment) y memory memory′ k
+      → Responds d s (event fr) ms memory ms memory′ k
   unfolding Refusal frameAsks asked refusal
   frame-refused (frame.Event e) said (inl u) R = absurd (omega arith)
   frame-refused (frame.Event e) said (inr u) R = absurd (omega arith)
   frame-refused (frame.Code f p) said u (n, N, T) =
-      let e = N blocks buffers d s S in
+      let e = N (ms .blocks) (ms .buffers) d s S in
       on-refused f (calls.control p none) 5 n (ap (λ (y : Frame). frameAsks y (drop writeHead fr)) said) (λ _. refl) e (λ z. accepted-code d f p (sym e ∙ z)) T
   frame-refused frame.Shape said u T = shape-refused (ap (λ (y : Frame). frameAsks y (drop writeHead fr)) said) T
 

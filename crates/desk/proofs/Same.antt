@@ -23,6 +23,7 @@ use Rattle.laws.proofs.Files.{on-file}
 use Rattle.laws.proofs.Proper.{ProperAsked}
 use Rattle.laws.proofs.Allocated.{happens-here}
 use Rattle.laws.proofs.Allocated as laws
+use Rattle.memory.specs.Memories.{Memories, memories}
 use Rattle.memory.specs.Stands.{Stands, shareAt, buffersAt}
 use Rattle.memory.specs.Covers.{Covers, Alike}
 use Rattle.memory.specs.Fine.{Fine, StandsFor}
@@ -77,7 +78,7 @@ acts-built d f (calls.load t) a k e = absurd a
 acts-built d f (calls.save n) a k e = absurd a
 acts-built d f (calls.look p) a k e = absurd a
 
-module _ {xs blocks buffers : List ℕ} {d : Desk} {s : Alloc} (S : StandsFor xs blocks buffers d s) (f : ℕ) (q : Ask) (acts : Acts q) (k : Proper q)
+module _ {m : Memories} {d : Desk} {s : Alloc} (S : StandsFor m d s) (f : ℕ) (q : Ask) (acts : Acts q) (k : Proper q)
     (ok : refusalOf (answered d (on f q) .reply) ≡ 0) where
   B : Built′ (ask (fileOf d f) q)
   B = acts-built d f q acts k ok
@@ -99,45 +100,44 @@ module _ {xs blocks buffers : List ℕ} {d : Desk} {s : Alloc} (S : StandsFor xs
       rw (← desk-is, ← alloc-is)
       (covered (answered d (on f q) .desk) (allocAsked d (on f q) s) (laws.answers d s (on f q) k (S .agreed)) (answered-fine d (on f q) (S .agreed .eight) k (S .fine)))
 
-  module _ (x b y x′ b′ y′ : List ℕ) (O : Outcome f d s (ask (fileOf d f) q) blocks buffers x b y) (P : Outcome f d s (ask (fileOf d f) q) blocks buffers x′ b′ y′) where
-    alike : Alike (withFile d f (ask (fileOf d f) q .file)) b y b′ y′
+  module _ (n n′ : Memories) (O : Outcome f d s (ask (fileOf d f) q) m n) (P : Outcome f d s (ask (fileOf d f) q) m n′) where
+    alike : Alike (withFile d f (ask (fileOf d f) q .file)) n n′
     alike g h u = go (ℕ-discrete g f)
       where
-        go : Dec (g ≡ f) → (shareAt g b ≡ shareAt g b′) × (buffersAt g y ≡ buffersAt g y′)
+        go : Dec (g ≡ f) → (shareAt g (n .blocks) ≡ shareAt g (n′ .blocks)) × (buffersAt g (n .buffers) ≡ buffersAt g (n′ .buffers))
         go (yes e) = absurd (not-both (fileOf (withFile d f (ask (fileOf d f) q .file)) g) (B .file) (ap (fileOf (withFile d f (ask (fileOf d f) q .file))) e ∙ file-same d f (ask (fileOf d f) q .file) (S .agreed .eight) low ∙ B .is) u)
-        go (no n) = (O .apart .shares g h n ∙ sym (P .apart .shares g h n), O .apart .others g h n ∙ sym (P .apart .others g h n))
+        go (no k) = (O .apart .shares g h k ∙ sym (P .apart .shares g h k), O .apart .others g h k ∙ sym (P .apart .others g h k))
 
-    pub outcome-same : (x ≡ x′) × (b ≡ b′) × (y ≡ y′)
-    outcome-same = stands-same (withFile d f (ask (fileOf d f) q .file)) (allotAll f (ask (fileOf d f) q .haps) s) x b y x′ b′ y′ covers (O .stands) (P .stands) alike
+    pub outcome-same : n ≡ n′
+    outcome-same = stands-same (withFile d f (ask (fileOf d f) q .file)) (allotAll f (ask (fileOf d f) q .haps) s) n n′ covers (O .stands) (P .stands) alike
 
   -- build, open, write, control and close answer with no data
-  pub done-same : (x b y x′ b′ y′ : List ℕ) (a a′ : Answer) → Done f d s (ask (fileOf d f) q) blocks buffers x b y a → Done f d s (ask (fileOf d f) q) blocks buffers x′ b′ y′ a′
-      → (a ≡ a′) × (x ≡ x′) × (b ≡ b′) × (y ≡ y′)
+  pub done-same : (n n′ : Memories) (a a′ : Answer) → Done f d s (ask (fileOf d f) q) m n a → Done f d s (ask (fileOf d f) q) m n′ a′ → (a ≡ a′) × (n ≡ n′)
   unfolding answerOf
-  done-same x b y x′ b′ y′ a a′ D E =
-      let (ex, eb, ey) = outcome-same x b y x′ b′ y′ (D .outcome) (E .outcome) in
-      (ap answerOf (sym (D .reply) ∙ E .reply), ex, eb, ey)
+  done-same n n′ a a′ D E = (ap answerOf (sym (D .reply) ∙ E .reply), outcome-same n n′ (D .outcome) (E .outcome))
 
   -- read and collect
-  pub gave-same : (memory x b y m x′ b′ y′ m′ : List ℕ) (a a′ : Answer) (n n′ : ℕ) → Gave f d s (ask (fileOf d f) q) blocks buffers memory x b y m a n
-      → Gave f d s (ask (fileOf d f) q) blocks buffers memory x′ b′ y′ m′ a′ n′ → (a ≡ a′) × (n ≡ n′) × (m ≡ m′) × (x ≡ x′) × (b ≡ b′) × (y ≡ y′)
+  pub gave-same : (memory : List ℕ) (n : Memories) (t : List ℕ) (n′ : Memories) (t′ : List ℕ) (a a′ : Answer) (size size′ : ℕ) → Gave f d s (ask (fileOf d f) q) m memory n t a size
+      → Gave f d s (ask (fileOf d f) q) m memory n′ t′ a′ size′ → (a ≡ a′) × (size ≡ size′) × (t ≡ t′) × (n ≡ n′)
   unfolding answerOf dataOf
-  gave-same memory x b y m x′ b′ y′ m′ a a′ n n′ G H =
-      let (ex, eb, ey) = outcome-same x b y x′ b′ y′ (G .outcome) (H .outcome) in
+  gave-same memory n t n′ t′ a a′ size size′ G H =
       let e : G .bytes ≡ H .bytes = ap dataOf (sym (G .reply) ∙ H .reply) in
-      let i : a ≡ a′ = ap answerOf (sym (G .reply) ∙ H .reply) in
-      (i, G .size ∙ ap length e ∙ sym (H .size), G .behind ∙ ap₂ {C = List ℕ} (λ (z : Answer) (zs : List ℕ). sets memory (length (answerBytes z)) zs) i e ∙ sym (H .behind), ex, eb, ey)
+      let i : a ≡ a′ = ap answerOf (sym (G .reply) ∙ H .reply) in (
+        i,
+        G .size ∙ ap length e ∙ sym (H .size),
+        G .behind ∙ ap₂ {C = List ℕ} (λ (z : Answer) (zs : List ℕ). sets memory (length (answerBytes z)) zs) i e ∙ sym (H .behind),
+        outcome-same n n′ (G .outcome) (H .outcome),
+      )
 
 -- time, which is lent no blocks
-module _ {xs blocks buffers : List ℕ} {d : Desk} {s : Alloc} (S : StandsFor xs blocks buffers d s) (e : ℕ) where
+module _ {m : Memories} {d : Desk} {s : Alloc} (S : StandsFor m d s) (e : ℕ) where
   abbrev Passes : List ℕ → List ℕ → Type 0
   Passes x y =
-      Stands x blocks y (deskTime e d) (allocTime e s) × ((g : ℕ) → g < files → fileOf d g ≡ unbuilt → buffersAt g y ≡ buffersAt g buffers)
+      Stands (memories x (m .blocks) y) (deskTime e d) (allocTime e s) × ((g : ℕ) → g < files → fileOf d g ≡ unbuilt → buffersAt g y ≡ buffersAt g (m .buffers))
 
-  pub passed-same : (x y x′ y′ : List ℕ) → Passes x y → Passes x′ y′ → (x ≡ x′) × (y ≡ y′)
+  pub passed-same : (x y x′ y′ : List ℕ) → Passes x y → Passes x′ y′ → memories x (m .blocks) y ≡ memories x′ (m .blocks) y′
   unfolding answered allocAsked ProperAsked
   passed-same x y x′ y′ (T, o) (U, p) =
       let c = covered (deskTime e d) (allocTime e s) (laws.answers d s (time e) tt (S .agreed)) (answered-fine d (time e) (S .agreed .eight) tt (S .fine)) in
-      let r = stands-same (deskTime e d) (allocTime e s) x blocks y x′ blocks y′ c T U
-      (λ g h u. (refl, o g h (time-unbuilt e (fileOf d g) (sym (answered-time d g e) ∙ u)) ∙ sym (p g h (time-unbuilt e (fileOf d g) (sym (answered-time d g e) ∙ u))))) in
-      (r .0, r .2)
+      stands-same (deskTime e d) (allocTime e s) (memories x (m .blocks) y) (memories x′ (m .blocks) y′) c T U
+      (λ g h u. (refl, o g h (time-unbuilt e (fileOf d g) (sym (answered-time d g e) ∙ u)) ∙ sym (p g h (time-unbuilt e (fileOf d g) (sym (answered-time d g e) ∙ u)))))

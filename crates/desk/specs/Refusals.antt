@@ -11,8 +11,9 @@ use Rattle.kinds.specs.declared.Frame.the-variants as frame
 use Rattle.rules.specs.Calls.{control}
 use Rattle.rules.specs.Desk.{on, Call}
 use Rattle.midst.specs.Outcome.{refusalOf}
-use Rattle.promises.specs.Promise.{Memories, Standing, Seen, replyOf}
+use Rattle.promises.specs.Promise.{Standing, Seen, replyOf}
 use Rattle.judges.specs.Refused.{Refuses}
+use Rattle.memory.specs.Memories.{Memories}
 
 -- the operation of an event, with which its frame begins, and its answer
 unfoldable pub operationOf : Event → ℕ
@@ -39,4 +40,4 @@ Refusal xs frame.Shape memory memory′ n = Twice 0 30 memory memory′ n
 
 -- n is what a call is refused with, whatever the memories are seen as: 29 where they are no desk, 0 where the call is done
 abbrev pub RefusedWith : Memories → Call → ℕ → Type 0
-RefusedWith m c n = (v : Option Standing) → Seen (m .segment) (m .blocks) (m .buffers) v → n ≡ refusalOf (replyOf v c)
+RefusedWith m c n = (v : Option Standing) → Seen m v → n ≡ refusalOf (replyOf v c)

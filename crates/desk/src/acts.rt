@@ -20,9 +20,10 @@ ghost use Rattle.rules.specs.Limits.{answerRoom};
 ghost use Rattle.rules.specs.Desk.{Desk};
 ghost use Rattle.rules.specs.Desk as rules;
 ghost use Rattle.rules.specs.Allocation.{Alloc};
+ghost use Rattle.memory.specs.Memories.{memories};
 ghost use Rattle.memory.specs.Fine.{StandsFor};
 ghost use Rattle.midst.specs.Outcome.{Sound, refusalOf};
-ghost use Rattle.desk.specs.Acted.{Acted};
+ghost use Rattle.desk.specs.Acted.{Acting};
 
 // An answer with no data behind it.
 fn plain(answer: Answer) -> Given
@@ -40,9 +41,9 @@ pub fn act(
     event: Event,
     frame: &[u8],
 ) -> Given
-    requires { ⌜ Sound (now segment) (now blocks) (now buffers) × (length (now answer) ≡ answerRoom) × (frameOf (now «frame») ≡ what.Event «event») ⌝ }
-    requires { ⌜ ((d : Desk) (s : Alloc) → StandsFor (now segment) (now blocks) (now buffers) d s → refusalOf (rules.respond d (rules.event (now «frame»)) .reply) ≡ 0) ⌝ }
-    ensures { λ r. ⌜ ((d : Desk) (s : Alloc) → StandsFor (now (segment .entry)) (now (blocks .entry)) (now (buffers .entry)) d s → Acted d s (rules.event (now («frame» .entry))) (now (blocks .entry)) (now (buffers .entry)) (now (answer .entry)) (now (segment .exit)) (now (blocks .exit)) (now (buffers .exit)) (now (answer .exit)) (r .answer) (r .size)) ⌝ }
+    requires { ⌜ Sound (memories (now segment) (now blocks) (now buffers)) × (length (now answer) ≡ answerRoom) × (frameOf (now «frame») ≡ what.Event «event») ⌝ }
+    requires { ⌜ ((d : Desk) (s : Alloc) → StandsFor (memories (now segment) (now blocks) (now buffers)) d s → refusalOf (rules.respond d (rules.event (now «frame»)) .reply) ≡ 0) ⌝ }
+    ensures { λ r. ⌜ Acting (rules.event (now («frame» .entry))) (memories (now (segment .entry)) (now (blocks .entry)) (now (buffers .entry))) (now (answer .entry)) (memories (now (segment .exit)) (now (blocks .exit)) (now (buffers .exit))) (now (answer .exit)) (r .answer) (r .size) ⌝ }
 {
     match event {
         Event::Build {

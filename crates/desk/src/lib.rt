@@ -23,6 +23,7 @@ ghost use Rattle.rules.specs.Limits.{answerRoom};
 ghost use Rattle.rules.specs.Desk.{Desk};
 ghost use Rattle.rules.specs.Desk as rules;
 ghost use Rattle.rules.specs.Allocation.{Alloc};
+ghost use Rattle.memory.specs.Memories.{memories};
 ghost use Rattle.memory.specs.Fine.{StandsFor};
 ghost use Rattle.midst.specs.Outcome.{Sound, refusalOf};
 ghost use Rattle.promises.specs.Promise.{Promise};
@@ -39,9 +40,9 @@ fn serve(
     event: Event,
     frame: &[u8],
 ) -> usize
-    requires { ⌜ Sound (now segment) (now blocks) (now buffers) × (length (now answer) ≡ answerRoom) × (frameOf (now «frame») ≡ what.Event «event») ⌝ }
-    requires { ⌜ ((d : Desk) (s : Alloc) → StandsFor (now segment) (now blocks) (now buffers) d s → refusalOf (rules.respond d (rules.event (now «frame»)) .reply) ≡ 0) ⌝ }
-    ensures { λ r. ⌜ ((d : Desk) (s : Alloc) → StandsFor (now (segment .entry)) (now (blocks .entry)) (now (buffers .entry)) d s → Responds d s (rules.event (now («frame» .entry))) (now (blocks .entry)) (now (buffers .entry)) (now (answer .entry)) (now (segment .exit)) (now (blocks .exit)) (now (buffers .exit)) (now (answer .exit)) r) ⌝ }
+    requires { ⌜ Sound (memories (now segment) (now blocks) (now buffers)) × (length (now answer) ≡ answerRoom) × (frameOf (now «frame») ≡ what.Event «event») ⌝ }
+    requires { ⌜ ((d : Desk) (s : Alloc) → StandsFor (memories (now segment) (now blocks) (now buffers)) d s → refusalOf (rules.respond d (rules.event (now «frame»)) .reply) ≡ 0) ⌝ }
+    ensures { λ r. ⌜ ((d : Desk) (s : Alloc) → StandsFor (memories (now (segment .entry)) (now (blocks .entry)) (now (buffers .entry))) d s → Responds d s (rules.event (now («frame» .entry))) (memories (now (segment .entry)) (now (blocks .entry)) (now (buffers .entry))) (now (answer .entry)) (memories (now (segment .exit)) (now (blocks .exit)) (now (buffers .exit))) (now (answer .exit)) r) ⌝ }
 {
     let given = act(segment, blocks, buffers, answer, event, frame);
     let told = given.answer;
@@ -56,7 +57,7 @@ pub fn event(
     answer: &mut [u8],
     frame: &[u8],
 ) -> usize
-    ensures promise { λ r. ⌜ Promise (record { segment = now (segment .entry); blocks = now (blocks .entry); buffers = now (buffers .entry) }) (host.event (now (answer .entry)) (now («frame» .entry))) (host.answer r (now (answer .exit))) (record { segment = now (segment .exit); blocks = now (blocks .exit); buffers = now (buffers .exit) }) ⌝ }
+    ensures promise { λ r. ⌜ Promise (memories (now (segment .entry)) (now (blocks .entry)) (now (buffers .entry))) (host.event (now (answer .entry)) (now («frame» .entry))) (host.answer r (now (answer .exit))) (memories (now (segment .exit)) (now (blocks .exit)) (now (buffers .exit))) ⌝ }
     ensures room { λ r. ⌜ r ≤ answerRoom ⌝ }
 {
     if answer.len() != ANSWER_ROOM {
@@ -78,7 +79,7 @@ pub fn event(
 
 // What the event call of a frame would be refused with, answer memory of its length given: 29 where the memories are no desk, 0 where it would be done. Nothing changes.
 pub fn refusal_of(segment: &[u8], blocks: &[u8], buffers: &[u8], frame: &[u8]) -> u8
-    ensures { λ r. ⌜ RefusedWith (record { segment = now (segment .entry); blocks = now (blocks .entry); buffers = now (buffers .entry) }) (rules.event (now («frame» .entry))) r ⌝ }
+    ensures { λ r. ⌜ RefusedWith (memories (now (segment .entry)) (now (blocks .entry)) (now (buffers .entry))) (rules.event (now («frame» .entry))) r ⌝ }
 {
     if !sound(segment, blocks, buffers) {
         return UNSOUND;

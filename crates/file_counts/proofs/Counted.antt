@@ -16,6 +16,7 @@ use Rattle.laws.proofs.Room.{good-sized}
 use Rattle.segment.specs.Fields.{fileAt}
 use Rattle.records.specs.Cursor.{heldRecs}
 use Rattle.blocks.specs.Memory as memory
+use Rattle.memory.specs.Memories.{Memories}
 use Rattle.memory.specs.Fine.{StandsFor}
 use Rattle.midst.specs.declared.File as hand
 use Rattle.midst.specs.File.{fileOfRow}
@@ -25,10 +26,10 @@ use Rattle.accessors.proofs.Counted.{count-writers, count-readers}
 use Rattle.accessors.proofs.Stood.{shown}
 
 -- the memories stand for a desk whose file f is b
-module _ {xs blocks buffers : List ℕ} {d : Desk} {s : Alloc} (S : StandsFor xs blocks buffers d s) (f : ℕ) (l : f < files) (b : Built) (e : fileOf d f ≡ built b) where
+module _ {m : Memories} {d : Desk} {s : Alloc} (S : StandsFor m d s) (f : ℕ) (l : f < files) (b : Built) (e : fileOf d f ≡ built b) where
   -- the counts are its counts
-  pub counts-file : (x : hand.File) (ys : List ℕ) (n w r : ℕ) → x ≡ fileOfRow (fileAt xs f) → ys ≡ memory.shareAt f blocks
-      → n ≡ dataCount (heldRecs (x .words) (x .ring) ys) → w ≡ countSide xs f 2 → r ≡ countSide xs f 1
+  pub counts-file : (x : hand.File) (ys : List ℕ) (n w r : ℕ) → x ≡ fileOfRow (fileAt (m .segment) f) → ys ≡ memory.shareAt f (m .blocks)
+      → n ≡ dataCount (heldRecs (x .words) (x .ring) ys) → w ≡ countSide (m .segment) f 2 → r ≡ countSide (m .segment) f 1
       → counts b ≡ answering (Counted n (x .ring .held) w r) b
   unfolding counts
   counts-file x ys n w r h k en ew er =
@@ -36,6 +37,6 @@ module _ {xs blocks buffers : List ℕ} {d : Desk} {s : Alloc} (S : StandsFor xs
       let R = room S f l b e in
       let a : n ≡ dataCount (b .store .recs) = (rw (h ∙ row-is S f l b e, k ∙ share-is S f l b e) at en) ∙ ap dataCount (back (b .geo) (b .store) (good-sized (b .geo) (R .geo)) (R .holds)) in
       let c : x .ring .held ≡ length (b .store .recs) = ap (λ (y : hand.File). y .ring .held) (h ∙ row-is S f l b e) in
-      let v : w ≡ writers b = ew ∙ count-writers xs f b (H .eight) (H .rows) in
-      let u : r ≡ readers b = er ∙ count-readers xs f b (H .eight) (H .rows) in
+      let v : w ≡ writers b = ew ∙ count-writers (m .segment) f b (H .eight) (H .rows) in
+      let u : r ≡ readers b = er ∙ count-readers (m .segment) f b (H .eight) (H .rows) in
       rw (a, c, v, u)

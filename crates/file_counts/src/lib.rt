@@ -10,6 +10,7 @@ ghost use Rattle.rules.specs.Counts as counting;
 ghost use Rattle.rules.specs.Desk.{Desk, fileOf};
 ghost use Rattle.rules.specs.Allocation.{Alloc};
 ghost use Rattle.ring.specs.Held.{Held};
+ghost use Rattle.memory.specs.Memories.{memories};
 ghost use Rattle.memory.specs.Fine.{StandsFor};
 ghost use Rattle.records.specs.Cursor.{heldRecs};
 ghost use Rattle.midst.specs.FileStands.{FileStands};
@@ -49,7 +50,7 @@ fn data_records(share: &[u8], ring: Ring, words: u16) -> u16
 // The counts of file f.
 pub fn counts(segment: &[u8], blocks: &[u8], f: usize) -> Answer
     requires { ⌜ FileStands (now segment) (now blocks) f ⌝ }
-    ensures { λ r. ⌜ ((buffers : List ℕ) (d : Desk) (s : Alloc) (b : Built) → StandsFor (now (segment .entry)) (now (blocks .entry)) buffers d s → fileOf d f ≡ built b → counting.counts b ≡ answering r b) ⌝ }
+    ensures { λ r. ⌜ ((buffers : List ℕ) (d : Desk) (s : Alloc) (b : Built) → StandsFor (memories (now (segment .entry)) (now (blocks .entry)) buffers) d s → fileOf d f ≡ built b → counting.counts b ≡ answering r b) ⌝ }
 {
     let file = midst::take_file(segment, f);
     let ring = file.ring;

@@ -1,34 +1,32 @@
 -- What the call that makes a fresh desk answers and leaves, whatever memories it is lent.
 use mathlib.Core.Bool.{true, false}
-use mathlib.Core.List.{List}
 use Prim.Native.Nat.{ℕ, _*_}
 use lib.Dec.{eqb}
 use lib.ListN.{length}
 use Rattle.segment.specs.Layout.{segmentBytes}
 use Rattle.rules.specs.Limits.{files, places, shareBytes, bufferBytes}
 use Rattle.laws.specs.Bounds.{leastRefusal}
-use Rattle.memory.specs.Fresh.{freshSegment, freshBlocks, freshBuffers}
+use Rattle.memory.specs.Memories.{Memories, memories}
+use Rattle.memory.specs.Fresh.{freshMemories}
 
 pub record Made : Type 0 where
   pub status : ℕ
-  pub segment : List ℕ
-  pub blocks : List ℕ
-  pub buffers : List ℕ
+  pub memories : Memories
 
 -- 29: the memories stay
-unfoldable pub unmade : List ℕ → List ℕ → List ℕ → Made
-unmade segment blocks buffers = record { status = leastRefusal; segment = segment; blocks = blocks; buffers = buffers }
+unfoldable pub unmade : Memories → Made
+unmade m = record { status = leastRefusal; memories = m }
 
 -- "of 29 it tests lengths alone"
-unfoldable pub made : List ℕ → List ℕ → List ℕ → Made
-made segment blocks buffers =
-    elim (eqb (length segment) segmentBytes) [
-      | false ↦ unmade segment blocks buffers
-      | true ↦ elim (eqb (length blocks) (shareBytes * files)) [
-        | false ↦ unmade segment blocks buffers
-        | true ↦ elim (eqb (length buffers) (places * bufferBytes * files)) [
-          | false ↦ unmade segment blocks buffers
-          | true ↦ record { status = 0; segment = freshSegment; blocks = freshBlocks; buffers = freshBuffers }
+unfoldable pub made : Memories → Made
+made m =
+    elim (eqb (length (m .segment)) segmentBytes) [
+      | false ↦ unmade m
+      | true ↦ elim (eqb (length (m .blocks)) (shareBytes * files)) [
+        | false ↦ unmade m
+        | true ↦ elim (eqb (length (m .buffers)) (places * bufferBytes * files)) [
+          | false ↦ unmade m
+          | true ↦ record { status = 0; memories = freshMemories }
         ]
       ]
     ]

@@ -4,6 +4,7 @@ ghost use Prim.Native.Nat.{_<_};
 ghost use lib.ListN.{length};
 ghost use Rattle.rules.specs.Limits.{entries};
 ghost use Rattle.segment.specs.Layout.{segmentWords, segmentBytes};
+ghost use Rattle.memory.specs.Memories.{memories};
 ghost use Rattle.memory.specs.Fresh.{freshLink, freshWord, freshSegment};
 ghost use Rattle.fresh.specs.Made.{made};
 use kinds::limits;
@@ -58,7 +59,7 @@ fn fresh_segment(s: &mut [u8])
 
 // The memories become those of a fresh desk, and the status is 0; 29 where one has the wrong length, and nothing is written.
 pub fn fresh(segment: &mut [u8], blocks: &mut [u8], buffers: &mut [u8]) -> u8
-    ensures { λ r. ⌜ record { status = r; segment = now (segment .exit); blocks = now (blocks .exit); buffers = now (buffers .exit) } ≡ made (now (segment .entry)) (now (blocks .entry)) (now (buffers .entry)) ⌝ }
+    ensures { λ r. ⌜ record { status = r; memories = memories (now (segment .exit)) (now (blocks .exit)) (now (buffers .exit)) } ≡ made (memories (now (segment .entry)) (now (blocks .entry)) (now (buffers .entry))) ⌝ }
 {
     if segment.len() != layout::SEGMENT_BYTES {
         return refusals::UNSOUND;

@@ -11,9 +11,9 @@ ghost use Rattle.rules.specs.Limits.{mostFactor, mostRecords, mostExtents, room
 ghost use Rattle.rules.specs.Geometry.{dividedUp, dataBlocks, capacity, blockSize, within, inRange, fitsShare};
 
 // The words before a block's first record, and before a record's data.
-const BLOCK_HEAD: u16 = 2;
+pub const BLOCK_HEAD_WORDS: u16 = 2;
 
-const RECORD_HEAD: u16 = 3;
+pub const RECORD_HEAD_WORDS: u16 = 3;
 
 fn within(lo: u16, hi: u16, n: u16) -> bool
     ensures { λ r. ⌜ r ≡ within lo hi n ⌝ }
@@ -59,7 +59,7 @@ pub fn block_size(words: u16, factor: u8) -> u16
     ensures { λ r. ⌜ r ≡ blockSize words factor ⌝ }
     ensures { λ r. ⌜ r ≤ (roomWords + 3) * mostFactor + 2 ⌝ }
 {
-    (words + RECORD_HEAD) * factor as u16 + BLOCK_HEAD
+    (words + RECORD_HEAD_WORDS) * factor as u16 + BLOCK_HEAD_WORDS
 }
 
 // The records that fit in so many blocks, counted at 32 bits: whatever the share holds, the product does not wrap.

@@ -7,7 +7,7 @@ ghost use lib.Seq.{sets};
 ghost use Rattle.rules.specs.Line.{digitOf, valueOf, digitsOf, allDigits, bytesOf, isLine, frameIn, lineOf};
 
 // A line ends with LF.
-const LF: u8 = 10;
+pub const LF: u8 = 10;
 
 // A digit's number is below the base; `value` gives the base where the byte is no digit.
 const BASE: u8 = 16;

@@ -22,6 +22,7 @@ use Rattle.laws.specs.Bounds.{leastRefusal}
 use Rattle.laws.specs.Runs.{OnFile}
 use Rattle.laws.specs.Outstanding.{reqOf}
 use Rattle.laws.proofs.Files.{on-file}
+use Rattle.memory.specs.Memories.{Memories}
 use Rattle.memory.specs.Fine.{Fine, StandsFor}
 use Rattle.midst.specs.Outcome.{refusalOf}
 use Rattle.midst.specs.Accepted.{endOf, Ended}
@@ -39,7 +40,7 @@ use Rattle.judges.proofs.Verdicts.{read-comes, write-comes, collect-com
 abbrev pub Ends : Desk → ℕ → Type 0
 Ends d f = f < files → OnFile Ended (fileOf d f)
 
-pub stands-ends : {xs blocks buffers : List ℕ} {d : Desk} {s : Alloc} → StandsFor xs blocks buffers d s → (f : ℕ) → Ends d f
+pub stands-ends : {m : Memories} {d : Desk} {s : Alloc} → StandsFor m d s → (f : ℕ) → Ends d f
 stands-ends {d = d} S f h = on-file Fine Ended fine-ended (fileOf d f) (S .fine f h)
 
 -- the reply is that of the file; 31 where it is above 7

@@ -50,7 +50,7 @@ module _ (xs : List ℕ) (f : ℕ) (b : Built) (S : Shown xs f b) where
   pub others-are : (share : ℕ) → othersFrom xs share (places * f) places ≡ ltb 0 (countAcc (otherShare share) (b .accs))
   others-are share = ap (othersFrom xs share (places * f)) (sym (S .eight)) ∙ others-from xs share (places * f) (b .accs) (file-rows xs f b (S .eight) (S .rows))
 
-  writers-are : countSide xs f 2 ≡ writers b
+  pub writers-are : countSide xs f 2 ≡ writers b
   writers-are = count-writers xs f b (S .eight) (S .rows)
 
   readers-are : countSide xs f 1 ≡ readers b
@@ -60,10 +60,6 @@ module _ (xs : List ℕ) (f : ℕ) (b : Built) (S : Shown xs f b) where
   closed-are = count-closed xs f b (S .eight) (S .rows)
 
   -- a second accessor
-  pub crowds-writers : (share n : ℕ) → share ≡ 1 → n ≡ countSide xs f 2 → ltb 0 n ≡ crowded true share b
-  unfolding crowded
-  crowds-writers share n e k = rw (eq-eqb share 1 e) (ap (ltb 0) (k ∙ writers-are))
-
   pub crowds-readers : (share n : ℕ) → share < 3 → n ≡ countSide xs f 1 → ltb 0 n ≡ crowded false share b
   unfolding crowded
   crowds-readers share n e k = rw (lt-ltb share 3 e) (ap (ltb 0) (k ∙ readers-are))

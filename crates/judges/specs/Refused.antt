@@ -4,13 +4,14 @@ use mathlib.Core.Path.{_≡_}
 use mathlib.Core.List.{List}
 use Rattle.rules.specs.Desk.{Desk, Asked, answered}
 use Rattle.rules.specs.Allocation.{Alloc}
+use Rattle.memory.specs.Memories.{memories}
 use Rattle.memory.specs.Fine.{StandsFor}
 use Rattle.midst.specs.Outcome.{refusalOf, Sound}
 
 -- the segment stands, with blocks and buffers, for a desk
 abbrev pub Stood : List ℕ → Type 0
-Stood xs = (blocks : List ℕ) × (buffers : List ℕ) × Sound xs blocks buffers
+Stood xs = (blocks : List ℕ) × (buffers : List ℕ) × Sound (memories xs blocks buffers)
 
 -- n is the refusal number of q on every desk that the segment stands for
 abbrev pub Refuses : List ℕ → Asked → ℕ → Type 0
-Refuses xs q n = (blocks buffers : List ℕ) (d : Desk) (s : Alloc) → StandsFor xs blocks buffers d s → n ≡ refusalOf (answered d q .reply)
+Refuses xs q n = (blocks buffers : List ℕ) (d : Desk) (s : Alloc) → StandsFor (memories xs blocks buffers) d s → n ≡ refusalOf (answered d q .reply)

@@ -1,6 +1,7 @@
 // Build, open and counts.
 use crate::sharing::forbids;
 use crate::sharing::has_room;
+use crate::sharing::writers_for;
 use accessors::sides::count_side;
 use accessors::words_of;
 use kinds::limits::FILES;
@@ -49,7 +50,8 @@ fn open_refusal(segment: &[u8], f: usize, access: u8, share: u8, multi: u8) -> u
     if !modes_in_range(access, share, multi) {
         return refusals::RANGE;
     }
-    if forbids(segment, f, access, share, multi) {
+    let writers = writers_for(segment, f, access);
+    if forbids(segment, f, access, share, multi, writers) {
         return refusals::SHARING;
     }
     if count_side(segment, f, CLOSED) == 0 {
@@ -58,7 +60,7 @@ fn open_refusal(segment: &[u8], f: usize, access: u8, share: u8, multi: u8) -> u
     if access == 0 {
         return refusals::NONE;
     }
-    if !has_room(segment, f, access) {
+    if !has_room(segment, f, access, writers) {
         return refusals::ROOM;
     }
     refusals::NONE

@@ -1,5 +1,6 @@
 // Who may be open together, and the room for an open record.
-use accessors::share_of;
+use accessors::SINGLE;
+use accessors::sharing_of;
 use accessors::sides::count_side;
 use accessors::sides::purges;
 use kinds::limits::PLACES;
@@ -7,22 +8,22 @@ use kinds::sides::CLOSED;
 use kinds::sides::READER;
 use kinds::sides::WRITER;
 ghost use mathlib.Core.Path.{_≡_};
-ghost use Prim.Native.Nat.{_*_, _<_};
+ghost use Prim.Native.Nat.{_*_, _≤_, _<_};
 ghost use mathlib.Core.Bool.{true, false};
 ghost use lib.Dec.{ltb};
 ghost use lib.ListN.{length};
 ghost use Rattle.rules.specs.Limits.{files, places};
 ghost use Rattle.rules.specs.State.{Built};
 ghost use Rattle.rules.specs.Store.{used};
+ghost use Rattle.rules.specs.Requests as requests;
 ghost use Rattle.rules.specs.Open.{crowded, purged, roomToOpen};
 ghost use Rattle.segment.specs.Layout.{segmentBytes};
 ghost use Rattle.judges.specs.Sharing.{differs, othersFrom};
+ghost use Rattle.accessors.specs.Sides.{countSide};
 ghost use Rattle.judges.specs.Verdicts.{forbidden};
 ghost use Rattle.accessors.specs.Shown.{Shown};
 
-// Share 1 is one reader and one writer, share 2 one reader and many writers, share 3 many of both.
-const SINGLE: u16 = 1;
-
+// Share 2 is one reader and many writers, share 3 many of both.
 const MANY: u16 = 3;
 
 // Multiaccess 3 is always refused.
@@ -62,16 +63,26 @@ fn others(segment: &[u8], f: usize, share: u16) -> bool
     false
 }
 
-// A second writer, a second reader, that the share forbids.
-fn crowds_writers(segment: &[u8], f: usize, share: u16) -> bool
+// W, the number of open writers, for who would be one more: counted once for all that an open asks.
+pub fn writers_for(segment: &[u8], f: usize, access: u8) -> u16
     requires { ⌜ length (now segment) ≡ segmentBytes ⌝ }
     requires { ⌜ f < files ⌝ }
-    ensures { λ r. ⌜ ((b : Built) → Shown (now (segment .entry)) f b → r ≡ crowded true share b) ⌝ }
+    ensures { λ r. ⌜ ((0 < access → r ≡ countSide (now (segment .entry)) f 2) × (r ≤ places)) ⌝ }
+{
+    if access == 0 {
+        return 0;
+    }
+    count_side(segment, f, WRITER)
+}
+
+// A second writer beside these, a second reader, that the share forbids.
+fn crowds_writers(share: u16, writers: u16) -> bool
+    ensures { λ r. ⌜ ((b : Built) → writers ≡ requests.writers b → r ≡ crowded true share b) ⌝ }
 {
     if share != SINGLE {
         return false;
     }
-    0 < count_side(segment, f, WRITER)
+    0 < writers
 }
 
 fn crowds_readers(segment: &[u8], f: usize, share: u16) -> bool
@@ -85,31 +96,31 @@ fn crowds_readers(segment: &[u8], f: usize, share: u16) -> bool
     0 < count_side(segment, f, READER)
 }
 
-fn crowds(segment: &[u8], f: usize, access: u8, share: u16) -> bool
+fn crowds(segment: &[u8], f: usize, access: u8, share: u16, writers: u16) -> bool
     requires { ⌜ length (now segment) ≡ segmentBytes ⌝ }
-    requires { ⌜ f < files ⌝ }
+    requires { ⌜ (f < files) × (0 < access → writers ≡ countSide (now segment) f 2) ⌝ }
     ensures { λ r. ⌜ ((b : Built) → Shown (now (segment .entry)) f b → r ≡ crowded (ltb 0 access) share b) ⌝ }
 {
     if 0 < access {
-        return crowds_writers(segment, f, share);
+        return crowds_writers(share, writers);
     }
     crowds_readers(segment, f, share)
 }
 
 // Multiaccess 3, another share, or a second accessor the share forbids.
-pub fn forbids(segment: &[u8], f: usize, access: u8, share: u8, multi: u8) -> bool
+pub fn forbids(segment: &[u8], f: usize, access: u8, share: u8, multi: u8, writers: u16) -> bool
     requires { ⌜ length (now segment) ≡ segmentBytes ⌝ }
-    requires { ⌜ f < files ⌝ }
+    requires { ⌜ (f < files) × (0 < access → writers ≡ countSide (now segment) f 2) ⌝ }
     ensures { λ r. ⌜ ((b : Built) → Shown (now (segment .entry)) f b → r ≡ forbidden access share multi b) ⌝ }
 {
     if multi == NO_MULTI {
         return true;
     }
-    let s = share_of(share);
+    let s = sharing_of(share);
     if others(segment, f, s) {
         return true;
     }
-    crowds(segment, f, access, s)
+    crowds(segment, f, access, s, writers)
 }
 
 // The records that count as used when an open of that access puts its own.
@@ -127,13 +138,12 @@ fn used_after(segment: &[u8], f: usize, access: u8) -> u32
 }
 
 // "A writer puts an open record and needs used + W + 2 ≤ C, with W before it and after any purge."
-pub fn has_room(segment: &[u8], f: usize, access: u8) -> bool
+pub fn has_room(segment: &[u8], f: usize, access: u8, writers: u16) -> bool
     requires { ⌜ length (now segment) ≡ segmentBytes ⌝ }
-    requires { ⌜ f < files ⌝ }
+    requires { ⌜ (f < files) × (writers ≡ countSide (now segment) f 2) × (writers ≤ places) ⌝ }
     ensures { λ r. ⌜ ((b : Built) → Shown (now (segment .entry)) f b → r ≡ roomToOpen access b) ⌝ }
 {
     let used = used_after(segment, f, access);
-    let writers = count_side(segment, f, WRITER) as u32;
     let row = segment::read_file(segment, f);
-    used + writers + WRITERS_RECORDS <= row.factor as u32 * row.blocks as u32
+    used + writers as u32 + WRITERS_RECORDS <= row.factor as u32 * row.blocks as u32
 }

@@ -27,6 +27,9 @@ pub const LEAST_CAPACITY: u32 = 3;
 
 pub const MOST_TYPE: u16 = 2;
 
+// "access, share and multiaccess: 0 to 3"
+pub const MOST_MODE: u8 = 3;
+
 // What a read hands out: under control 46 the type and ID words, and the data.
 pub const HEADER_WORDS: u16 = 2;
 

@@ -1,4 +1,4 @@
--- What a request holds is within its bounds, after any run from a fresh desk; so each of the 64 buffers has its 260 bytes.
+-- What a request holds is within its bounds, after any run from a fresh desk; so each buffer has its bytes.
 use mathlib.Core.Path.{_≡_, refl, ap, subst, _∙_}
 use mathlib.Core.Bool.{true, false}
 use mathlib.Core.List.{List}
@@ -84,7 +84,7 @@ bounds-hushed b s = s
 pub bounded : (f : ℕ) (cs : List Call) → OnFile Bounds (fileOf (after freshDesk cs) f)
 bounded f cs = lifted Bounds (λ n. Bounds) bounds-walks (lapsed Bounds (λ n. Bounds) bounds-walks bounds-lessen) bounds-starts bounds-hushed f cs
 
--- "which is otherwise zero": a buffer has its 260 bytes
+-- "which is otherwise zero": a buffer has its bytes
 length-lies : (words : ℕ) (q : Req) → words ≤ roomWords → Bounded words q → length (lies q) ≤ bufferBytes
 unfolding lies Bounded
 length-lies words idle h k = omega arith

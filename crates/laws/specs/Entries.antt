@@ -33,7 +33,7 @@ taken (h ∷ l) = entriesOf h ++ taken l
 abbrev pub size : Held → ℕ
 size h = length (entriesOf h)
 
--- each of the 128 entries stands once, in the free list or at one of the 64 places, and no other number does
+-- each entry stands once, in the free list or at one of the places, and no other number does
 pub record Whole (s : Alloc) : Type 0 where
   pub once : (x : ℕ) → count x (s .free) + count x (taken (s .held)) ≡ bit (ltb x entries)
   pub long : length (s .held) ≡ files * places

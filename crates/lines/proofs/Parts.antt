@@ -7,6 +7,7 @@ use lib.ListN.{length, take, drop}
 use lib.Seq.{sets, sets-eq, take-at}
 use Rattle.rules.specs.Line.{lineFrame, lineOf}
 use Rattle.lines.specs.Asked.{Gives, Asked}
+use Rattle.memory.specs.Memories.{Memories}
 
 -- a part from the first byte on
 pub front : (n : ℕ) (l : List ℕ) → take (n - 0) l ≡ take n l
@@ -21,14 +22,14 @@ put-first xs vs n e h = rw (sets-eq vs xs 0 (omega arith)) (take-at vs (drop (0 
 pub frame-decoded : (line zs frame : List ℕ) (n : ℕ) → n ≡ length (lineFrame line) → frame ≡ sets zs 0 (lineFrame line) → n ≤ length zs → take (n - 0) frame ≡ lineFrame line
 frame-decoded line zs frame n s e h = front n frame ∙ rw e (put-first zs (lineFrame line) n s (omega arith))
 
-pub line-asked : (segment blocks buffers line out frame segment′ blocks′ buffers′ answer out′ : List ℕ) (used n r : ℕ)
-    → Gives segment blocks buffers frame segment′ blocks′ buffers′ answer n → frame ≡ lineFrame line
+pub line-asked : (m : Memories) (line out frame : List ℕ) (m′ : Memories) (answer out′ : List ℕ) (used n r : ℕ)
+    → Gives m frame m′ answer n → frame ≡ lineFrame line
     → out′ ≡ sets out used (lineOf (take (n - 0) answer)) → r ≡ used + (2 * n + 1)
-    → Asked segment blocks buffers line out segment′ blocks′ buffers′ out′ used r
-line-asked segment blocks buffers line out frame segment′ blocks′ buffers′ answer out′ used n r a e o k = record {
+    → Asked m line out m′ out′ used r
+line-asked m line out frame m′ answer out′ used n r a e o k = record {
   answer = answer;
   size = n;
-  event = subst (λ (f : List ℕ). Gives segment blocks buffers f segment′ blocks′ buffers′ answer n) e a;
+  event = subst (λ (f : List ℕ). Gives m f m′ answer n) e a;
   printed = o ∙ ap (λ (x : List ℕ). sets out used (lineOf x)) (front n answer);
   end = k;
 }

@@ -9,21 +9,20 @@ use Rattle.rules.specs.Limits.{answerRoom}
 use Rattle.rules.specs.Line.{lineFrame, lineOf}
 use Rattle.promises.specs.Promise.{Promise}
 use Rattle.promises.specs.Promise as host
+use Rattle.memory.specs.Memories.{Memories}
 
 -- the digits of the longest answer, and LF
-abbrev pub mostAnswer : ℕ
-mostAnswer = 2 * answerRoom + 1
+abbrev pub answerLine : ℕ
+answerLine = 2 * answerRoom + 1
 
 -- the event call of a frame on a zero answer memory, which gives so many bytes of answer
-abbrev pub Gives : List ℕ → List ℕ → List ℕ → List ℕ → List ℕ → List ℕ → List ℕ → List ℕ → ℕ → Type 0
-Gives segment blocks buffers frame segment′ blocks′ buffers′ answer size =
-    Promise (record { segment = segment; blocks = blocks; buffers = buffers }) (host.event (zeros answerRoom) frame) (host.answer size answer)
-    (record { segment = segment′; blocks = blocks′; buffers = buffers′ })
+abbrev pub Gives : Memories → List ℕ → Memories → List ℕ → ℕ → Type 0
+Gives m frame m′ answer size = Promise m (host.event (zeros answerRoom) frame) (host.answer size answer) m′
 
 -- an event call of the line's frame, whose answer stands as a line from byte `used` of the output on and ends before byte r; the rest of the output is as it was
-pub record Asked (segment blocks buffers line out segment′ blocks′ buffers′ out′ : List ℕ) (used r : ℕ) : Type 0 where
+pub record Asked (m : Memories) (line out : List ℕ) (m′ : Memories) (out′ : List ℕ) (used r : ℕ) : Type 0 where
   pub answer : List ℕ
   pub size : ℕ
-  pub event : Gives segment blocks buffers (lineFrame line) segment′ blocks′ buffers′ answer size
+  pub event : Gives m (lineFrame line) m′ answer size
   pub printed : out′ ≡ sets out used (lineOf (take size answer))
   pub end : r ≡ used + (2 * size + 1)

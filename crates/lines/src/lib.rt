@@ -1,7 +1,8 @@
 // A line of hexadecimal digits, asked of the desk and answered by a line.
 ghost use Prim.Native.Nat.{_+_, _≤_, _<_};
 ghost use lib.ListN.{length};
-ghost use Rattle.lines.specs.Asked.{mostAnswer, Asked};
+ghost use Rattle.lines.specs.Asked.{Asked, answerLine};
+ghost use Rattle.memory.specs.Memories.{memories};
 use kinds::limits::ANSWER_ROOM;
 use kinds::limits::LINE_BYTES;
 
@@ -14,9 +15,9 @@ pub fn answer_line(
     out: &mut [u8],
     used: usize,
 ) -> usize
-    requires { ⌜ used + mostAnswer ≤ length (now out) ⌝ }
-    ensures bound { λ r. ⌜ (used < r) × (r ≤ used + mostAnswer) ⌝ }
-    ensures asked { λ r. ⌜ Asked (now (segment .entry)) (now (blocks .entry)) (now (buffers .entry)) (now (line .entry)) (now (out .entry)) (now (segment .exit)) (now (blocks .exit)) (now (buffers .exit)) (now (out .exit)) used r ⌝ }
+    requires { ⌜ used + answerLine ≤ length (now out) ⌝ }
+    ensures bound { λ r. ⌜ (used < r) × (r ≤ used + answerLine) ⌝ }
+    ensures asked { λ r. ⌜ Asked (memories (now (segment .entry)) (now (blocks .entry)) (now (buffers .entry))) (now (line .entry)) (now (out .entry)) (memories (now (segment .exit)) (now (blocks .exit)) (now (buffers .exit))) (now (out .exit)) used r ⌝ }
 {
     let mut frame = [0u8; LINE_BYTES];
     let mut answer = [0u8; ANSWER_ROOM];

@@ -1,6 +1,7 @@
 // load FILE SHEET < SESSION: FILE of a fresh desk is loaded from SHEET; then the frames of standard input are answered as the event program answers
 // them.
 use arguments::NO_FILE;
+use arguments::TEXT_BYTES;
 use arguments::refused;
 use kinds::limits::BLOCKS_BYTES;
 use kinds::limits::BUFFERS_BYTES;
@@ -11,7 +12,7 @@ fn main() {
     let mut segment = [0u8; SEGMENT_BYTES];
     let mut blocks = [0u8; BLOCKS_BYTES];
     let mut buffers = [0u8; BUFFERS_BYTES];
-    let mut text = [0u8; 65536];
+    let mut text = [0u8; TEXT_BYTES];
     let named = arguments::arguments(&mut text);
     if named.file == NO_FILE {
         return;

@@ -32,6 +32,7 @@ use Rattle.laws.proofs.Midst.{allotAll-quiet}
 use Rattle.laws.proofs.Comes.{puts-quiet}
 use Rattle.laws.proofs.Room.{good-sized, small}
 use Rattle.blocks.specs.Memory.{blocksBytes}
+use Rattle.memory.specs.Memories.{Memories}
 use Rattle.memory.specs.Image.{fileWords}
 use Rattle.memory.specs.Fine.{StandsFor}
 use Rattle.midst.specs.declared.File as hand
@@ -40,27 +41,24 @@ use Rattle.midst.specs.Outcome.{replyStatus, refusalOf, Outcome, Stays}
 use Rattle.midst.proofs.Refused.{stands-refused}
 use Rattle.midst.proofs.New.{made}
 use Rattle.midst.proofs.StandsBehind.{Built′, outcome-stays, still-stays}
-use Rattle.promises.specs.Promise.{Memories, status, Standing, Seen, unsound, stands, replyOf, said, Behind, Promise}
+use Rattle.promises.specs.Promise.{status, Standing, Seen, unsound, stands, replyOf, said, Behind, Promise}
 use Rattle.promises.specs.Promise as host
 use Rattle.promises.proofs.Seen.{sees}
 use Rattle.loading.specs.LaidOut.{laidOut}
 use Rattle.loading.proofs.Judged.{gives, Loads, load-case, Judges}
 
-abbrev lent : List ℕ → List ℕ → List ℕ → Memories
-lent xs blocks buffers = record { segment = xs; blocks = blocks; buffers = buffers }
-
 -- the file's row, share and buffers are written
-pub lays : (f : ℕ) (s : Sheet) (xs blocks buffers xs′ blocks′ buffers′ : List ℕ) (x : hand.File) → x ≡ inHand (loaded s) → xs′ ≡ fill xs (fileRowAt f) (fileRowWords x)
-    → blocks′ ≡ sets blocks (shareBytes * f) (loaded s .store .share) → buffers′ ≡ sets buffers (places * bufferBytes * f) (zeros (places * bufferBytes))
-    → lent xs′ blocks′ buffers′ ≡ laidOut f (loaded s) (lent xs blocks buffers)
+pub lays : (f : ℕ) (s : Sheet) (m m′ : Memories) (x : hand.File) → x ≡ inHand (loaded s) → m′ .segment ≡ fill (m .segment) (fileRowAt f) (fileRowWords x)
+    → m′ .blocks ≡ sets (m .blocks) (shareBytes * f) (loaded s .store .share) → m′ .buffers ≡ sets (m .buffers) (places * bufferBytes * f) (zeros (places * bufferBytes))
+    → m′ ≡ laidOut f (loaded s) m
 unfolding laidOut fileRowWords fileWords
-lays f s xs blocks buffers xs′ blocks′ buffers′ x e w b u = rw (w, e, b, u)
+lays f s m m′ x e w b u = rw (w, e, b, u)
 
-module _ (xs blocks buffers : List ℕ) (f : ℕ) (t : List ℕ) where
+module _ (m : Memories) (f : ℕ) (t : List ℕ) where
   -- 29, 31, 43
 
-  refused-stays : (r : ℕ) → Judges xs blocks buffers f t r → (r ≡ 0 → ⊥) → (d : Desk) (s : Alloc) → StandsFor xs blocks buffers d s
-      → Stays d s (load f t) blocks buffers xs blocks buffers
+  refused-stays : (r : ℕ) → Judges m f t r → (r ≡ 0 → ⊥) → (d : Desk) (s : Alloc) → StandsFor m d s
+      → Stays d s (load f t) m m
   unfolding respond asked replyOf refusalOf
   refused-stays r j n d s S =
       let e : r ≡ gives d f t = j _ (stands d s S) in
@@ -71,18 +69,18 @@ module _ (xs blocks buffers : List ℕ) (f : ℕ) (t : List ℕ) where
       high (inl (z, L)) e = absurd (n (e ∙ z))
       high (inr l) e = rw (le-ltb (gives d f t) leastRefusal l) refl
 
-  pub refused-load : (r : ℕ) → Judges xs blocks buffers f t r → (r ≡ 0 → ⊥) → Promise (lent xs blocks buffers) (host.load f t) (status r) (lent xs blocks buffers)
+  pub refused-load : (r : ℕ) → Judges m f t r → (r ≡ 0 → ⊥) → Promise m (host.load f t) (status r) m
   unfolding Promise said
   refused-load r j n v k = (ap status (j v k), go v k)
     where
-      go : (v : Option Standing) → Seen xs blocks buffers v → Behind v (load f t) (lent xs blocks buffers) (lent xs blocks buffers)
+      go : (v : Option Standing) → Seen m v → Behind v (load f t) m m
       go none k = unfold Behind in refl
       go (some v) (stands d s S) = unfold Behind in refused-stays r j n d s S
 
   -- 0
 
-  pub judges-zero : (r : ℕ) → r ≡ 0 → Judges xs blocks buffers f t r → Judges xs blocks buffers f t 0
-  judges-zero r z j = subst (Judges xs blocks buffers f t) z j
+  pub judges-zero : (r : ℕ) → r ≡ 0 → Judges m f t r → Judges m f t 0
+  judges-zero r z j = subst (Judges m f t) z j
 
   unsound-zero : 0 ≡ replyStatus (replyOf none (load f t)) → ⊥
   unfolding replyOf replyStatus
@@ -97,20 +95,20 @@ module _ (xs blocks buffers : List ℕ) (f : ℕ) (t : List ℕ) where
 
   abbrev Asks : Type 0
   Asks =
-      ((length xs ≡ segmentBytes) × (length blocks ≡ blocksBytes) × (length buffers ≡ places * bufferBytes * files) × (f < files)) × ((s : Sheet) × (readSheet t ≡ some s))
+      ((length (m .segment) ≡ segmentBytes) × (length (m .blocks) ≡ blocksBytes) × (length (m .buffers) ≡ places * bufferBytes * files) × (f < files)) × ((s : Sheet) × (readSheet t ≡ some s))
 
   -- what is asked to do it
-  pub done-asks : Bytes xs → Bytes blocks → Bytes buffers → Judges xs blocks buffers f t 0 → Asks
+  pub done-asks : Bytes (m .segment) → Bytes (m .blocks) → Bytes (m .buffers) → Judges m f t 0 → Asks
   unfolding replyOf replyStatus
   done-asks bs bb bf j = let (v, k) = sees bs bb bf in go v k (j v k)
     where
-      go : (v : Option Standing) → Seen xs blocks buffers v → 0 ≡ replyStatus (replyOf v (load f t)) → Asks
+      go : (v : Option Standing) → Seen m v → 0 ≡ replyStatus (replyOf v (load f t)) → Asks
       go v (unsound u) e = absurd (unsound-zero e)
       go v (stands d s S) e =
           let L = loads-of d e in
           ((S .stands .segment .size, S .stands .bodies .blocks-size, S .stands .bodies .buffers-size, L .file), (L .sheet, L .reads))
 
-  module _ (j : Judges xs blocks buffers f t 0) (xs′ blocks′ buffers′ : List ℕ) (h : (s : Sheet) → readSheet t ≡ some s → lent xs′ blocks′ buffers′ ≡ laidOut f (loaded s) (lent xs blocks buffers)) where
+  module _ (j : Judges m f t 0) (ms′ : Memories) (h : (s : Sheet) → readSheet t ≡ some s → ms′ ≡ laidOut f (loaded s) m) where
     -- the store that is packed
     packed : Sheet → Store
     packed s = putAll (s .geo) (s .recs) emptyStore
@@ -127,22 +125,22 @@ module _ (xs blocks buffers : List ℕ) (f : ℕ) (t : List ℕ) where
     unfolding leaves loaded say newFile allotAll allot
     quiet s a = allotAll-quiet f puts (puts-quiet f) (s .recs) a
 
-    done-stays : Bytes xs′ → Bytes blocks′ → Bytes buffers′ → (d : Desk) (a : Alloc) → StandsFor xs blocks buffers d a → Stays d a (load f t) blocks buffers xs′ blocks′ buffers′
+    done-stays : Bytes (ms′ .segment) → Bytes (ms′ .blocks) → Bytes (ms′ .buffers) → (d : Desk) (a : Alloc) → StandsFor m d a → Stays d a (load f t) m ms′
     unfolding replyOf asked laidOut packed leaves hushed loaded say newFile fileWords
     done-stays bs bb bf d a S =
         let L = loads-of d (j _ (stands d a S)) in
         let s : Sheet = L .sheet in
         let e = asked-load d (L .new) s (L .reads) in
         let k = h s (L .reads) in
-        let O = made S f (L .file) (L .new) (s .geo) (packed s) (long s (L .reads)) xs′ blocks′ buffers′ (ap (λ (x : Memories). x .segment) k) (ap (λ (x : Memories). x .blocks) k) (ap (λ (x : Memories). x .buffers) k)
+        let O = made S f (L .file) (L .new) (s .geo) (packed s) (long s (L .reads)) ms′ (ap (λ (x : Memories). x .segment) k) (ap (λ (x : Memories). x .blocks) k) (ap (λ (x : Memories). x .buffers) k)
         bs bb bf (leaves (shows 0 []) (loaded s)) refl (quiet s a) in
         outcome-stays S (load f t) f (calls.load t) refl (L .file) (subst Built′ (sym e) (record { file = hushed (loaded s); is = refl }))
-        (subst (λ (x : Out). Outcome f d a x blocks buffers xs′ blocks′ buffers′) (sym e) O)
+        (subst (λ (x : Out). Outcome f d a x m ms′) (sym e) O)
 
-    pub done-load : Bytes xs′ → Bytes blocks′ → Bytes buffers′ → Promise (lent xs blocks buffers) (host.load f t) (status 0) (lent xs′ blocks′ buffers′)
+    pub done-load : Bytes (ms′ .segment) → Bytes (ms′ .blocks) → Bytes (ms′ .buffers) → Promise m (host.load f t) (status 0) ms′
     unfolding Promise said
     done-load bs bb bf v k = (ap status (j v k), go v k)
       where
-        go : (v : Option Standing) → Seen xs blocks buffers v → Behind v (load f t) (lent xs blocks buffers) (lent xs′ blocks′ buffers′)
+        go : (v : Option Standing) → Seen m v → Behind v (load f t) m ms′
         go none k = absurd (unsound-zero (j none k))
         go (some v) (stands d s S) = unfold Behind in done-stays bs bb bf d s S

@@ -21,6 +21,7 @@ use Rattle.rules.specs.Desk.{Desk, load, asked, fileOf, answered, respond}
 use Rattle.rules.specs.Allocation.{Alloc}
 use Rattle.rules.proofs.Split.{and-true}
 use Rattle.laws.specs.Bounds.{leastRefusal}
+use Rattle.memory.specs.Memories.{Memories}
 use Rattle.memory.specs.Fine.{StandsFor}
 use Rattle.sound.specs.Sound.{soundly}
 use Rattle.midst.specs.Outcome.{replyStatus}
@@ -83,31 +84,31 @@ module _ (d : Desk) (f : ℕ) (t : List ℕ) where
       file (no h) = inr (omega (arith, load-high (omega arith)))
 
 -- it is what the judge says, on each way out
-module _ (xs blocks buffers : List ℕ) (f : ℕ) (t : List ℕ) where
+module _ (m : Memories) (f : ℕ) (t : List ℕ) where
   abbrev pub Judges : ℕ → Type 0
-  Judges r = (v : Option Standing) → Seen xs blocks buffers v → r ≡ replyStatus (replyOf v (load f t))
+  Judges r = (v : Option Standing) → Seen m v → r ≡ replyStatus (replyOf v (load f t))
 
-  pub judges-unsound : soundly xs blocks buffers ≡ false → Judges 29
+  pub judges-unsound : soundly m ≡ false → Judges 29
   unfolding replyOf replyStatus
   judges-unsound e = seen-none (λ v. 29 ≡ replyStatus (replyOf v (load f t))) e refl
 
-  module _ (sound : soundly xs blocks buffers ≡ true) where
-    pub sound-size : length xs ≡ segmentBytes
+  module _ (sound : soundly m ≡ true) where
+    pub sound-size : length (m .segment) ≡ segmentBytes
     unfolding soundly
     sound-size =
         let (all, _) = and-true _ _ sound in
         let (sizes, _) = and-true _ _ all in
         let (two, _) = and-true _ _ sizes in
-        eqb-true (length xs) segmentBytes (and-true _ _ two .0)
+        eqb-true (length (m .segment)) segmentBytes (and-true _ _ two .0)
 
-    each : (r : ℕ) → ((d : Desk) (s : Alloc) → StandsFor xs blocks buffers d s → gives d f t ≡ r) → Judges r
+    each : (r : ℕ) → ((d : Desk) (s : Alloc) → StandsFor m d s → gives d f t ≡ r) → Judges r
     unfolding replyOf
     each r h = seen-some (λ v. r ≡ replyStatus (replyOf v (load f t))) sound (λ d s S. sym (h d s S))
 
     pub judges-high : files ≤ f → Judges 31
     judges-high h = each 31 (λ d s S. load-high d f t h)
 
-    module _ (low : f < files) (w : ℕ) (e : w ≡ wordsAt xs f) where
+    module _ (low : f < files) (w : ℕ) (e : w ≡ wordsAt (m .segment) f) where
       pub judges-built : (w ≡ 0 → ⊥) → Judges 31
       judges-built h = each 31 (λ d s S. let (b, k) = is-built S f w e h in load-built d f t low b k)
 

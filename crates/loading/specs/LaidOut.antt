@@ -8,8 +8,8 @@ use Rattle.ring.specs.declared.Ring.{Ring}
 use Rattle.reader.specs.declared.Head.{Head}
 use Rattle.segment.specs.Layout.{fileRowAt}
 use Rattle.segment.specs.Table.{fill}
+use Rattle.memory.specs.Memories.{Memories}
 use Rattle.memory.specs.Image.{fileWords}
-use Rattle.promises.specs.Promise.{Memories}
 
 -- the empty ring of a sheet's head
 abbrev pub ringOfHead : Head → Ring

@@ -12,6 +12,7 @@ ghost use Rattle.midst.specs.Outcome.{replyStatus};
 ghost use Rattle.promises.specs.Promise.{status, Standing, Seen, replyOf, Promise};
 ghost use Rattle.promises.specs.Promise as host;
 ghost use Rattle.loading.specs.LaidOut.{laidOut};
+ghost use Rattle.memory.specs.Memories.{memories};
 
 mod packing;
 
@@ -27,7 +28,7 @@ use sound::sound;
 
 // The status, 0 where load is not refused.
 fn judge_load(segment: &[u8], blocks: &[u8], buffers: &[u8], file: usize, text: &[u8]) -> u8
-    ensures { λ r. ⌜ ((v : Option Standing) → Seen (now (segment .entry)) (now (blocks .entry)) (now (buffers .entry)) v → r ≡ replyStatus (replyOf v (rules.load file (now («text» .entry))))) ⌝ }
+    ensures { λ r. ⌜ ((v : Option Standing) → Seen (memories (now (segment .entry)) (now (blocks .entry)) (now (buffers .entry))) v → r ≡ replyStatus (replyOf v (rules.load file (now («text» .entry))))) ⌝ }
 {
     if !sound(segment, blocks, buffers) {
         return refusals::UNSOUND;
@@ -48,7 +49,7 @@ fn judge_load(segment: &[u8], blocks: &[u8], buffers: &[u8], file: usize, text: 
 fn lay_out(segment: &mut [u8], blocks: &mut [u8], buffers: &mut [u8], f: usize, text: &[u8])
     requires { ⌜ (length (now segment) ≡ segmentBytes) × (length (now blocks) ≡ blocksBytes) × (length (now buffers) ≡ places * bufferBytes * files) × (f < files) ⌝ }
     requires { ⌜ ((s : Sheet) × (readSheet (now «text») ≡ some s)) ⌝ }
-    ensures { λ _. ⌜ ((s : Sheet) → readSheet (now («text» .entry)) ≡ some s → record { segment = now (segment .exit); blocks = now (blocks .exit); buffers = now (buffers .exit) } ≡ laidOut f (loaded s) (record { segment = now (segment .entry); blocks = now (blocks .entry); buffers = now (buffers .entry) })) ⌝ }
+    ensures { λ _. ⌜ ((s : Sheet) → readSheet (now («text» .entry)) ≡ some s → memories (now (segment .exit)) (now (blocks .exit)) (now (buffers .exit)) ≡ laidOut f (loaded s) (memories (now (segment .entry)) (now (blocks .entry)) (now (buffers .entry)))) ⌝ }
 {
     let mut frame = [0u8; SHEET_LINE_BYTES];
     let file = pack(blocks, f, text, &mut frame);
@@ -64,7 +65,7 @@ pub fn load(
     file: usize,
     text: &[u8],
 ) -> u8
-    ensures { λ r. ⌜ Promise (record { segment = now (segment .entry); blocks = now (blocks .entry); buffers = now (buffers .entry) }) (host.load file (now («text» .entry))) (status r) (record { segment = now (segment .exit); blocks = now (blocks .exit); buffers = now (buffers .exit) }) ⌝ }
+    ensures { λ r. ⌜ Promise (memories (now (segment .entry)) (now (blocks .entry)) (now (buffers .entry))) (host.load file (now («text» .entry))) (status r) (memories (now (segment .exit)) (now (blocks .exit)) (now (buffers .exit))) ⌝ }
 {
     let status = judge_load(segment, blocks, buffers, file, text);
     if status != 0 {

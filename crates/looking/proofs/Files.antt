@@ -26,6 +26,7 @@ use Rattle.records.specs.Reading.{Readable, headerOf}
 use Rattle.records.specs.Fetch.{oldestOf}
 use Rattle.blocks.specs.Memory as memory
 use Rattle.ring.proofs.Held.{held-long}
+use Rattle.memory.specs.Memories.{memories}
 use Rattle.memory.specs.Stands.{shareAt}
 use Rattle.memory.specs.Fine.{StandsFor}
 use Rattle.midst.specs.declared.File as hand
@@ -51,7 +52,7 @@ module _ (xs blocks : List ℕ) (f : ℕ) (x : hand.File) (ys : List ℕ) (row :
       let n = length-take-le (wordAt ys q - 4) (drop (q + 6) ys) (rw length-drop (omega (arith, k .low, k .inside))) in
       omega (arith, n, k .low, k .inside, held-long _ _ _ (file-asks P))
 
-  module _ {buffers : List ℕ} {d : Desk} {s : Alloc} (S : StandsFor xs blocks buffers d s) (h : f < files) (b : Built) (is : fileOf d f ≡ built b) where
+  module _ {buffers : List ℕ} {d : Desk} {s : Alloc} (S : StandsFor (memories xs blocks buffers) d s) (h : f < files) (b : Built) (is : fileOf d f ≡ built b) where
     -- it was made in the file's own store
     searched : (z : Found) → z ≡ oldestOf (geo (x .words) (x .ring)) ys (x .ring .block) (x .ring .spent) (x .ring .held)
         → oldestOf (b .geo) (b .store .share) (b .store .block) (b .store .spent) (length (b .store .recs)) ≡ z

@@ -20,6 +20,7 @@ use Rattle.shares.specs.Places as shares
 use Rattle.laws.specs.Bounds.{Bounded}
 use Rattle.laws.proofs.Bounds.{bounds-at}
 use Rattle.laws.proofs.Room.{good-sized}
+use Rattle.memory.specs.Memories.{Memories}
 use Rattle.memory.specs.Stands.{shareAt}
 use Rattle.memory.specs.Fine.{StandsFor}
 use Rattle.midst.proofs.Begins.{mid-begin}
@@ -41,24 +42,24 @@ inner n (suc q) (suc k) (x ∷ l) h = inner n q k l (omega arith)
 within : (n a q k : ℕ) (l : List ℕ) → q + n ≤ k → take n (drop (a + q) l) ≡ take n (drop q (take k (drop a l)))
 within n a q k l h = ap (take n) (sym (drop-drop q a l)) ∙ sym (inner n q k (drop a l) h)
 
-module _ {xs blocks buffers : List ℕ} {d : Desk} {s : Alloc} (S : StandsFor xs blocks buffers d s) where
+module _ {m : Memories} {d : Desk} {s : Alloc} (S : StandsFor m d s) where
   module _ (f : ℕ) (h : f < files) (b : Built) (is : fileOf d f ≡ built b) where
     -- the oldest data record
-    file-fits : bytesOf (ofFile f b) blocks buffers ≡ replyBytes (lookFile b .reply)
+    file-fits : bytesOf (ofFile f b) (m .blocks) (m .buffers) ≡ replyBytes (lookFile b .reply)
     unfolding bytesOf ofFile lookFile leaves replyBytes shareAt
     file-fits = go (oldest (b .store .recs)) refl
       where
-        go : (o : Option Rec) → oldest (b .store .recs) ≡ o → bytesOf (ofFile f b) blocks buffers ≡ replyBytes (lookFile b .reply)
+        go : (o : Option Rec) → oldest (b .store .recs) ≡ o → bytesOf (ofFile f b) (m .blocks) (m .buffers) ≡ replyBytes (lookFile b .reply)
         go none e = rw (ofFile, lookFile, e)
         go (some r) e =
             let M = mid-begin S f b h is in
             let k = oldest-body (b .geo) (b .store) (good-sized (b .geo) (M .good .room .geo)) (M .good .room .holds) r e in
             let q : ℕ = shares.placeOf (b .geo) (b .store .share) (b .store .block) (b .store .spent + before (b .store .recs)) + 6 in
             rw (ofFile, lookFile, e)
-            (within (length (r .body)) (shareBytes * f) q shareBytes blocks (k .0) ∙ (ap (λ (ys : List ℕ). take (length (r .body)) (drop q ys)) (M .share) ∙ k .1))
+            (within (length (r .body)) (shareBytes * f) q shareBytes (m .blocks) (k .0) ∙ (ap (λ (ys : List ℕ). take (length (r .body)) (drop q ys)) (M .share) ∙ k .1))
 
     -- what lies in a reader's buffer
-    req-fits : (p : ℕ) (a : Acc) → accAt b p ≡ some a → (q : Req) → a .req ≡ q → bytesOf (ofReq f p q b) blocks buffers ≡ replyBytes (lookReq q b .reply)
+    req-fits : (p : ℕ) (a : Acc) → accAt b p ≡ some a → (q : Req) → a .req ≡ q → bytesOf (ofReq f p q b) (m .blocks) (m .buffers) ≡ replyBytes (lookReq q b .reply)
     unfolding bytesOf ofReq lookReq leaves replyBytes lies Bounded
     req-fits p a at idle e = file-fits
     req-fits p a at (reading q) e = file-fits
@@ -66,27 +67,27 @@ module _ {xs blocks buffers : List ℕ} {d : Desk} {s : Alloc} (S : StandsFor xs
     req-fits p a at (readDone q) e =
         by-cases (eqb (q .status) 0)
         (λ z. rw (ofReq, lookReq, z)
-        (sym (take-take (length (q .bytes)) bufferBytes (drop (bufferBytes * placeOf f p) buffers) (bounds-at p a (readDone q) b at e (mid-begin S f b h is .good .bounds) .0))
+        (sym (take-take (length (q .bytes)) bufferBytes (drop (bufferBytes * placeOf f p) (m .buffers)) (bounds-at p a (readDone q) b at e (mid-begin S f b h is .good .bounds) .0))
         ∙ taken S f p h b is a at (q .bytes) (ap lies e)))
         (λ z. rw (ofReq, lookReq, z) file-fits)
     req-fits p a at (writeDone q) e = file-fits
 
   -- whoever looks
-  pub fits : (f p : ℕ) → bytesOf (partOn d f p) blocks buffers ≡ replyBytes (respond d (look f p) .reply)
+  pub fits : (f p : ℕ) → bytesOf (partOn d f p) (m .blocks) (m .buffers) ≡ replyBytes (respond d (look f p) .reply)
   unfolding bytesOf replyBytes
   fits f p = go (accessorOf d f p) (looked d f p)
     where
-      none-shown : (n : ℕ) → Refuses d f p n → bytesOf (partOn d f p) blocks buffers ≡ replyBytes (respond d (look f p) .reply)
+      none-shown : (n : ℕ) → Refuses d f p n → bytesOf (partOn d f p) (m .blocks) (m .buffers) ≡ replyBytes (respond d (look f p) .reply)
       none-shown n R = rw (R .part, R .reply)
 
-      go : (x : Accessor) → Looked d f p x → bytesOf (partOn d f p) blocks buffers ≡ replyBytes (respond d (look f p) .reply)
+      go : (x : Accessor) → Looked d f p x → bytesOf (partOn d f p) (m .blocks) (m .buffers) ≡ replyBytes (respond d (look f p) .reply)
       go x (refused n R) = none-shown n R
       go x (writer w q R) = none-shown 34 R
       go x (reader w q R) = rw (R .part, R .reply) (req-fits f (R .file) (R .b) (R .is) p (R .a) (R .at) (R .a .req) refl)
 
 -- and whatever the memories are seen as
-pub seen-fits : (xs blocks buffers : List ℕ) (v : Option Standing) → Seen xs blocks buffers v → (f p : ℕ)
-    → bytesOf (partOf v f p) blocks buffers ≡ replyBytes (replyOf v (look f p))
+pub seen-fits : (m : Memories) (v : Option Standing) → Seen m v → (f p : ℕ)
+    → bytesOf (partOf v f p) (m .blocks) (m .buffers) ≡ replyBytes (replyOf v (look f p))
 unfolding bytesOf partOn partOf replyOf replyBytes
-seen-fits xs blocks buffers v (unsound e) f p = refl
-seen-fits xs blocks buffers v (stands d s S) f p = fits S f p
+seen-fits m v (unsound e) f p = refl
+seen-fits m v (stands d s S) f p = fits S f p

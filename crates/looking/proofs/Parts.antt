@@ -18,28 +18,29 @@ use Rattle.looking.specs.declared.finding.Shown.{Shown}
 use Rattle.looking.specs.declared.finding.Shown.the-variants.{Refused, Block, Buffer}
 use Rattle.looking.specs.Shown.{partShown, statusShown, Inside, Tells, OfReader, Finds, Stood}
 use Rattle.looking.proofs.Fits.{seen-fits}
+use Rattle.memory.specs.Memories.{Memories}
 
 -- whatever the memories hold
-abbrev pub Shows : List ℕ → List ℕ → List ℕ → ℕ → ℕ → Shown → Type 0
-Shows xs blocks buffers f p x = (v : Option Standing) → Seen xs blocks buffers v → Tells (partOf v f p) (replyOf v (look f p)) x
+abbrev pub Shows : Memories → ℕ → ℕ → Shown → Type 0
+Shows m f p x = (v : Option Standing) → Seen m v → Tells (partOf v f p) (replyOf v (look f p)) x
 
-pub sound-stood : (xs blocks buffers : List ℕ) → Bytes xs → Bytes blocks → Bytes buffers → soundly xs blocks buffers ≡ true → Stood xs blocks
-sound-stood xs blocks buffers bs bb bf e = (buffers, sound-stands xs blocks buffers bs bb bf e)
+pub sound-stood : (m : Memories) → Bytes (m .segment) → Bytes (m .blocks) → Bytes (m .buffers) → soundly m ≡ true → Stood (m .segment) (m .blocks)
+sound-stood m bs bb bf e = (m .buffers, sound-stands m bs bb bf e)
 
-module _ (xs blocks buffers : List ℕ) (f p : ℕ) where
-  pub unsound-shows : soundly xs blocks buffers ≡ false → Shows xs blocks buffers f p (Refused 29)
+module _ (m : Memories) (f p : ℕ) where
+  pub unsound-shows : soundly m ≡ false → Shows m f p (Refused 29)
   unfolding partOf replyOf partShown statusShown replyStatus
   unsound-shows e = seen-none (λ v. Tells (partOf v f p) (replyOf v (look f p)) (Refused 29)) e (record { shows = refl; status = refl })
 
-  module _ (bs : Bytes xs) (bb : Bytes blocks) (bf : Bytes buffers) (e : soundly xs blocks buffers ≡ true) where
-    pub sound-inside : (x : Shown) → Finds (OfReader f p) xs blocks x → Inside (length blocks) (length buffers) x
+  module _ (bs : Bytes (m .segment)) (bb : Bytes (m .blocks)) (bf : Bytes (m .buffers)) (e : soundly m ≡ true) where
+    pub sound-inside : (x : Shown) → Finds (OfReader f p) (m .segment) (m .blocks) x → Inside (length (m .blocks)) (length (m .buffers)) x
     sound-inside x F =
-        let S = sound-stands xs blocks buffers bs bb bf e .2 in
+        let S = sound-stands m bs bb bf e .2 in
         rw (S .stands .bodies .blocks-size, S .stands .bodies .buffers-size) (F .inside)
 
-    pub sound-shows : (x : Shown) → Finds (OfReader f p) xs blocks x → Shows xs blocks buffers f p x
+    pub sound-shows : (x : Shown) → Finds (OfReader f p) (m .segment) (m .blocks) x → Shows m f p x
     unfolding replyOf partOf
-    sound-shows x F = seen-some (λ v. Tells (partOf v f p) (replyOf v (look f p)) x) e (λ d s S. F .tells buffers d s S)
+    sound-shows x F = seen-some (λ v. Tells (partOf v f p) (replyOf v (look f p)) x) e (λ d s S. F .tells (m .buffers) d s S)
 
 -- the part is within its memory
 pub block-inside : (m n : ℕ) (x : Shown) → Inside m n x → (at size : ℕ) → x ≡ Block at size → at + size ≤ m
@@ -65,14 +66,14 @@ module _ (blocks buffers : List ℕ) (x : Shown) where
   buffer-part at size e = rw (e, span at size)
 
 -- they are what look promises, and so is the status
-module _ (xs blocks buffers : List ℕ) (f p : ℕ) (x : Shown) (F : Shows xs blocks buffers f p x) where
-  pub given : (ys : List ℕ) → ys ≡ bytesOf (partShown x) blocks buffers
-      → ((v : Option Standing) → Seen xs blocks buffers v → ys ≡ bytesOf (partOf v f p) blocks buffers)
-      × ((v : Option Standing) → Seen xs blocks buffers v → ys ≡ replyBytes (replyOf v (look f p)))
-  given ys e = (part, λ v k. part v k ∙ seen-fits xs blocks buffers v k f p)
+module _ (m : Memories) (f p : ℕ) (x : Shown) (F : Shows m f p x) where
+  pub given : (ys : List ℕ) → ys ≡ bytesOf (partShown x) (m .blocks) (m .buffers)
+      → ((v : Option Standing) → Seen m v → ys ≡ bytesOf (partOf v f p) (m .blocks) (m .buffers))
+      × ((v : Option Standing) → Seen m v → ys ≡ replyBytes (replyOf v (look f p)))
+  given ys e = (part, λ v k. part v k ∙ seen-fits m v k f p)
     where
-      part : (v : Option Standing) → Seen xs blocks buffers v → ys ≡ bytesOf (partOf v f p) blocks buffers
-      part v k = e ∙ ap (λ (q : Part). bytesOf q blocks buffers) (F v k .shows)
+      part : (v : Option Standing) → Seen m v → ys ≡ bytesOf (partOf v f p) (m .blocks) (m .buffers)
+      part v k = e ∙ ap (λ (q : Part). bytesOf q (m .blocks) (m .buffers)) (F v k .shows)
 
-  pub said : (n : ℕ) → n ≡ statusShown x → (v : Option Standing) → Seen xs blocks buffers v → n ≡ replyStatus (replyOf v (look f p))
+  pub said : (n : ℕ) → n ≡ statusShown x → (v : Option Standing) → Seen m v → n ≡ replyStatus (replyOf v (look f p))
   said n e v k = e ∙ F v k .status

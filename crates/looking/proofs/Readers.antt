@@ -20,6 +20,7 @@ use Rattle.segment.specs.declared.Entry.{Entry}
 use Rattle.segment.specs.Layout.{replyPort}
 use Rattle.segment.specs.Table.{nth}
 use Rattle.segment.specs.Fields.{entryOf, entryAt}
+use Rattle.memory.specs.Memories.{memories}
 use Rattle.memory.specs.Image.{reqWords}
 use Rattle.memory.specs.Fine.{StandsFor}
 use Rattle.midst.specs.Outcome.{replyStatus}
@@ -85,7 +86,7 @@ module _ {xs blocks : List ℕ} {f p side : ℕ} {q : Outstanding} (O : Opens xs
   }
 
   module _ (n : side ≡ 2 → ⊥) where
-    pub reads : {buffers : List ℕ} {d : Desk} {s : Alloc} → StandsFor xs blocks buffers d s → Reads d f p q
+    pub reads : {buffers : List ℕ} {d : Desk} {s : Alloc} → StandsFor (memories xs blocks buffers) d s → Reads d f p q
     reads {buffers} {d} {s} S = as-reader d f p (accessorOf d f p) (O .words) side q (sym (accessor-is S f p) ∙ O .named) n (looked d f p)
 
     pub reader-file : FileStands xs blocks f
@@ -94,11 +95,11 @@ module _ {xs blocks : List ℕ} {f p side : ℕ} {q : Outstanding} (O : Opens xs
         let R = reads S in
         record { file = R .file; buffers = _; d = _; s = _; b = R .b; stands = S; is = R .is }
 
-    pub reader-fit : Fit xs blocks (O .stood .0) f p
+    pub reader-fit : Fit (memories xs blocks (O .stood .0)) f p
     reader-fit = let S = O .stood .1 .2 in let R = reads S in fit S f p (R .file) (R .b) (R .is) (R .a) (R .at)
 
     -- whose read brought no record: that of the file is shown
-    file-finds : (x : Shown) → ((buffers : List ℕ) (d : Desk) (s : Alloc) (S : StandsFor xs blocks buffers d s)
+    file-finds : (x : Shown) → ((buffers : List ℕ) (d : Desk) (s : Alloc) (S : StandsFor (memories xs blocks buffers) d s)
         → (ofReq f p (reads S .a .req) (reads S .b) ≡ ofFile f (reads S .b)) × (lookReq (reads S .a .req) (reads S .b) ≡ lookFile (reads S .b)))
         → Finds (OfFile f) xs blocks x → Finds (OfReader f p) xs blocks x
     file-finds x same F = record {
@@ -134,7 +135,7 @@ done-read (readDone q) F e = (q, refl)
 done-read (writeDone q) F e = absurd (false≢true F)
 
 module _ {xs blocks : List ℕ} {f p side : ℕ} (O : Opens xs blocks f p side Completed) (n : side ≡ 2 → ⊥) where
-  module _ {buffers : List ℕ} {d : Desk} {s : Alloc} (S : StandsFor xs blocks buffers d s) where
+  module _ {buffers : List ℕ} {d : Desk} {s : Alloc} (S : StandsFor (memories xs blocks buffers) d s) where
     abbrev R : Reads d f p Completed
     R = reads O n S
 
@@ -157,7 +158,7 @@ module _ {xs blocks : List ℕ} {f p side : ℕ} (O : Opens xs blocks f p side C
       rw port (port-full S f p (r .file) (r .b) (r .is) (r .a) (r .at) (ended S))
 
   module _ (e : ℕ) (port : e ≡ nth xs (replyPort (placeOf f p))) (m : Entry) (entry : m ≡ entryAt xs e) where
-    entry-is : {buffers : List ℕ} {d : Desk} {s : Alloc} (S : StandsFor xs blocks buffers d s) → (m .status ≡ done S .0 .status) × (m .size ≡ length (done S .0 .bytes))
+    entry-is : {buffers : List ℕ} {d : Desk} {s : Alloc} (S : StandsFor (memories xs blocks buffers) d s) → (m .status ≡ done S .0 .status) × (m .size ≡ length (done S .0 .bytes))
     unfolding entryOf reqWords
     entry-is S =
         let r = reads O n S in
@@ -170,7 +171,7 @@ module _ {xs blocks : List ℕ} {f p side : ℕ} (O : Opens xs blocks f p side C
     unfolding ofReq lookReq
     ended-finds h x F = file-finds O n x (λ buffers d s S. same S) F
       where
-        same : {buffers : List ℕ} {d : Desk} {s : Alloc} (S : StandsFor xs blocks buffers d s)
+        same : {buffers : List ℕ} {d : Desk} {s : Alloc} (S : StandsFor (memories xs blocks buffers) d s)
             → (ofReq f p (reads O n S .a .req) (reads O n S .b) ≡ ofFile f (reads O n S .b)) × (lookReq (reads O n S .a .req) (reads O n S .b) ≡ lookFile (reads O n S .b))
         same S = let z = ne-eqb (done S .0 .status) 0 (λ k. h (entry-is S .0 ∙ k)) in (rw (done S .1, ofReq, z), rw (done S .1, lookReq, z))
 
@@ -182,7 +183,7 @@ module _ {xs blocks : List ℕ} {f p side : ℕ} (O : Opens xs blocks f p side C
       tells = λ buffers d s S. tells S;
     }
       where
-        tells : {buffers : List ℕ} {d : Desk} {s : Alloc} (S : StandsFor xs blocks buffers d s) → OfReader f p d (shown.Buffer (bufferBytes * placeOf f p) (m .size))
+        tells : {buffers : List ℕ} {d : Desk} {s : Alloc} (S : StandsFor (memories xs blocks buffers) d s) → OfReader f p d (shown.Buffer (bufferBytes * placeOf f p) (m .size))
         tells S =
             let r = reads O n S in
             let z = eq-eqb (done S .0 .status) 0 (sym (entry-is S .0) ∙ h) in

@@ -9,6 +9,7 @@ use Rattle.rules.specs.Desk.{Desk, look, fileOf, respond}
 use Rattle.rules.specs.Allocation.{Alloc}
 use Rattle.blocks.specs.Memory.{blocksBytes}
 use Rattle.buffers.specs.Buffer.{buffersBytes}
+use Rattle.memory.specs.Memories.{memories}
 use Rattle.memory.specs.Fine.{StandsFor}
 use Rattle.midst.specs.Outcome.{replyStatus, Sound}
 use Rattle.kinds.specs.declared.Outstanding.{Outstanding}
@@ -50,11 +51,11 @@ OfReader f p d x = Tells (partOn d f p) (respond d (look f p) .reply) x
 -- on every desk that the memories, with some buffers, stand for
 pub record Finds (Of : Desk → Shown → Type 0) (xs blocks : List ℕ) (x : Shown) : Type 0 where
   pub inside : Inside blocksBytes buffersBytes x
-  pub tells : (buffers : List ℕ) (d : Desk) (s : Alloc) → StandsFor xs blocks buffers d s → Of d x
+  pub tells : (buffers : List ℕ) (d : Desk) (s : Alloc) → StandsFor (memories xs blocks buffers) d s → Of d x
 
 -- the memories, with some buffers, stand for a desk
 abbrev pub Stood : List ℕ → List ℕ → Type 0
-Stood xs blocks = (buffers : List ℕ) × Sound xs blocks buffers
+Stood xs blocks = (buffers : List ℕ) × Sound (memories xs blocks buffers)
 
 -- and the accessor that f and p name is open, on that side and with that outstanding
 pub record Opens (xs blocks : List ℕ) (f p side : ℕ) (request : Outstanding) : Type 0 where

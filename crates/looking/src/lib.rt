@@ -17,11 +17,12 @@ ghost use Rattle.midst.specs.Outcome.{replyStatus};
 ghost use Rattle.promises.specs.Promise.{Standing, Seen, replyOf};
 ghost use Rattle.promises.specs.Parts.{bytesOf, partOf};
 ghost use Rattle.looking.specs.Shown.{partShown, statusShown, Inside, Tells};
+ghost use Rattle.memory.specs.Memories.{memories};
 
 // What is shown, whatever the memories hold.
 pub fn shown(segment: &[u8], blocks: &[u8], buffers: &[u8], file: usize, reader: usize) -> Shown
     ensures inside { λ r. ⌜ Inside (length (now (blocks .entry))) (length (now (buffers .entry))) r ⌝ }
-    ensures tells { λ r. ⌜ ((v : Option Standing) → Seen (now (segment .entry)) (now (blocks .entry)) (now (buffers .entry)) v → Tells (partOf v file reader) (replyOf v (rules.look file reader)) r) ⌝ }
+    ensures tells { λ r. ⌜ ((v : Option Standing) → Seen (memories (now (segment .entry)) (now (blocks .entry)) (now (buffers .entry))) v → Tells (partOf v file reader) (replyOf v (rules.look file reader)) r) ⌝ }
 {
     if !sound::sound(segment, blocks, buffers) {
         return Shown::Refused(refusals::UNSOUND);
@@ -60,8 +61,8 @@ pub fn look<'a>(
     file: usize,
     reader: usize,
 ) -> &'a [u8]
-    ensures part { λ r. ⌜ ((v : Option Standing) → Seen (now (segment .entry)) (now (blocks .entry)) (now (buffers .entry)) v → now r ≡ bytesOf (partOf v file reader) (now (blocks .entry)) (now (buffers .entry))) ⌝ }
-    ensures shown { λ r. ⌜ ((v : Option Standing) → Seen (now (segment .entry)) (now (blocks .entry)) (now (buffers .entry)) v → now r ≡ replyBytes (replyOf v (rules.look file reader))) ⌝ }
+    ensures part { λ r. ⌜ ((v : Option Standing) → Seen (memories (now (segment .entry)) (now (blocks .entry)) (now (buffers .entry))) v → now r ≡ bytesOf (partOf v file reader) (now (blocks .entry)) (now (buffers .entry))) ⌝ }
+    ensures shown { λ r. ⌜ ((v : Option Standing) → Seen (memories (now (segment .entry)) (now (blocks .entry)) (now (buffers .entry))) v → now r ≡ replyBytes (replyOf v (rules.look file reader))) ⌝ }
     ensures short { λ r. ⌜ length (now r) ≤ bufferBytes ⌝ }
 {
     let what = shown(segment, blocks, buffers, file, reader);
@@ -70,7 +71,7 @@ pub fn look<'a>(
 
 // The status alone.
 pub fn look_status(segment: &[u8], blocks: &[u8], buffers: &[u8], file: usize, reader: usize) -> u8
-    ensures { λ r. ⌜ ((v : Option Standing) → Seen (now (segment .entry)) (now (blocks .entry)) (now (buffers .entry)) v → r ≡ replyStatus (replyOf v (rules.look file reader))) ⌝ }
+    ensures { λ r. ⌜ ((v : Option Standing) → Seen (memories (now (segment .entry)) (now (blocks .entry)) (now (buffers .entry))) v → r ≡ replyStatus (replyOf v (rules.look file reader))) ⌝ }
 {
     let what = shown(segment, blocks, buffers, file, reader);
     status(what)

@@ -7,25 +7,26 @@ use Rattle.rules.specs.Limits.{files, places, shareBytes, bufferBytes}
 use Rattle.rules.specs.State.{File, unbuilt, built}
 use Rattle.rules.specs.Desk.{Desk, fileOf}
 use Rattle.rules.specs.Memories.{shareOf, blocks, buffersOf, buffers}
+use Rattle.memory.specs.Memories.{Memories}
 use Rattle.memory.specs.Stands.{shareAt, buffersAt, FileBytes, Bodies}
 use Rattle.memory.specs.Covers.{Alike, Blank}
 use Rattle.memory.proofs.Parts.{part, parts-all, parts-same}
 
--- two pairs of memories for one desk
+-- two memories for one desk
 
 file-same : (x : File) (s b s′ b′ : List ℕ) → FileBytes x s b → FileBytes x s′ b′ → (x ≡ unbuilt → (s ≡ s′) × (b ≡ b′)) → (s ≡ s′) × (b ≡ b′)
 unfolding FileBytes
 file-same unbuilt s b s′ b′ h k u = u refl
 file-same (built c) s b s′ b′ h k u = (h .0 ∙ sym (k .0), h .1 ∙ sym (k .1))
 
-pub bodies-same : (d : Desk) (x b x′ b′ : List ℕ) → Bodies x b d → Bodies x′ b′ d → Alike d x b x′ b′ → (x ≡ x′) × (b ≡ b′)
+pub bodies-same : (d : Desk) (m m′ : Memories) → Bodies m d → Bodies m′ d → Alike d m m′ → (m .blocks ≡ m′ .blocks) × (m .buffers ≡ m′ .buffers)
 unfolding part shareAt buffersAt
-bodies-same d x b x′ b′ S T h = (
-  parts-same shareBytes files x x′ (S .blocks-size) (T .blocks-size) (λ f k. each f k .0),
-  parts-same (places * bufferBytes) files b b′ (S .buffers-size) (T .buffers-size) (λ f k. each f k .1),
+bodies-same d m m′ S T h = (
+  parts-same shareBytes files (m .blocks) (m′ .blocks) (S .blocks-size) (T .blocks-size) (λ f k. each f k .0),
+  parts-same (places * bufferBytes) files (m .buffers) (m′ .buffers) (S .buffers-size) (T .buffers-size) (λ f k. each f k .1),
 )
   where
-    each : (f : ℕ) → f < files → (shareAt f x ≡ shareAt f x′) × (buffersAt f b ≡ buffersAt f b′)
+    each : (f : ℕ) → f < files → (shareAt f (m .blocks) ≡ shareAt f (m′ .blocks)) × (buffersAt f (m .buffers) ≡ buffersAt f (m′ .buffers))
     each f k = file-same (fileOf d f) _ _ _ _ (S .each f k) (T .each f k) (h f k)
 
 -- the bytes of files that are not built zero: exactly the rules' bytes
@@ -35,12 +36,12 @@ unfolding FileBytes shareOf buffersOf
 file-blank unbuilt s b h u = u refl
 file-blank (built c) s b h u = h
 
-pub bodies-are : (d : Desk) (x b : List ℕ) → Bodies x b d → Blank d x b → (x ≡ blocks d) × (b ≡ buffers d)
+pub bodies-are : (d : Desk) (m : Memories) → Bodies m d → Blank d m → (m .blocks ≡ blocks d) × (m .buffers ≡ buffers d)
 unfolding part shareAt buffersAt blocks buffers
-bodies-are d x b S h = (
-  parts-all shareBytes files x (λ f. shareOf (fileOf d f)) (S .blocks-size) (λ f k. each f k .0),
-  parts-all (places * bufferBytes) files b (λ f. buffersOf (fileOf d f)) (S .buffers-size) (λ f k. each f k .1),
+bodies-are d m S h = (
+  parts-all shareBytes files (m .blocks) (λ f. shareOf (fileOf d f)) (S .blocks-size) (λ f k. each f k .0),
+  parts-all (places * bufferBytes) files (m .buffers) (λ f. buffersOf (fileOf d f)) (S .buffers-size) (λ f k. each f k .1),
 )
   where
-    each : (f : ℕ) → f < files → (shareAt f x ≡ shareOf (fileOf d f)) × (buffersAt f b ≡ buffersOf (fileOf d f))
+    each : (f : ℕ) → f < files → (shareAt f (m .blocks) ≡ shareOf (fileOf d f)) × (buffersAt f (m .buffers) ≡ buffersOf (fileOf d f))
     each f k = file-blank (fileOf d f) _ _ (S .each f k) (h f k)

@@ -15,6 +15,7 @@ use Rattle.rules.specs.Desk.{Desk, fileOf, withFile}
 use Rattle.rules.specs.Memories.{parts, buffer, fileBuffers}
 use Rattle.laws.specs.EightFiles.{EightFiles}
 use Rattle.laws.proofs.EightFiles.{file-other, file-same}
+use Rattle.memory.specs.Memories.{Memories}
 use Rattle.memory.specs.Stands.{shareAt, buffersAt, bufferAt, FileBytes, Bodies}
 use Rattle.words.specs.Word.{Bytes}
 use Rattle.memory.proofs.Parts.{part, parts-all, part-parts, part-sets, part-sets-other}
@@ -90,10 +91,11 @@ bufferAt-is f x l n e q p h =
     ∙ part-parts bufferBytes (length l) (λ i. buffer (getD l i none)) (λ i k. e i (omega arith)) p (omega arith)
 
 -- a change of one file
-pub bodies-file : (d : Desk) (x b x′ b′ : List ℕ) (f : ℕ) (y : File) → Bodies x b d → EightFiles d → f < files → Bytes x′ → Bytes b′ → length x′ ≡ length x → length b′ ≡ length b
-    → ((g : ℕ) → g < files → (g ≡ f → ⊥) → (shareAt g x′ ≡ shareAt g x) × (buffersAt g b′ ≡ buffersAt g b)) → FileBytes y (shareAt f x′) (buffersAt f b′)
-    → Bodies x′ b′ (withFile d f y)
-bodies-file d x b x′ b′ f y S n h bx bb ex eb other here = record {
+pub bodies-file : (d : Desk) (m m′ : Memories) (f : ℕ) (y : File) → Bodies m d → EightFiles d → f < files → Bytes (m′ .blocks) → Bytes (m′ .buffers)
+    → length (m′ .blocks) ≡ length (m .blocks) → length (m′ .buffers) ≡ length (m .buffers)
+    → ((g : ℕ) → g < files → (g ≡ f → ⊥) → (shareAt g (m′ .blocks) ≡ shareAt g (m .blocks)) × (buffersAt g (m′ .buffers) ≡ buffersAt g (m .buffers)))
+    → FileBytes y (shareAt f (m′ .blocks)) (buffersAt f (m′ .buffers)) → Bodies m′ (withFile d f y)
+bodies-file d m m′ f y S n h bx bb ex eb other here = record {
   blocks-bytes = bx;
   buffers-bytes = bb;
   blocks-size = ex ∙ S .blocks-size;
@@ -101,6 +103,6 @@ bodies-file d x b x′ b′ f y S n h bx bb ex eb other here = record {
   each = λ g k. go g k (ℕ-discrete g f);
 }
   where
-    go : (g : ℕ) → g < files → Dec (g ≡ f) → FileBytes (fileOf (withFile d f y) g) (shareAt g x′) (buffersAt g b′)
+    go : (g : ℕ) → g < files → Dec (g ≡ f) → FileBytes (fileOf (withFile d f y) g) (shareAt g (m′ .blocks)) (buffersAt g (m′ .buffers))
     go g k (yes u) = rw (u, file-same d f y n h) here
     go g k (no u) = let (p, q) = other g k u in rw (p, q, file-other d f g y u) (S .each g k)

@@ -26,7 +26,7 @@ use Rattle.laws.specs.Outstanding.{reqOf}
 use Rattle.laws.proofs.EightFiles.{fresh-file}
 use Rattle.memory.specs.Stands.{Segment, shareAt, buffersAt, FileBytes, Bodies, Stands}
 use Rattle.memory.specs.Covers.{Covers, Blank}
-use Rattle.memory.specs.Fresh.{table, freshLink, freshWord, freshSegment, freshBlocks, freshBuffers}
+use Rattle.memory.specs.Fresh.{table, freshLink, freshWord, freshSegment, freshBlocks, freshBuffers, freshMemories}
 use Rattle.memory.proofs.Image.{rowOf-file, rowOf-place, each-row, listOf-free, listOf-read, listOf-write, listOf-port, listOf-timers, boxOf-free, boxOf-read, boxOf-write, boxOf-port, boxOf-timers, each-list}
 
 -- a table of words
@@ -185,7 +185,7 @@ fresh-segment = record {
   rows = fresh-rows;
 }
 
-pub fresh-bodies : Bodies freshBlocks freshBuffers freshDesk
+pub fresh-bodies : Bodies freshMemories freshDesk
 fresh-bodies = record {
   blocks-bytes = unfold freshBlocks in bytes-zeros (shareBytes * files);
   buffers-bytes = unfold freshBuffers in bytes-zeros (places * bufferBytes * files);
@@ -194,7 +194,7 @@ fresh-bodies = record {
   each = λ f h. rw (fresh-file f) (unfold FileBytes in tt);
 }
 
-pub fresh-stands : Stands freshSegment freshBlocks freshBuffers freshDesk freshAlloc
+pub fresh-stands : Stands freshMemories freshDesk freshAlloc
 fresh-stands = record { segment = fresh-segment; bodies = fresh-bodies }
 
 -- and they are the only ones, the files that are not built being zero
@@ -226,7 +226,7 @@ drop-zeros (suc n) (suc m) k h = drop-zeros n m k (omega arith)
 part-zeros : (n at m : ℕ) → at + n ≤ m → take n (drop at (zeros m)) ≡ zeros n
 part-zeros n at m h = rw (drop-zeros at m (m - at) (omega arith)) (take-zeros n (m - at) (omega arith))
 
-pub fresh-blank : Blank freshDesk freshBlocks freshBuffers
+pub fresh-blank : Blank freshDesk freshMemories
 unfolding shareAt buffersAt freshBlocks freshBuffers
 fresh-blank f h e = (
   part-zeros shareBytes (shareBytes * f) (shareBytes * files) (omega arith),

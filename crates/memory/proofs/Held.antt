@@ -14,20 +14,10 @@ use Rattle.occurrences.proofs.Counts.{count-append}
 use Rattle.rules.specs.Limits.{places}
 use Rattle.rules.specs.State.{Req, idle, reading, writing, readDone, writeDone, Timer}
 use Rattle.rules.specs.Allocation.{Held, nothing, own, timed, Alloc, placeOf, heldAt, ownEntry, timerEntry, portOf}
-use Rattle.laws.specs.Outstanding.{waitsRead, waitsWrite, uncollected, outstanding}
+use Rattle.laws.specs.Outstanding.{uncollected}
 use Rattle.laws.specs.Counts.{placesOf, countT}
 use Rattle.laws.specs.Entries.{entriesOf, taken, size, local, sieve}
 use Rattle.memory.proofs.Sums.{sum}
-
--- a request
-
-pub out-most : (q : Req) → outstanding q ≤ 1
-unfolding waitsRead waitsWrite uncollected
-out-most idle = omega arith
-out-most (reading q) = omega arith
-out-most (writing q) = omega arith
-out-most (readDone q) = omega arith
-out-most (writeDone q) = omega arith
 
 pub held-count : (x : ℕ) (h : Held) (a n : ℕ) → size h ≡ a + n → n ≤ a → a ≤ 1 → count x (entriesOf h) ≡ a * bit (eqb (ownEntry h) x) + n * bit (eqb (timerEntry h) x)
 unfolding entriesOf count ownEntry timerEntry

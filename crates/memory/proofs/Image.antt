@@ -1,18 +1,21 @@
 -- The list, the contents and the row of a known number, without the tests that find them; and each list, and each row, is of a known number.
 use Prim.Native.Nat.{ℕ, _+_, _*_, _-_, _/_, _%_, _<_}
-use mathlib.Core.Path.{_≡_, refl}
+use mathlib.Core.Path.{_≡_, refl, _∙_}
 use mathlib.Core.List.{map}
+use mathlib.Core.Option.{Option, none, some}
 use native.Mathlib.Omega.{arith}
 use native.Mathlib.Decide.{decLt}
-use lib.ListN.{replicate}
+use lib.ListN.{getD, replicate, getD-replicate}
+use lib.Seq.{getD-append-add}
 use borrow.Author.Tests.{lt-ltb, le-ltb}
-use Rattle.segment.specs.Layout.{readQueues, writeQueues, replyPorts, listCount, rowCount, dataWords, freeList, readQueue, writeQueue, replyPort, fileRow, placeRow}
+use Rattle.segment.specs.Layout.{readQueues, writeQueues, replyPorts, listCount, rowCount, dataWords, placeFields, placeSpare, placeWidth, freeList, readQueue, writeQueue, replyPort, fileRow, placeRow}
 use Rattle.segment.specs.Layout as layout
 use Rattle.segment.proofs.Apart as apart
 use Rattle.rules.specs.Limits.{files, places}
+use Rattle.rules.specs.State.{Acc}
 use Rattle.rules.specs.Desk.{Desk, fileOf}
 use Rattle.rules.specs.Allocation.{Alloc, placeOf, queueOf, portOf, timerList}
-use Rattle.memory.specs.Image.{accOf, placeAcc, timerWords, fileWords, placeWords, rowOf, rqOf, wqOf, atList, listOf, queueWords, portWords, boxOf}
+use Rattle.memory.specs.Image.{accOf, placeAcc, timerWords, fileWords, accWords, placeWords, rowOf, rqOf, wqOf, atList, listOf, queueWords, portWords, boxOf}
 use Rattle.laws.specs.Outstanding.{reqOf}
 
 -- place p of file f
@@ -41,6 +44,12 @@ rowOf-place d i =
 
 pub rowOf-acc : (d : Desk) (f p : ℕ) → p < places → rowOf d (placeRow (placeOf f p)) ≡ placeWords (accOf (fileOf d f) p)
 rowOf-acc d f p h = rw (rowOf-place d (placeOf f p), placeAcc-of d f p h)
+
+-- the words to spare
+pub spare-zero : (o : Option Acc) (j : ℕ) → j < placeSpare → getD (placeWords o) (placeFields + j) 0 ≡ 0
+unfolding placeWords
+spare-zero none j h = getD-replicate placeWidth (placeFields + j) 0 0 (omega arith)
+spare-zero (some a) j h = getD-append-add (accWords a) (replicate placeSpare 0) j 0 ∙ getD-replicate placeSpare j 0 0 h
 
 pub each-row : (P : ℕ → Type 0) → ((f : ℕ) → f < files → P (fileRow f)) → ((i : ℕ) → i < files * places → P (placeRow i)) → (i : ℕ) → i < rowCount → P i
 each-row P file place = apart.each-row (λ i. i < rowCount → P i) (λ f h _. file f h) (λ i h. place i (omega arith))

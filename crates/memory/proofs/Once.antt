@@ -24,7 +24,8 @@ use Rattle.memory.specs.Image.{accOf, placeAcc, listOf, listsOf}
 use Rattle.memory.specs.Covers.{Covers, Once}
 use Rattle.memory.proofs.Image.{placeAcc-at, listOf-free, listOf-read, listOf-write, listOf-port, listOf-timers}
 use Rattle.memory.proofs.Sums.{sum, sum-same, sum-plus, sum-none, sum-one, sum-split, sum-rows, total-up, count-map}
-use Rattle.memory.proofs.Held.{out-most, held-count, port-count, taken-count, sieve-at, map-place}
+use Rattle.laws.proofs.Outstanding.{outstanding-most}
+use Rattle.memory.proofs.Held.{held-count, port-count, taken-count, sieve-at, map-place}
 use Rattle.memory.proofs.Boxes.{once-covers}
 
 three : (a b c k : ℕ) → (a + b + c) * k ≡ a * k + b * k + c * k
@@ -141,7 +142,7 @@ module _ (d : Desk) (s : Alloc) (long : length (s .held) ≡ files * places) (wi
   held-place : (f p : ℕ) → f < files → p < places
       → count x (entriesOf (heldAt s (placeOf f p))) ≡ outstanding (reqOf (accOf (fileOf d f) p)) * B (placeOf f p) + ticks (placeOf f p)
   unfolding ticks B C
-  held-place f p h k = held-count x (heldAt s (placeOf f p)) (outstanding q) (countT (placeOf f p) (s .clock)) holds few (out-most q)
+  held-place f p h k = held-count x (heldAt s (placeOf f p)) (outstanding q) (countT (placeOf f p) (s .clock)) holds few (outstanding-most q)
     where
       q : Req
       q = reqOf (accOf (fileOf d f) p)

@@ -18,6 +18,7 @@ use Rattle.laws.proofs.Queues.{agreeing}
 use Rattle.laws.proofs.Timers.{ticking}
 use Rattle.laws.proofs.Sides.{sides}
 use Rattle.laws.proofs.Allocated.{agreed}
+use Rattle.memory.specs.Memories.{Memories}
 use Rattle.memory.specs.Stands.{Stands}
 use Rattle.memory.specs.Fine.{Fine, StandsFor}
 
@@ -29,6 +30,6 @@ all-six (built y) r c b q t s = record { room = r; records = c; bounds = b; queu
 pub fine : (f : ℕ) (cs : List Call) → OnFile Fine (fileOf (after freshDesk cs) f)
 fine f cs = all-six _ (roomy f cs) (records f cs) (bounded f cs) (agreeing f cs) (ticking f cs) (sides f cs)
 
-pub reached : (cs : List Call) (segment blocks buffers : List ℕ) → Stands segment blocks buffers (after freshDesk cs) (allocAfter freshDesk cs freshAlloc)
-    → StandsFor segment blocks buffers (after freshDesk cs) (allocAfter freshDesk cs freshAlloc)
-reached cs segment blocks buffers s = record { stands = s; fine = λ f h. fine f cs; agreed = agreed cs }
+pub reached : (cs : List Call) (m : Memories) → Stands m (after freshDesk cs) (allocAfter freshDesk cs freshAlloc)
+    → StandsFor m (after freshDesk cs) (allocAfter freshDesk cs freshAlloc)
+reached cs m s = record { stands = s; fine = λ f h. fine f cs; agreed = agreed cs }

@@ -1,7 +1,6 @@
 -- What beside `Stands` determines the bytes: each entry stands on some list, and the share and the buffers of a file that is not built are known.
 use Prim.Native.Nat.{ℕ, _*_, _≤_, _<_}
 use mathlib.Core.Path.{_≡_}
-use mathlib.Core.List.{List}
 use lib.Dec.{ltb}
 use Rattle.words.specs.Word.{zeros}
 use Rattle.occurrences.specs.Count.{bit, count, total}
@@ -10,6 +9,7 @@ use Rattle.rules.specs.Limits.{files, places, entries, shareBytes, bufferBytes}
 use Rattle.rules.specs.State.{unbuilt}
 use Rattle.rules.specs.Desk.{Desk, fileOf}
 use Rattle.rules.specs.Allocation.{Alloc}
+use Rattle.memory.specs.Memories.{Memories}
 use Rattle.memory.specs.Image.{listOf, listsOf}
 use Rattle.memory.specs.Stands.{shareAt, buffersAt}
 
@@ -21,12 +21,12 @@ Covers d s = (e : ℕ) → e < entries → (l : ℕ) × (l < listCount) × (1 �
 abbrev pub Once : Desk → Alloc → Type 0
 Once d s = (x : ℕ) → total x (listsOf d s) ≡ bit (ltb x entries)
 
--- two pairs of memories agree where a file is not built
-abbrev pub Alike : Desk → List ℕ → List ℕ → List ℕ → List ℕ → Type 0
-Alike d blocks buffers blocks′ buffers′ =
-    (f : ℕ) → f < files → fileOf d f ≡ unbuilt → (shareAt f blocks ≡ shareAt f blocks′) × (buffersAt f buffers ≡ buffersAt f buffers′)
+-- blocks and buffers agree where a file is not built
+abbrev pub Alike : Desk → Memories → Memories → Type 0
+Alike d m m′ =
+    (f : ℕ) → f < files → fileOf d f ≡ unbuilt → (shareAt f (m .blocks) ≡ shareAt f (m′ .blocks)) × (buffersAt f (m .buffers) ≡ buffersAt f (m′ .buffers))
 
 -- where a file is not built there are zeros, as from a fresh desk on
-abbrev pub Blank : Desk → List ℕ → List ℕ → Type 0
-Blank d blocks buffers =
-    (f : ℕ) → f < files → fileOf d f ≡ unbuilt → (shareAt f blocks ≡ zeros shareBytes) × (buffersAt f buffers ≡ zeros (places * bufferBytes))
+abbrev pub Blank : Desk → Memories → Type 0
+Blank d m =
+    (f : ℕ) → f < files → fileOf d f ≡ unbuilt → (shareAt f (m .blocks) ≡ zeros shareBytes) × (buffersAt f (m .buffers) ≡ zeros (places * bufferBytes))

@@ -1,5 +1,4 @@
 -- What is true of every desk that a run reaches, and is asked of a desk that memories stand for.
-use mathlib.Core.List.{List}
 use Prim.Native.Nat.{ℕ, _<_}
 use Rattle.rules.specs.Limits.{files}
 use Rattle.rules.specs.State.{Built}
@@ -15,6 +14,7 @@ use Rattle.laws.specs.Queues.{Agree}
 use Rattle.laws.specs.Timers.{Ticking}
 use Rattle.laws.specs.Sides.{Sides}
 use Rattle.laws.specs.Entries.{Agreed}
+use Rattle.memory.specs.Memories.{Memories}
 use Rattle.memory.specs.Stands.{Stands}
 
 -- a built file: room, the records of its held blocks, its queues and requests, its timers, its accessors
@@ -27,7 +27,7 @@ pub record Fine (b : Built) : Type 0 where
   pub sides : Sides b
 
 -- the memories stand for a desk that is fine, with an allocation that agrees with it
-pub record StandsFor (segment blocks buffers : List ℕ) (d : Desk) (s : Alloc) : Type 0 where
-  pub stands : Stands segment blocks buffers d s
+pub record StandsFor (m : Memories) (d : Desk) (s : Alloc) : Type 0 where
+  pub stands : Stands m d s
   pub fine : (f : ℕ) → f < files → OnFile Fine (fileOf d f)
   pub agreed : Agreed d s

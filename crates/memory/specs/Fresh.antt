@@ -6,6 +6,7 @@ use lib.Dec.{ltb, eqb}
 use Rattle.words.specs.Word.{word, zeros}
 use Rattle.segment.specs.Layout.{readQueues, listCount, nil, entryWidth, fileRows, segmentWords}
 use Rattle.rules.specs.Limits.{files, places, entries, shareBytes, bufferBytes}
+use Rattle.memory.specs.Memories.{Memories, memories}
 
 -- the bytes of the n words w 0, w 1, ..
 unfoldable pub table : ℕ → (ℕ → ℕ) → List ℕ
@@ -32,3 +33,6 @@ freshBlocks = zeros (shareBytes * files)
 
 unfoldable pub freshBuffers : List ℕ
 freshBuffers = zeros (places * bufferBytes * files)
+
+abbrev pub freshMemories : Memories
+freshMemories = memories freshSegment freshBlocks freshBuffers

@@ -8,6 +8,7 @@ use lib.ListN.{length, replicate}
 use Rattle.occurrences.specs.Count.{bit}
 use Rattle.segment.specs.Layout.{readQueues, writeQueues, replyPorts, listCount, dataWords, fileWidth, placeWidth, rowCount}
 use Rattle.segment.specs.Layout as layout
+use Rattle.segment.specs.Fields.{spared}
 use Rattle.rules.specs.Limits.{files, places}
 use Rattle.rules.specs.State.{Req, idle, reading, writing, readDone, writeDone, Acc, Timer, File, unbuilt, built}
 use Rattle.rules.specs.Requests.{accAt}
@@ -41,9 +42,12 @@ unfoldable pub fileWords : File → List ℕ
 fileWords unbuilt = replicate fileWidth 0
 fileWords (built b) = b .geo .words ∷ b .geo .factor ∷ b .geo .blocks ∷ b .store .block ∷ b .store .spent ∷ length (b .store .recs) ∷ 0 ∷ 0 ∷ []
 
+abbrev pub accWords : Acc → List ℕ
+accWords a = (1 + bit (a .writer)) ∷ a .ident ∷ a .sharing ∷ a .timeout ∷ bit (a .extended) ∷ bit (a .typed) ∷ bit (a .keep) ∷ bit (a .first) ∷ []
+
 unfoldable pub placeWords : Option Acc → List ℕ
 placeWords none = replicate placeWidth 0
-placeWords (some a) = (1 + bit (a .writer)) ∷ a .ident ∷ a .sharing ∷ a .timeout ∷ bit (a .extended) ∷ bit (a .typed) ∷ bit (a .keep) ∷ bit (a .first) ∷ []
+placeWords (some a) = spared (accWords a)
 
 unfoldable pub rowOf : Desk → ℕ → List ℕ
 rowOf d i = cond (ltb i files) (fileWords (fileOf d i)) (placeWords (placeAcc d (i - files)))

@@ -1,3 +1,4 @@
+pub mod Memories
 pub mod Image
 pub mod Stands
 pub mod Covers

@@ -11,6 +11,7 @@ use Rattle.rules.specs.State.{File, unbuilt, built}
 use Rattle.rules.specs.Desk.{Desk, fileOf}
 use Rattle.rules.specs.Memories.{fileBuffers}
 use Rattle.rules.specs.Allocation.{Alloc}
+use Rattle.memory.specs.Memories.{Memories}
 use Rattle.memory.specs.Image.{listOf, boxOf, rowOf}
 use Rattle.words.specs.Word.{Bytes}
 
@@ -38,14 +39,14 @@ unfoldable pub FileBytes : File → List ℕ → List ℕ → Type 0
 FileBytes unbuilt share buffers = Unit {0}
 FileBytes (built b) share buffers = (share ≡ b .store .share) × (buffers ≡ fileBuffers (b .accs))
 
-pub record Bodies (blocks buffers : List ℕ) (d : Desk) : Type 0 where
-  pub blocks-bytes : Bytes blocks
-  pub buffers-bytes : Bytes buffers
-  pub blocks-size : length blocks ≡ shareBytes * files
-  pub buffers-size : length buffers ≡ places * bufferBytes * files
-  pub each : (f : ℕ) → f < files → FileBytes (fileOf d f) (shareAt f blocks) (buffersAt f buffers)
+pub record Bodies (m : Memories) (d : Desk) : Type 0 where
+  pub blocks-bytes : Bytes (m .blocks)
+  pub buffers-bytes : Bytes (m .buffers)
+  pub blocks-size : length (m .blocks) ≡ shareBytes * files
+  pub buffers-size : length (m .buffers) ≡ places * bufferBytes * files
+  pub each : (f : ℕ) → f < files → FileBytes (fileOf d f) (shareAt f (m .blocks)) (buffersAt f (m .buffers))
 
--- the three memories together
-pub record Stands (seg blocks buffers : List ℕ) (d : Desk) (s : Alloc) : Type 0 where
-  pub segment : Segment seg d s
-  pub bodies : Bodies blocks buffers d
+-- the memories together
+pub record Stands (m : Memories) (d : Desk) (s : Alloc) : Type 0 where
+  pub segment : Segment (m .segment) d s
+  pub bodies : Bodies m d

@@ -9,7 +9,7 @@ use lib.Seq.{getD-set-same, getD-set-other}
 use Rattle.segment.specs.Layout.{rowCount, fileRow, placeRow, segmentBytes, fileWidth, placeWidth, fileRowAt, placeRowAt}
 use Rattle.segment.proofs.Apart.{row-file, words-place}
 use Rattle.segment.specs.Table.{row, fill}
-use Rattle.segment.specs.Fields.{placeWords, fileRowOf, placeRowOf, fileAt, placeAt}
+use Rattle.segment.specs.Fields.{fileRowOf, placeRowOf, fileAt, placeAt}
 use Rattle.ports.proofs.Contents.{fill-boxes}
 use Rattle.rules.specs.Limits.{files, places}
 use Rattle.rules.specs.State.{Hap, Built, File, unbuilt, built}
@@ -26,6 +26,7 @@ use Rattle.laws.specs.Midst as laws
 use Rattle.laws.specs.EightFiles.{EightFiles}
 use Rattle.laws.proofs.Happenings.{matches-now}
 use Rattle.laws.proofs.EightFiles.{file-here, file-other, file-same, files-same}
+use Rattle.memory.specs.Memories.{Memories, memories}
 use Rattle.memory.specs.Image.{accOf, placeAcc, fileWords, rowOf, rqOf, wqOf, listsOf, boxesOf, rowsOf}
 use Rattle.memory.specs.Image as image
 use Rattle.memory.specs.Stands.{Segment, FileBytes, Bodies, Stands, shareAt, buffersAt}
@@ -39,7 +40,7 @@ use Rattle.memory.proofs.Frames.{bodies-file}
 use Rattle.midst.specs.declared.File as hand
 use Rattle.midst.specs.File.{fileOfRow, fileRowWords, inHand}
 use Rattle.midst.specs.Seg.{Seg}
-use Rattle.midst.specs.Mid.{Start, Mid}
+use Rattle.midst.specs.Mid.{Start, Mid, start}
 use Rattle.midst.proofs.Alike.{Alike, lists-alike, boxes-alike}
 use Rattle.midst.proofs.Rows.{place-below}
 
@@ -64,29 +65,29 @@ file-row : (xs : List ℕ) (f : ℕ) (b : Built) → row xs (fileRowAt f) fileWi
 unfolding fileAt fileRowOf fileWords
 file-row xs f b e = ap (λ r. fileOfRow (fileRowOf r)) e
 
-module _ {xs blocks buffers : List ℕ} {d : Desk} {s : Alloc} (S : StandsFor xs blocks buffers d s) where
-  pub stands-seg : (f : ℕ) → Seg xs d s (fileRow f)
+module _ {m : Memories} {d : Desk} {s : Alloc} (S : StandsFor m d s) where
+  pub stands-seg : (f : ℕ) → Seg (m .segment) d s (fileRow f)
   stands-seg f = record {
     rows = rowsOf d;
-    boxes = segment-boxes d s xs (agreed-once d s (S .agreed) (λ g k. fine-agree (fileOf d g) (S .fine g k))) (S .stands .segment);
+    boxes = segment-boxes d s (m .segment) (agreed-once d s (S .agreed) (λ g k. fine-agree (fileOf d g) (S .fine g k))) (S .stands .segment);
     same = λ i k _. getD-rowsOf d s i k;
   }
 
   pub mid-begin : (f : ℕ) (b : Built) → f < files → fileOf d f ≡ built b
-      → Mid Fine f (record { desk = d; alloc = s; blocks = blocks; buffers = buffers }) xs blocks buffers (fileOfRow (fileAt xs f)) b
+      → Mid Fine f (start d s m) m (fileOfRow (fileAt (m .segment) f)) b
   unfolding OnFile accsOf timersOf FileBytes
   mid-begin f b h e =
       let own : OnFile Fine (built b) = rw e at (S .fine f h) in
       let calm : Calm (built b) = rw e at (S .agreed .calm f h) in
       let M : Matches f s s (accsOf (built b)) (timersOf (built b)) = rw e at (matches-now f s _ _ (S .agreed .agrees f h) (S .agreed .whole) (S .agreed .clock)) in
-      let bytes : FileBytes (built b) (shareAt f blocks) (buffersAt f buffers) = rw e at (S .stands .bodies .each f h) in
+      let bytes : FileBytes (built b) (shareAt f (m .blocks)) (buffersAt f (m .buffers)) = rw e at (S .stands .bodies .each f h) in
       record {
         file = h;
         eight = S .agreed .eight;
         good = own;
         allots = begin-mid f s b calm M;
-        segment = begin-seg xs d _ s f (b .past) (file-here d f (built b) e) calm (stands-seg f);
-        row = file-row xs f b (segment-file (S .stands .segment) f h ∙ ap fileWords e);
+        segment = begin-seg (m .segment) d _ s f (b .past) (file-here d f (built b) e) calm (stands-seg f);
+        row = file-row (m .segment) f b (segment-file (S .stands .segment) f h ∙ ap fileWords e);
         share = bytes .0;
         buffer = bytes .1;
         blocks-size = S .stands .bodies .blocks-size;
@@ -94,33 +95,32 @@ module _ {xs blocks buffers : List ℕ} {d : Desk} {s : Alloc} (S : StandsFor xs
         apart = record { shares = λ g k n. refl; others = λ g k n. refl };
       }
 
+-- the row of its file holds it
+pub stands-row : {m : Memories} {d : Desk} {s : Alloc} → StandsFor m d s → (f : ℕ) (b : Built) → f < files → fileOf d f ≡ built b
+    → row (m .segment) (fileRowAt f) fileWidth ≡ fileRowWords (inHand b)
+unfolding fileWords fileRowWords
+stands-row S f b h e = segment-file (S .stands .segment) f h ∙ ap fileWords e
+
 -- what stands at a place
 
-row-words : (xs : List ℕ) (i : ℕ) → placeWords (placeAt xs i) ≡ row xs (placeRowAt i) placeWidth
-unfolding placeWords placeAt placeRowOf row
-row-words xs i = refl
-
-module _ {I : Built → Type 0} {f : ℕ} {o : Start} {xs blocks buffers : List ℕ} {x : hand.File} {b : Built} (M : Mid I f o xs blocks buffers x b) where
-  pub mid-lengths : length xs ≡ segmentBytes
+module _ {I : Built → Type 0} {f : ℕ} {o : Start} {m : Memories} {x : hand.File} {b : Built} (M : Mid I f o m x b) where
+  pub mid-lengths : length (m .segment) ≡ segmentBytes
   mid-lengths = M .segment .boxes .lists .size
 
   pub mid-file : fileOf (withFile (o .desk) f (built b)) f ≡ built b
   mid-file = file-same (o .desk) f (built b) (M .eight) (M .file)
 
-  pub mid-row : (p : ℕ) → p < places → row xs (placeRowAt (placeOf f p)) placeWidth ≡ image.placeWords (accAt b p)
+  pub mid-row : (p : ℕ) → p < places → row (m .segment) (placeRowAt (placeOf f p)) placeWidth ≡ image.placeWords (accAt b p)
   unfolding accOf
   mid-row p k =
-      sym (words-place xs (placeOf f p)) ∙ M .segment .boxes .rows (placeRow (placeOf f p)) (place-below f p (M .file) k)
+      sym (words-place (m .segment) (placeOf f p)) ∙ M .segment .boxes .rows (placeRow (placeOf f p)) (place-below f p (M .file) k)
       ∙ M .segment .same (placeRow (placeOf f p)) (place-below f p (M .file) k) (λ e. unfold placeOf in omega (arith, e, M .file))
       ∙ rowOf-acc (withFile (o .desk) f (built b)) f p k ∙ ap (λ z. image.placeWords (accOf z p)) mid-file
 
-  pub mid-open : (p : ℕ) → p < places → placeWords (placeAt xs (placeOf f p)) ≡ image.placeWords (accAt b p)
-  mid-open p k = row-words xs (placeOf f p) ∙ mid-row p k
-
   -- the same as a row
-  pub mid-place : (p : ℕ) → p < places → placeAt xs (placeOf f p) ≡ placeRowOf (image.placeWords (accAt b p))
-  unfolding placeWords placeRowOf
-  mid-place p k = ap placeRowOf (mid-open p k)
+  pub mid-place : (p : ℕ) → p < places → placeAt (m .segment) (placeOf f p) ≡ placeRowOf (image.placeWords (accAt b p))
+  unfolding placeAt
+  mid-place p k = ap placeRowOf (mid-row p k)
 
 -- it ends
 
@@ -167,18 +167,18 @@ seg-end xs d f x y t words hf eight E accs S n e bytes =
         ∙ sym (rowOf-file (withFile d f y) f hf ∙ ap fileWords (file-same d f y eight hf)))
     go i h (no u) = getD-set-other (S .rows) f i words [] u ∙ S .same i h u ∙ rows-same d f x y accs i h u
 
-module _ {I : Built → Type 0} {f : ℕ} {o : Start} {xs blocks buffers : List ℕ} {x : hand.File} {b : Built} (M : Mid I f o xs blocks buffers x b) where
-  end-segment : Bytes (fill xs (fileRowAt f) (fileRowWords x))
-      → Segment (fill xs (fileRowAt f) (fileRowWords x)) (withFile (o .desk) f (built (hushed b))) (allotAll f (b .past) (o .alloc))
+module _ {I : Built → Type 0} {f : ℕ} {o : Start} {m : Memories} {x : hand.File} {b : Built} (M : Mid I f o m x b) where
+  end-segment : Bytes (fill (m .segment) (fileRowAt f) (fileRowWords x))
+      → Segment (fill (m .segment) (fileRowAt f) (fileRowWords x)) (withFile (o .desk) f (built (hushed b))) (allotAll f (b .past) (o .alloc))
   end-segment bytes =
-      seg-end xs (o .desk) f (built b) (built (hushed b)) (allotAll f (b .past) (o .alloc)) (fileRowWords x) (M .file) (M .eight) (hushed-alike b) (hushed-acc b) (M .segment)
+      seg-end (m .segment) (o .desk) f (built b) (built (hushed b)) (allotAll f (b .past) (o .alloc)) (fileRowWords x) (M .file) (M .eight) (hushed-alike b) (hushed-acc b) (M .segment)
       (unfold fileRowWords in refl) (hand-words x b (M .row)) bytes
 
-  pub mid-end : Bodies (o .blocks) (o .buffers) (o .desk) → Bytes (fill xs (fileRowAt f) (fileRowWords x)) → Bytes blocks → Bytes buffers
-      → Stands (fill xs (fileRowAt f) (fileRowWords x)) blocks buffers (withFile (o .desk) f (built (hushed b))) (allotAll f (b .past) (o .alloc))
+  pub mid-end : Bodies (o .memories) (o .desk) → Bytes (fill (m .segment) (fileRowAt f) (fileRowWords x)) → Bytes (m .blocks) → Bytes (m .buffers)
+      → Stands (memories (fill (m .segment) (fileRowAt f) (fileRowWords x)) (m .blocks) (m .buffers)) (withFile (o .desk) f (built (hushed b))) (allotAll f (b .past) (o .alloc))
   mid-end B bytes blocks-bytes buffers-bytes = record {
     segment = end-segment bytes;
-    bodies = bodies-file (o .desk) (o .blocks) (o .buffers) blocks buffers f (built (hushed b)) B (M .eight) (M .file) blocks-bytes buffers-bytes
+    bodies = bodies-file (o .desk) (o .memories) _ f (built (hushed b)) B (M .eight) (M .file) blocks-bytes buffers-bytes
         (M .blocks-size ∙ sym (B .blocks-size)) (M .buffers-size ∙ sym (B .buffers-size))
         (λ g h n. (M .apart .shares g h n, M .apart .others g h n)) (hushed-bytes b _ _ (M .share) (M .buffer));
   }

@@ -24,11 +24,12 @@ use Rattle.laws.proofs.Bounds.{length-buffer}
 use Rattle.buffers.specs.Buffer.{filled}
 use Rattle.buffers.proofs.Filled.{length-filled}
 use Rattle.ring.specs.Ring.{ringOf}
+use Rattle.memory.specs.Memories.{Memories, memories}
 use Rattle.memory.specs.Stands.{buffersAt}
 use Rattle.memory.specs.Fine.{Fine, StandsFor}
 use Rattle.midst.specs.declared.File as hand
 use Rattle.midst.specs.Seg.{Seg}
-use Rattle.midst.specs.Mid.{Start, Mid}
+use Rattle.midst.specs.Mid.{Start, Mid, start}
 use Rattle.midst.proofs.Lists.{Low}
 use Rattle.midst.proofs.Lows.{agreed-low}
 use Rattle.midst.proofs.Begins.{fine-agree}
@@ -47,8 +48,8 @@ fine-knows = record { agree = λ b h. h .queues; bounds = λ b h. h .bounds; wor
 abbrev pub Rest : ℕ → Start → Type 0
 Rest f o = (g : ℕ) → g < files → (g ≡ f → ⊥) → Low (fileOf (o .desk) g)
 
-pub stands-rest : {xs blocks buffers : List ℕ} {d : Desk} {s : Alloc} → StandsFor xs blocks buffers d s → (f : ℕ)
-    → Rest f (record { desk = d; alloc = s; blocks = blocks; buffers = buffers })
+pub stands-rest : {m : Memories} {d : Desk} {s : Alloc} → StandsFor m d s → (f : ℕ)
+    → Rest f (start d s m)
 stands-rest {d = d} {s = s} S f g h n = agreed-low d s (S .agreed) (λ g k. fine-agree (fileOf d g) (S .fine g k)) g h
 
 -- c is b, its request at p q now, but for queues, timers and what has happened
@@ -82,21 +83,21 @@ pub clear : {f p : ℕ} {r q : Req} {ys ys′ : List ℕ} → lies q ≡ [] → 
 clear {f} {p} {r} {q} {ys} {ys′} e h = put (h ∙ ap (λ v. sets ys (bufferBytes * placeOf f p) v) (zeros-filled ∙ ap filled (sym e)))
 
 -- an accessor stands at one of the eight places
-pub mid-below : {I : Built → Type 0} {f : ℕ} {o : Start} {xs blocks buffers : List ℕ} {x : hand.File} {b : Built} → Mid I f o xs blocks buffers x b
+pub mid-below : {I : Built → Type 0} {f : ℕ} {o : Start} {m : Memories} {x : hand.File} {b : Built} → Mid I f o m x b
     → (p : ℕ) (a : Acc) → accAt b p ≡ some a → p < places
 unfolding accAt
 mid-below {b = b} M p a e = open-below (b .accs) p a (M .allots .matches .agrees .eight) e
 
-module _ {I : Built → Type 0} {f : ℕ} {o : Start} {xs blocks buffers : List ℕ} {x : hand.File} {b : Built} (K : Knows I) (M : Mid I f o xs blocks buffers x b)
+module _ {I : Built → Type 0} {f : ℕ} {o : Start} {m : Memories} {x : hand.File} {b : Built} (K : Knows I) (M : Mid I f o m x b)
     (p : ℕ) (a : Acc) (e : accAt b p ≡ some a) where
-  -- each buffer has its 260 bytes
+  -- each buffer has its length
   mid-long : (y : ℕ) → y < places → length (buffer (getD (b .accs) y none)) ≡ bufferBytes
   mid-long y k = length-buffer (b .geo .words) (getD (b .accs) y none) (K .words b (M .good)) (K .bounds b (M .good) y)
 
   module _ {J : Built → Type 0} (q : Req) (c : Built) (A : Asks p q b c) (fits : length (lies q) ≤ bufferBytes) (good : J c) (allots : laws.Mid f (o .alloc) c) where
-    -- the two ways of the buffers
-    pub mid-req : (xs′ buffers′ : List ℕ) → Seg xs′ (withFile (o .desk) f (built c)) (allotAll f (c .past) (o .alloc)) (fileRow f) → Laid f p (a .req) q buffers buffers′
-        → Mid J f o xs′ blocks buffers′ x c
+    -- the two ways of the (m .buffers)
+    pub mid-req : (xs′ buffers′ : List ℕ) → Seg xs′ (withFile (o .desk) f (built c)) (allotAll f (c .past) (o .alloc)) (fileRow f) → Laid f p (a .req) q (m .buffers) buffers′
+        → Mid J f o (memories xs′ (m .blocks) buffers′) x c
     mid-req xs′ buffers′ S L = record {
       file = M .file;
       eight = M .eight;
@@ -111,14 +112,14 @@ module _ {I : Built → Type 0} {f : ℕ} {o : Start} {xs blocks buffers : List 
       apart = record { shares = M .apart .shares; others = λ g h n. others L g n ∙ M .apart .others g h n };
     }
       where
-        own : Laid f p (a .req) q buffers buffers′ → buffersAt f buffers′ ≡ fileBuffers (alter (withReq q) (b .accs) p)
-        own (put u) = rw u (buffers-req f p buffers (b .accs) a q (M .file) (mid-below M p a e) (unfold accAt in e) (M .allots .matches .agrees .eight) (M .buffers-size) mid-long (M .buffer) fits)
+        own : Laid f p (a .req) q (m .buffers) buffers′ → buffersAt f buffers′ ≡ fileBuffers (alter (withReq q) (b .accs) p)
+        own (put u) = rw u (buffers-req f p (m .buffers) (b .accs) a q (M .file) (mid-below M p a e) (unfold accAt in e) (M .allots .matches .agrees .eight) (M .buffers-size) mid-long (M .buffer) fits)
         own (keep u v) = rw u (M .buffer ∙ sym (buffers-keep (b .accs) p a q (unfold accAt in e) v))
 
-        long : Laid f p (a .req) q buffers buffers′ → length buffers′ ≡ places * bufferBytes * files
-        long (put u) = rw u (length-put f p buffers (filled (lies q)) (M .file) (mid-below M p a e) (omega (arith, length-filled (lies q) fits)) ∙ M .buffers-size)
+        long : Laid f p (a .req) q (m .buffers) buffers′ → length buffers′ ≡ places * bufferBytes * files
+        long (put u) = rw u (length-put f p (m .buffers) (filled (lies q)) (M .file) (mid-below M p a e) (omega (arith, length-filled (lies q) fits)) ∙ M .buffers-size)
         long (keep u v) = rw u (M .buffers-size)
 
-        others : Laid f p (a .req) q buffers buffers′ → (g : ℕ) → (g ≡ f → ⊥) → buffersAt g buffers′ ≡ buffersAt g buffers
-        others (put u) g n = rw u (buffers-apart f p buffers (filled (lies q)) (M .file) (mid-below M p a e) (omega (arith, length-filled (lies q) fits)) g n)
+        others : Laid f p (a .req) q (m .buffers) buffers′ → (g : ℕ) → (g ≡ f → ⊥) → buffersAt g buffers′ ≡ buffersAt g (m .buffers)
+        others (put u) g n = rw u (buffers-apart f p (m .buffers) (filled (lies q)) (M .file) (mid-below M p a e) (omega (arith, length-filled (lies q) fits)) g n)
         others (keep u v) g n = rw u

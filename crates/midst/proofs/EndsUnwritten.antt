@@ -14,7 +14,7 @@ use Rattle.segment.specs.Layout.{rowCount, fileWidth, fileRowAt, placeRowAt}
 use Rattle.segment.proofs.Apart.{words-file}
 use Rattle.segment.specs.Table.{nth, putNth, row, fill}
 use Rattle.segment.proofs.Rows.{row-other}
-use Rattle.requests.specs.Moves.{cancelled}
+use Rattle.requests.specs.Moves.{slotOf, cancelled}
 use Rattle.rules.specs.Limits.{files}
 use Rattle.rules.specs.State.{idle, Acc, Built, built}
 use Rattle.rules.specs.Requests.{accAt, withAccs, withQueues, withTimers, alterAcc, say, requeue, leave, cancel}
@@ -24,6 +24,7 @@ use Rattle.rules.specs.Allocation.{placeOf, allotAll}
 use Rattle.laws.specs.EightFiles.{EightFiles}
 use Rattle.laws.proofs.Outstanding.{outstanding-most}
 use Rattle.laws.proofs.EightFiles.{eight-put, file-same}
+use Rattle.memory.specs.Memories.{Memories, memories}
 use Rattle.memory.specs.Image.{fileWords, rowOf}
 use Rattle.memory.specs.Stands.{Bodies, Stands}
 use Rattle.memory.proofs.Image.{rowOf-file}
@@ -64,20 +65,20 @@ hand-words : (x : hand.File) (b : Built) → x ≡ inHand b → fileRowWords x �
 unfolding fileRowWords fileWords
 hand-words x b e = rw e
 
-module _ {I : Built → Type 0} {f : ℕ} {o : Start} {xs blocks buffers : List ℕ} {x : hand.File} {b : Built} (M : Mid I f o xs blocks buffers x b) (e : Rowed xs f b) where
+module _ {I : Built → Type 0} {f : ℕ} {o : Start} {m : Memories} {x : hand.File} {b : Built} (M : Mid I f o m x b) (e : Rowed (m .segment) f b) where
   -- no row is in hand
-  whole : Seg xs (withFile (o .desk) f (built b)) (allotAll f (b .past) (o .alloc)) rowCount
+  whole : Seg (m .segment) (withFile (o .desk) f (built b)) (allotAll f (b .past) (o .alloc)) rowCount
   whole = record { rows = M .segment .rows; boxes = M .segment .boxes; same = λ i h _. go i h (ℕ-discrete i f) }
     where
       go : (i : ℕ) → i < rowCount → Dec (i ≡ f) → getD (M .segment .rows) i [] ≡ rowOf (withFile (o .desk) f (built b)) i
       go i h (yes z) =
-          rw z (sym (M .segment .boxes .rows f (omega (arith, M .file))) ∙ words-file xs f (M .file) ∙ e
+          rw z (sym (M .segment .boxes .rows f (omega (arith, M .file))) ∙ words-file (m .segment) f (M .file) ∙ e
           ∙ sym (rowOf-file (withFile (o .desk) f (built b)) f (M .file) ∙ ap fileWords (mid-file M)))
       go i h (no n) = M .segment .same i h n
 
   -- a waiting request is cancelled
   pub rowed-cancel : (K : Knows I) (p : ℕ) (a : Acc) → accAt b p ≡ some a → (side : Bool) → waitsAt side (a .req) ≡ 1
-      → Rowed (cancelled xs (queueAt side f) (placeOf f p)) f (cancel p b)
+      → Rowed (cancelled (m .segment) (slotOf (m .segment) (queueAt side f) (placeOf f p)) (placeOf f p)) f (cancel p b)
   unfolding cancel leave say withTimers requeue alterAcc withAccs withQueues fileWords
   rowed-cancel K p a k side w =
       let n : EightFiles (withFile (o .desk) f (built b)) = eight-put (o .desk) f (built b) (M .eight) in
@@ -85,15 +86,15 @@ module _ {I : Built → Type 0} {f : ℕ} {o : Start} {xs blocks buffers : List 
       placed-of f p _ b a _ (M .file) n (mid-file M) (K .agree b (M .good)) k (M .allots .matches .whole .long) (M .allots .matches .agrees)
       (omega (arith, waits-awaits side (a .req), outstanding-most (a .req)))
       in
-      let S = seg-cancel P side w whole idle (cancel p b) refl refl refl (λ _. refl) refl .1 in
-      sym (words-file (cancelled xs (queueAt side f) (placeOf f p)) f (M .file)) ∙ S .boxes .rows f (omega (arith, M .file)) ∙ S .same f (omega (arith, M .file)) (λ z. omega (arith, M .file)) ∙ rowOf-file _ f (M .file)
+      let S = seg-cancel P side w whole idle (cancel p b) refl refl refl (λ _. refl) refl in
+      sym (words-file (cancelled (m .segment) (slotOf (m .segment) (queueAt side f) (placeOf f p)) (placeOf f p)) f (M .file)) ∙ S .boxes .rows f (omega (arith, M .file)) ∙ S .same f (omega (arith, M .file)) (λ z. omega (arith, M .file)) ∙ rowOf-file _ f (M .file)
       ∙ ap fileWords (file-same (withFile (o .desk) f (built b)) f (built (cancel p b)) n (M .file))
 
-  pub mid-stay : Bodies (o .blocks) (o .buffers) (o .desk) → Bytes xs → Bytes blocks → Bytes buffers
-      → Stands xs blocks buffers (withFile (o .desk) f (built (hushed b))) (allotAll f (b .past) (o .alloc))
+  pub mid-stay : Bodies (o .memories) (o .desk) → Bytes (m .segment) → Bytes (m .blocks) → Bytes (m .buffers)
+      → Stands m (withFile (o .desk) f (built (hushed b))) (allotAll f (b .past) (o .alloc))
   mid-stay B bytes blocks-bytes buffers-bytes =
-      let same : fill xs (fileRowAt f) (fileRowWords x) ≡ xs =
-      ap (fill xs (fileRowAt f)) (hand-words x b (M .row) ∙ sym e) ∙ fill-back xs (fileRowAt f) fileWidth bytes
+      let same : fill (m .segment) (fileRowAt f) (fileRowWords x) ≡ (m .segment) =
+      ap (fill (m .segment) (fileRowAt f)) (hand-words x b (M .row) ∙ sym e) ∙ fill-back (m .segment) (fileRowAt f) fileWidth bytes
       in
-      subst (λ (ys : List ℕ). Stands ys blocks buffers (withFile (o .desk) f (built (hushed b))) (allotAll f (b .past) (o .alloc))) same
+      subst (λ (ys : List ℕ). Stands (memories ys (m .blocks) (m .buffers)) (withFile (o .desk) f (built (hushed b))) (allotAll f (b .past) (o .alloc))) same
       (mid-end M B (subst Bytes (sym same) bytes) blocks-bytes buffers-bytes)

@@ -215,24 +215,21 @@ module _ {f p : ℕ} {d : Desk} {b : Built} {a : Acc} {t : Alloc} (P : Placed f 
         )
 
     -- it is cancelled
-    pub seg-cancel : q ≡ idle → (entryOf xs (queueAt writer f) (placeOf f p) < entries)
-        × Seg (cancelled xs (queueAt writer f) (placeOf f p)) (withFile d f (built c)) (goesAt (placeOf f p) t) k
-    unfolding cancelled uncollected
+    pub seg-cancel : q ≡ idle → Seg (cancelled xs (slotOf xs (queueAt writer f) (placeOf f p)) (placeOf f p)) (withFile d f (built c)) (goesAt (placeOf f p) t) k
+    unfolding cancelled entryOf out uncollected
     seg-cancel z =
         let v : Alloc = goesAt i t in
         let w = left in
         let o = port-empty (endsAt i t) in
         let r : uncollected q ≡ 0 = ap uncollected z in
-        let m = port-none q i v r in (
-          rw (w .0) (w .1),
-          rw (w .0)
-              (leaves v (goes-other i t e kept) _ _ (released-boxed (w .2)) (
-                over-same freeList _ (lists (endsAt i t)) ∙ ap (_∷_ e) (left-free (listOf d t) l _ _ _ low high) ∙ sym (goes-free i t e kept),
-                over-same freeList _ (datas (endsAt i t)) ∙ ap (λ (y : List (List ℕ)). replicate dataWords 0 ∷ y) (left-free (boxOf d t) l _ _ _ low high) ∙ sym (ap blank (goes-free i t e kept)),
-              )
-              (sym (goes-timers i t e kept (λ y. omega (arith, P .holds))), sym (goes-clock i t e kept)) (
-                over-other freeList _ (lists (endsAt i t)) (replyPort i) (λ x. omega arith) ∙ o .0 ∙ sym (m .0),
-                over-other freeList _ (datas (endsAt i t)) (replyPort i) (λ x. omega arith) ∙ o .1 ∙ sym (m .1),
-              )
-              (λ j n _. (over-other freeList _ (lists (endsAt i t)) j n, over-other freeList _ (datas (endsAt i t)) j n))),
+        let m = port-none q i v r in
+        rw (w .0)
+        (leaves v (goes-other i t e kept) _ _ (released-boxed (w .2)) (
+          over-same freeList _ (lists (endsAt i t)) ∙ ap (_∷_ e) (left-free (listOf d t) l _ _ _ low high) ∙ sym (goes-free i t e kept),
+          over-same freeList _ (datas (endsAt i t)) ∙ ap (λ (y : List (List ℕ)). replicate dataWords 0 ∷ y) (left-free (boxOf d t) l _ _ _ low high) ∙ sym (ap blank (goes-free i t e kept)),
         )
+        (sym (goes-timers i t e kept (λ y. omega (arith, P .holds))), sym (goes-clock i t e kept)) (
+          over-other freeList _ (lists (endsAt i t)) (replyPort i) (λ x. omega arith) ∙ o .0 ∙ sym (m .0),
+          over-other freeList _ (datas (endsAt i t)) (replyPort i) (λ x. omega arith) ∙ o .1 ∙ sym (m .1),
+        )
+        (λ j n _. (over-other freeList _ (lists (endsAt i t)) j n, over-other freeList _ (datas (endsAt i t)) j n)))

@@ -15,6 +15,7 @@ use Rattle.segment.specs.Fields.{fileRowOf, fileAt}
 use Rattle.ring.specs.Held.{Held}
 use Rattle.blocks.specs.Memory as memory
 use Rattle.ring.proofs.Stores.{fitted}
+use Rattle.memory.specs.Memories.{Memories}
 use Rattle.memory.specs.Image.{fileWords}
 use Rattle.memory.specs.Stands.{FileBytes, shareAt}
 use Rattle.memory.specs.Fine.{Fine, StandsFor}
@@ -33,13 +34,13 @@ unfolding FileBytes
 bytes-of x b ys zs e h = let k : FileBytes (built b) ys zs = rw e at h in k .0
 
 -- the memories stand for a desk whose file f is b
-module _ {xs blocks buffers : List ℕ} {d : Desk} {s : Alloc} (S : StandsFor xs blocks buffers d s) (f : ℕ) (l : f < files) (b : Built) (e : fileOf d f ≡ built b) where
+module _ {m : Memories} {d : Desk} {s : Alloc} (S : StandsFor m d s) (f : ℕ) (l : f < files) (b : Built) (e : fileOf d f ≡ built b) where
   -- the row, as the code has it
-  pub row-is : fileOfRow (fileAt xs f) ≡ inHand b
+  pub row-is : fileOfRow (fileAt (m .segment) f) ≡ inHand b
   unfolding fileAt fileRowOf fileWords
   row-is = ap (λ (r : List ℕ). fileOfRow (fileRowOf r)) (shown S f l b e .file)
 
-  pub share-is : memory.shareAt f blocks ≡ b .store .share
+  pub share-is : memory.shareAt f (m .blocks) ≡ b .store .share
   unfolding shareAt
   share-is = bytes-of (fileOf d f) b _ _ e (S .stands .bodies .each f l)
 
@@ -47,12 +48,12 @@ module _ {xs blocks buffers : List ℕ} {d : Desk} {s : Alloc} (S : StandsFor xs
   room = fine-of (fileOf d f) b e (S .fine f l) .room
 
   -- the ring and the share hold its store
-  pub held-file : (x : hand.File) (ys : List ℕ) → x ≡ fileOfRow (fileAt xs f) → ys ≡ memory.shareAt f blocks → Held (x .words) (x .ring) ys
+  pub held-file : (x : hand.File) (ys : List ℕ) → x ≡ fileOfRow (fileAt (m .segment) f) → ys ≡ memory.shareAt f (m .blocks) → Held (x .words) (x .ring) ys
   held-file x ys h k =
       let z = good-sized (b .geo) (room .geo) in
       rw (h ∙ row-is, k ∙ share-is)
       (record { fitted = fitted (b .geo) (b .store) (room .geo .words-high) (room .geo .factor-high) z; store = b .store; holds = room .holds; ring = refl; share = refl })
 
 -- a call of the file that is not refused
-pub accepted-stands : {K : Built → Out → Type 0} {xs blocks buffers : List ℕ} {d : Desk} {s : Alloc} (f : ℕ) (q : Ask) → StandsFor xs blocks buffers d s → Accepted K d f q → FileStands xs blocks f
-accepted-stands {buffers = buffers} {d = d} {s = s} f q S a = record { file = a .file; buffers = buffers; d = d; s = s; b = a .b; stands = S; is = a .stands }
+pub accepted-stands : {K : Built → Out → Type 0} {m : Memories} {d : Desk} {s : Alloc} (f : ℕ) (q : Ask) → StandsFor m d s → Accepted K d f q → FileStands (m .segment) (m .blocks) f
+accepted-stands {m = m} {d = d} {s = s} f q S a = record { file = a .file; buffers = m .buffers; d = d; s = s; b = a .b; stands = S; is = a .stands }

@@ -20,6 +20,7 @@ use Rattle.segment.specs.Layout.{listCount}
 use Rattle.segment.specs.Table.{nth, dataOf}
 use Rattle.ports.proofs.Boxes.{slot-box, data-box}
 use Rattle.ports.proofs.Moves.{none-boxes}
+use Rattle.memory.specs.Memories.{Memories}
 use Rattle.memory.specs.Image.{reqWords, listsOf, boxesOf}
 use Rattle.memory.proofs.Boxes.{getD-listsOf, getD-boxesOf}
 use Rattle.midst.specs.declared.File as hand
@@ -73,7 +74,7 @@ writes-at b p rest A e = go (getD (b .accs) p none) refl
     go (some a) u = ask (some a) a (a .req) u refl refl
 
 -- what the head and its entry say
-module _ {I : Built → Type 0} {f : ℕ} {o : Start} {xs blocks buffers : List ℕ} {x : hand.File} {b : Built} (M : Mid I f o xs blocks buffers x b) (w : Bool) where
+module _ {I : Built → Type 0} {f : ℕ} {o : Start} {m : Memories} {x : hand.File} {b : Built} (M : Mid I f o m x b) (w : Bool) where
   abbrev d : Desk
   d = withFile (o .desk) f (built b)
 
@@ -92,11 +93,11 @@ module _ {I : Built → Type 0} {f : ℕ} {o : Start} {xs blocks buffers : List 
   boxes-hold : getD (boxesOf d t) l [] ≡ wordsIn f b (sideQueue w b)
   boxes-hold = getD-boxesOf d t l h ∙ box-side d t f (M .file) b (mid-file M) w
 
-  pub head-none : sideQueue w b ≡ [] → entries ≤ nth xs (queueAt w f)
+  pub head-none : sideQueue w b ≡ [] → entries ≤ nth (m .segment) (queueAt w f)
   head-none e = omega (arith, none-boxes (M .segment .boxes) l h (entries-are ∙ ap (entriesIn f t) e) .0)
 
   pub head-some : (p : ℕ) (rest : List ℕ) → sideQueue w b ≡ p ∷ rest
-      → (nth xs (queueAt w f) < entries) × (dataOf xs (nth xs (queueAt w f)) ≡ reqWords (placeOf f p) (reqOf (accAt b p)))
+      → (nth (m .segment) (queueAt w f) < entries) × (dataOf (m .segment) (nth (m .segment) (queueAt w f)) ≡ reqWords (placeOf f p) (reqOf (accAt b p)))
   head-some p rest e =
       let k : 0 < length (getD (listsOf d t) l []) = rw (entries-are, e) (omega arith) in
       let s = slot-box (M .segment .boxes) l h 0 k in

@@ -21,7 +21,7 @@ use Rattle.ports.proofs.Boxes.{append-boxes}
 use Rattle.ports.proofs.Moves.{taken-boxes, placed-boxes}
 use Rattle.requests.specs.Moves.{timer, armed, queued}
 use Rattle.rules.specs.Limits.{entries}
-use Rattle.rules.specs.State.{Req, idle, reading, writing, readDone, writeDone, Timer, Built, built}
+use Rattle.rules.specs.State.{Req, Timer, Built, built}
 use Rattle.rules.specs.Requests.{accAt, armIn}
 use Rattle.rules.specs.Desk.{Desk, withFile}
 use Rattle.rules.specs.Allocation.{own, timed, Alloc, placeOf, heldAt, noEntry, front, holds, withClock, takeOwn, takeTimer, ownEntry, timerEntry}
@@ -34,6 +34,7 @@ use Rattle.memory.proofs.Image.{listOf-free, listOf-timers, boxOf-free, boxOf-t
 use Rattle.memory.proofs.Boxes.{getD-listsOf, getD-boxesOf}
 use Rattle.midst.specs.Seg.{Seg, queueAt, sideQueue}
 use Rattle.midst.proofs.Lists.{At, at-set, seg-again, entriesIn, wordsIn, below-side, list-side, box-side}
+use Rattle.midst.proofs.Terms.{length-words}
 use Rattle.midst.proofs.OnePlace.{Change, is-now, same-queue, same-entries, same-words, same-port, same-timers, keep-queue, keep-port, timers-held, at-rest, same-rows}
 
 -- an entry is taken
@@ -62,14 +63,6 @@ module _ {xs : List ℕ} {d : Desk} {t : Alloc} {k : ℕ} (S : Seg xs d t k) (ro
 -- while an entry is free the free list leads to one
 pub seg-free : {xs : List ℕ} {d : Desk} {t : Alloc} {k : ℕ} → Seg xs d t k → 1 ≤ length (t .free) → nth xs freeList < entries
 seg-free S room = let w = seg-taken S room (replicate dataWords 0) refl in rw (w .0) (w .1)
-
-req-long : (i : ℕ) (q : Req) → length (reqWords i q) ≡ dataWords
-unfolding reqWords
-req-long i idle = refl
-req-long i (reading q) = refl
-req-long i (writing q) = refl
-req-long i (readDone q) = refl
-req-long i (writeDone q) = refl
 
 -- the free list behind it
 module _ (d e : Desk) (t u : Alloc) (x : u .free ≡ drop 1 (t .free)) where
@@ -141,7 +134,7 @@ module _ {f p : ℕ} {d : Desk} {t : Alloc} {b c : Built} (C : Change f p d t (t
       → placeWords (accAt c p) ≡ placeWords (accAt b p) → Seg xs d t k → Seg (queued xs (queueAt w f) (reqWords i q)) e u k
   unfolding queued
   seg-queue {xs} k room fw pw S =
-      let T = seg-taken S room (reqWords i q) (req-long i q) in
+      let T = seg-taken S room (reqWords i q) (length-words i q) in
       rw (T .0) (seg-again S e u (append-boxes (T .2) l (below-side w f (C .file))) (each-list (S .boxes) (T .2)) (same-rows C k fw (λ _. pw)))
 
 -- a timer goes in front of the first that has more left

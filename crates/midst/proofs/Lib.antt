@@ -2,6 +2,7 @@ pub mod Alike
 pub mod Begins
 pub mod Fills
 pub mod Rows
+pub mod Own
 pub mod Lists
 pub mod OnePlace
 pub mod Lows
@@ -15,7 +16,6 @@ pub mod Terms
 pub mod Placed
 pub mod EntryLeaves
 pub mod Collects
-pub mod RequestEnds
 pub mod Changes
 pub mod Requests
 pub mod Walks

@@ -10,8 +10,9 @@ use lib.Seq.{getD-set-same, getD-set-other, ext-getD}
 use Rattle.occurrences.specs.Count.{count}
 use Rattle.segment.specs.Layout.{listCount, rowCount}
 use Rattle.ports.specs.Lists.{Boxes}
+use Rattle.ports.proofs.Maps.{map-in}
 use Rattle.rules.specs.Limits.{files, places}
-use Rattle.rules.specs.State.{Req, idle, reading, writing, readDone, writeDone, Built, File, built}
+use Rattle.rules.specs.State.{Req, idle, reading, writing, readDone, writeDone, Built, File, unbuilt, built}
 use Rattle.rules.specs.Requests.{accAt}
 use Rattle.rules.specs.Desk.{Desk, fileOf}
 use Rattle.rules.specs.Allocation.{Alloc, placeOf, heldAt, ownEntry, queueOf, portOf}
@@ -95,3 +96,20 @@ port-none (reading q) i t e = (refl, refl)
 port-none (writing q) i t e = (refl, refl)
 port-none (readDone q) i t e = absurd (omega arith)
 port-none (writeDone q) i t e = absurd (omega arith)
+
+-- a queue, and a reply port, where all members hold what they held
+
+pub queue-held : (t u : Alloc) (q : Built → List ℕ) (g : ℕ) (y : File)
+    → ((b : Built) → y ≡ built b → (x : ℕ) → 1 ≤ count x (q b) → heldAt u (placeOf g x) ≡ heldAt t (placeOf g x)) → queueOf q g y u ≡ queueOf q g y t
+unfolding queueOf
+queue-held t u q g unbuilt h = refl
+queue-held t u q g (built b) h =
+    map-in (λ x. ownEntry (heldAt u (placeOf g x))) (λ x. ownEntry (heldAt t (placeOf g x))) (q b) (λ x k. ap ownEntry (h b refl x k))
+
+pub port-held : (t u : Alloc) (j : ℕ) (q : Req) → ownEntry (heldAt u j) ≡ ownEntry (heldAt t j) → portOf q j u ≡ portOf q j t
+unfolding portOf
+port-held t u j idle e = refl
+port-held t u j (reading q) e = refl
+port-held t u j (writing q) e = refl
+port-held t u j (readDone q) e = rw e
+port-held t u j (writeDone q) e = rw e

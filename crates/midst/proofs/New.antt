@@ -21,6 +21,7 @@ use Rattle.rules.specs.Memories.{buffer, fileBuffers}
 use Rattle.rules.specs.Open.{newFile}
 use Rattle.rules.specs.Desk.{Desk, fileOf, withFile}
 use Rattle.rules.specs.Allocation.{Alloc, allotAll}
+use Rattle.memory.specs.Memories.{Memories}
 use Rattle.memory.specs.Image.{accOf, fileWords, rqOf, wqOf}
 use Rattle.laws.specs.Outstanding.{reqOf}
 use Rattle.laws.proofs.EightFiles.{file-here}
@@ -63,41 +64,41 @@ module _ (ys zs : List ℕ) (k m i : ℕ) (n : length ys ≡ k * m) (h : i < m) 
       go (yes w) = inl w
       go (no w) = inr (omega arith)
 
-module _ {xs blocks buffers : List ℕ} {d : Desk} {s : Alloc} (S : StandsFor xs blocks buffers d s) (f : ℕ) (hf : f < files) (u : fileOf d f ≡ unbuilt) (g : Geo) (t : Store) (long : length (t .share) ≡ shareBytes)
-    (xs′ blocks′ buffers′ : List ℕ) (wrote : xs′ ≡ fill xs (fileRowAt f) (fileWords (built (newFile g t)))) (laid : blocks′ ≡ sets blocks (shareBytes * f) (t .share))
-    (blank : buffers′ ≡ sets buffers (fileBytes * f) (zeros fileBytes)) (xs-bytes : Bytes xs′) (blocks-bytes : Bytes blocks′) (buffers-bytes : Bytes buffers′) where
+module _ {m : Memories} {d : Desk} {s : Alloc} (S : StandsFor m d s) (f : ℕ) (hf : f < files) (u : fileOf d f ≡ unbuilt) (g : Geo) (t : Store) (long : length (t .share) ≡ shareBytes)
+    (m′ : Memories) (wrote : m′ .segment ≡ fill (m .segment) (fileRowAt f) (fileWords (built (newFile g t)))) (laid : m′ .blocks ≡ sets (m .blocks) (shareBytes * f) (t .share))
+    (blank : m′ .buffers ≡ sets (m .buffers) (fileBytes * f) (zeros fileBytes)) (xs-bytes : Bytes (m′ .segment)) (blocks-bytes : Bytes (m′ .blocks)) (buffers-bytes : Bytes (m′ .buffers)) where
   abbrev new : File
   new = built (hushed (newFile g t))
 
-  new-segment : Segment xs′ (withFile d f new) s
+  new-segment : Segment (m′ .segment) (withFile d f new) s
   unfolding fileWords hushed newFile
   new-segment =
       subst (λ (ys : List ℕ). Segment ys (withFile d f new) s) (sym wrote)
-      (seg-end xs d f unbuilt new s _ hf (S .agreed .eight) (new-alike g t) (new-acc g t) (subst (λ (e : Desk). Seg xs e s (fileRow f)) (sym (file-here d f unbuilt u)) (stands-seg S f))
+      (seg-end (m .segment) d f unbuilt new s _ hf (S .agreed .eight) (new-alike g t) (new-acc g t) (subst (λ (e : Desk). Seg (m .segment) e s (fileRow f)) (sym (file-here d f unbuilt u)) (stands-seg S f))
       refl refl (subst Bytes wrote xs-bytes))
 
-  shares : (h : ℕ) → (h ≡ f → ⊥) → shareAt h blocks′ ≡ shareAt h blocks
+  shares : (h : ℕ) → (h ≡ f → ⊥) → shareAt h (m′ .blocks) ≡ shareAt h (m .blocks)
   unfolding shareAt
-  shares h n = rw laid (beside blocks (t .share) shareBytes files f (S .stands .bodies .blocks-size) hf long h n)
+  shares h n = rw laid (beside (m .blocks) (t .share) shareBytes files f (S .stands .bodies .blocks-size) hf long h n)
 
-  others : (h : ℕ) → (h ≡ f → ⊥) → buffersAt h buffers′ ≡ buffersAt h buffers
+  others : (h : ℕ) → (h ≡ f → ⊥) → buffersAt h (m′ .buffers) ≡ buffersAt h (m .buffers)
   unfolding buffersAt
-  others h n = rw blank (beside buffers (zeros fileBytes) fileBytes files f (S .stands .bodies .buffers-size) hf (length-zeros fileBytes) h n)
+  others h n = rw blank (beside (m .buffers) (zeros fileBytes) fileBytes files f (S .stands .bodies .buffers-size) hf (length-zeros fileBytes) h n)
 
-  own : FileBytes new (shareAt f blocks′) (buffersAt f buffers′)
+  own : FileBytes new (shareAt f (m′ .blocks)) (buffersAt f (m′ .buffers))
   unfolding FileBytes shareAt buffersAt hushed newFile
   own = (
-    rw laid (written blocks (t .share) shareBytes files f (S .stands .bodies .blocks-size) hf long),
-    rw blank (written buffers (zeros fileBytes) fileBytes files f (S .stands .bodies .buffers-size) hf (length-zeros fileBytes) ∙ new-buffers g t),
+    rw laid (written (m .blocks) (t .share) shareBytes files f (S .stands .bodies .blocks-size) hf long),
+    rw blank (written (m .buffers) (zeros fileBytes) fileBytes files f (S .stands .bodies .buffers-size) hf (length-zeros fileBytes) ∙ new-buffers g t),
   )
 
   -- a call that leaves such a file, and takes and frees no entry
-  pub made : (x : Out) → x .file ≡ new → allotAll f (x .haps) s ≡ s → Outcome f d s x blocks buffers xs′ blocks′ buffers′
+  pub made : (x : Out) → x .file ≡ new → allotAll f (x .haps) s ≡ s → Outcome f d s x m m′
   made x e a = record {
     stands = rw (e, a) record {
       segment = new-segment;
-      bodies = bodies-file d blocks buffers blocks′ buffers′ f new (S .stands .bodies) (S .agreed .eight) hf blocks-bytes buffers-bytes
-          (ap length laid ∙ length-sets blocks (shareBytes * f) (t .share)) (ap length blank ∙ length-sets buffers (fileBytes * f) (zeros fileBytes)) (λ h k n. (shares h n, others h n)) own;
+      bodies = bodies-file d m m′ f new (S .stands .bodies) (S .agreed .eight) hf blocks-bytes buffers-bytes
+          (ap length laid ∙ length-sets (m .blocks) (shareBytes * f) (t .share)) (ap length blank ∙ length-sets (m .buffers) (fileBytes * f) (zeros fileBytes)) (λ h k n. (shares h n, others h n)) own;
     };
     apart = record { shares = λ h k n. shares h n; others = λ h k n. others h n };
   }

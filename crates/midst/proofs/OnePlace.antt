@@ -11,7 +11,7 @@ use Rattle.occurrences.specs.Count.{count}
 use Rattle.segment.specs.Layout.{listCount, rowCount, freeList, readQueue, writeQueue, replyPort, timerList, fileRow, placeRow}
 use Rattle.ports.proofs.Maps.{map-in}
 use Rattle.rules.specs.Limits.{files, places}
-use Rattle.rules.specs.State.{Req, idle, reading, writing, readDone, writeDone, Acc, Timer, Built, File, unbuilt, built}
+use Rattle.rules.specs.State.{Req, Acc, Timer, Built, File, built}
 use Rattle.rules.specs.Requests.{accAt}
 use Rattle.rules.specs.Desk.{Desk, fileOf, withFile}
 use Rattle.rules.specs.Allocation.{Alloc, placeOf, heldAt, ownEntry, timerEntry, queueOf, portOf}
@@ -26,7 +26,7 @@ use Rattle.memory.proofs.Image.{placeAcc-of, rowOf-file, rowOf-place, each-row,
 use Rattle.memory.proofs.Boxes.{getD-listsOf, getD-boxesOf}
 use Rattle.memory.proofs.Held.{map-place}
 use Rattle.midst.specs.Seg.{queueAt, sideQueue}
-use Rattle.midst.proofs.Lists.{At, entriesIn, wordsIn, list-side, box-side, Low, place-under, port-none}
+use Rattle.midst.proofs.Lists.{At, entriesIn, wordsIn, list-side, box-side, Low, place-under, port-none, queue-held, port-held}
 
 -- file f of the desk goes from b to c, and the allocation from t to u, at place p alone
 pub record Change (f p : ℕ) (d : Desk) (t u : Alloc) (b c : Built) : Type 0 where
@@ -45,23 +45,6 @@ place-apart f p g x h k n e = n (omega arith)
 place-beside : (f p x : ℕ) → (p ≡ x → ⊥) → placeOf f x ≡ placeOf f p → ⊥
 unfolding placeOf
 place-beside f p x n e = n (omega arith)
-
--- a queue, and a reply port, where all members hold what they held
-
-queue-held : (t u : Alloc) (q : Built → List ℕ) (g : ℕ) (y : File)
-    → ((b : Built) → y ≡ built b → (x : ℕ) → 1 ≤ count x (q b) → heldAt u (placeOf g x) ≡ heldAt t (placeOf g x)) → queueOf q g y u ≡ queueOf q g y t
-unfolding queueOf
-queue-held t u q g unbuilt h = refl
-queue-held t u q g (built b) h =
-    map-in (λ x. ownEntry (heldAt u (placeOf g x))) (λ x. ownEntry (heldAt t (placeOf g x))) (q b) (λ x k. ap ownEntry (h b refl x k))
-
-port-held : (t u : Alloc) (j : ℕ) (q : Req) → ownEntry (heldAt u j) ≡ ownEntry (heldAt t j) → portOf q j u ≡ portOf q j t
-unfolding portOf
-port-held t u j idle e = refl
-port-held t u j (reading q) e = refl
-port-held t u j (writing q) e = refl
-port-held t u j (readDone q) e = rw e
-port-held t u j (writeDone q) e = rw e
 
 -- timers of places that hold what they held
 pub timers-held : (t u : Alloc) (ts : List Timer) → ((x : ℕ) → 1 ≤ countT x ts → timerEntry (heldAt u x) ≡ timerEntry (heldAt t x))

@@ -32,6 +32,7 @@ use Rattle.laws.specs.EightFiles.{EightFiles}
 use Rattle.laws.proofs.Files.{on-file}
 use Rattle.laws.proofs.EightFiles.{file-here, file-none}
 use Rattle.laws.proofs.Allocated.{happens-here, happens-nowhere}
+use Rattle.memory.specs.Memories.{Memories}
 use Rattle.memory.specs.Fine.{Fine, StandsFor}
 use Rattle.midst.specs.Outcome.{statusOf, replyStatus, refusalOf}
 use Rattle.midst.specs.Accepted.{OpenKnown, CloseKnown, ControlKnown, Known, KnownNew, Verdict, refuses, accepts, endOf, Ended, Refused}
@@ -197,6 +198,6 @@ desk-ended d l h f = go (decLt f files)
     go (yes k) = on-file Fine Ended fine-ended (fileOf d f) (h f k)
     go (no k) = let e : files ≤ f = omega arith in rw (file-none d f l e) tt
 
-pub stands-refused : {xs blocks buffers : List ℕ} {d : Desk} {s : Alloc} (f : ℕ) (q : Ask) → StandsFor xs blocks buffers d s
+pub stands-refused : {m : Memories} {d : Desk} {s : Alloc} (f : ℕ) (q : Ask) → StandsFor m d s
     → (refusalOf (answered d (on f q) .reply) ≡ 0 → ⊥) → Refused d s f q
 stands-refused {d = d} {s = s} f q S n = refused-still d s f q (S .agreed .calm) (desk-ended d (S .agreed .eight) (S .fine) f) n

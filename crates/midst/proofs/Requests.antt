@@ -11,7 +11,7 @@ use Rattle.occurrences.specs.Count.{count}
 use Rattle.ports.proofs.Chains.{slotAt}
 use Rattle.segment.specs.Layout.{freeList, replyPort, fileRow}
 use Rattle.segment.specs.Table.{nth}
-use Rattle.requests.specs.Moves.{slotOf, entryOf, queued, waiting, completed, cancelled, collected}
+use Rattle.requests.specs.Moves.{slotOf, queued, waiting, completed, cancelled, collected}
 use Rattle.rules.specs.Limits.{files, entries, bufferBytes}
 use Rattle.rules.specs.State.{Wanted, Offered, Req, idle, reading, writing, Acc, ends, cancels, collects, Built, built}
 use Rattle.rules.specs.Requests.{accAt, withAccs, withQueues, withTimers, alterAcc, say, requeue, leave, finish, cancel, wait, freed}
@@ -29,6 +29,7 @@ use Rattle.laws.proofs.Sieve.{countT-sieve}
 use Rattle.laws.proofs.Midst.{mid-wait, mid-walks}
 use Rattle.laws.proofs.EightFiles.{eight-put, put-twice}
 use Rattle.buffers.specs.Buffer.{filled}
+use Rattle.memory.specs.Memories.{Memories, memories}
 use Rattle.memory.specs.Image.{reqWords, fileWords}
 use Rattle.midst.specs.declared.File as hand
 use Rattle.midst.specs.Seg.{Seg, queueAt, sideQueue}
@@ -41,13 +42,18 @@ use Rattle.midst.proofs.Terms.{waitsAt, waits-awaits}
 use Rattle.midst.proofs.Placed.{Placed}
 use Rattle.midst.proofs.EntryLeaves.{seg-slot, seg-complete, seg-cancel}
 use Rattle.midst.proofs.Collects.{seg-collect}
-use Rattle.midst.proofs.RequestEnds.{ends-done}
 
 -- what lies in the buffer of a completed request has room there
 ends-fit : {st : ℕ} {r q : Req} (words : ℕ) → Ends st r q → Bounded words r → length (lies q) ≤ bufferBytes
 unfolding Bounded lies
 ends-fit words (readEnds e h n) k = omega arith
 ends-fit words (writeEnds e n) k = omega arith
+
+-- and it is not yet collected
+ends-done : {st : ℕ} {r q : Req} → Ends st r q → uncollected q ≡ 1
+unfolding uncollected
+ends-done (readEnds e h n) = refl
+ends-done (writeEnds e n) = refl
 
 side-waits : (w : Bool) (q : Req) → waitsAt w q ≡ 1 → awaits q ≡ 1
 side-waits w q h = omega (arith, waits-awaits w q, outstanding-most q)
@@ -62,7 +68,7 @@ unfolding wait say requeue alterAcc withAccs withQueues
 wait-mid f hf s true p n q a b e i w m = mid-wait f hf s p n q a b e i w m _ refl refl refl
 wait-mid f hf s false p n q a b e i w m = mid-wait f hf s p n q a b e i w m _ refl refl refl
 
-module _ {I : Built → Type 0} {f : ℕ} {o : Start} {xs blocks buffers : List ℕ} {x : hand.File} {b : Built} (K : Knows I) (M : Mid I f o xs blocks buffers x b)
+module _ {I : Built → Type 0} {f : ℕ} {o : Start} {m : Memories} {x : hand.File} {b : Built} (K : Knows I) (M : Mid I f o m x b)
     (p : ℕ) (a : Acc) (e : accAt b p ≡ some a) where
   abbrev i : ℕ
   i = placeOf f p
@@ -73,30 +79,30 @@ module _ {I : Built → Type 0} {f : ℕ} {o : Start} {xs blocks buffers : List 
   -- it begins to wait, in the queue of its side
 
   module _ (R : Rest f o) (side : Bool) (n : ℕ) (q : Req) (still : a .req ≡ idle) (waits : awaits q ≡ 1) where
-    seg-waits : (nth xs freeList < entries) × (nth (queued xs (queueAt side f) (reqWords i q)) freeList < entries)
-        × Seg (waiting xs (queueAt side f) (reqWords i q) i n) (withFile (o .desk) f (built (wait side p n q b))) (allotAll f (wait side p n q b .past) (o .alloc)) (fileRow f)
+    seg-waits : (nth (m .segment) freeList < entries) × (nth (queued (m .segment) (queueAt side f) (reqWords i q)) freeList < entries)
+        × Seg (waiting (m .segment) (queueAt side f) (reqWords i q) i n) (withFile (o .desk) f (built (wait side p n q b))) (allotAll f (wait side p n q b .past) (o .alloc)) (fileRow f)
     seg-waits =
         seg-wait f (M .file) (o .alloc) (o .desk) (M .eight) R b (M .allots) (K .agree b (M .good)) p n a e still side q (omega (arith, outstanding-most q)) (M .segment)
 
     -- there are entries to take
-    pub step-wait-free : (nth xs freeList < entries) × (nth (queued xs (queueAt side f) (reqWords (placeOf f p) q)) freeList < entries)
+    pub step-wait-free : (nth (m .segment) freeList < entries) × (nth (queued (m .segment) (queueAt side f) (reqWords (placeOf f p) q)) freeList < entries)
     step-wait-free = (seg-waits .0, seg-waits .1)
 
-    pub step-wait : {J : Built → Type 0} (buffers′ : List ℕ) → length (lies q) ≤ bufferBytes → J (wait side p n q b) → Laid f p (a .req) q buffers buffers′
-        → Mid J f o (waiting xs (queueAt side f) (reqWords (placeOf f p) q) (placeOf f p) n) blocks buffers′ x (wait side p n q b)
+    pub step-wait : {J : Built → Type 0} (buffers′ : List ℕ) → length (lies q) ≤ bufferBytes → J (wait side p n q b) → Laid f p (a .req) q (m .buffers) buffers′
+        → Mid J f o (memories (waiting (m .segment) (queueAt side f) (reqWords (placeOf f p) q) (placeOf f p) n) (m .blocks) buffers′) x (wait side p n q b)
     step-wait buffers′ fits good L =
         mid-req K M p a e q (wait side p n q b) (asks-wait side p n q b) fits good
         (wait-mid f (M .file) (o .alloc) side p n q a b e still waits (M .allots)) _ buffers′ (seg-waits .2) L
 
   module _ (R : Rest f o) (n : ℕ) (still : a .req ≡ idle) {J : Built → Type 0} where
     pub step-wait-read : (q : Wanted) → J (wait false p n (reading q) b)
-        → Mid J f o (waiting xs (queueAt false f) (reqWords (placeOf f p) (reading q)) (placeOf f p) n) blocks buffers x (wait false p n (reading q) b)
+        → Mid J f o (memories (waiting (m .segment) (queueAt false f) (reqWords (placeOf f p) (reading q)) (placeOf f p) n) (m .blocks) (m .buffers)) x (wait false p n (reading q) b)
     unfolding lies waitsRead waitsWrite
-    step-wait-read q good = step-wait R false n (reading q) still refl buffers (omega arith) good (keep refl (sym (ap lies still)))
+    step-wait-read q good = step-wait R false n (reading q) still refl (m .buffers) (omega arith) good (keep refl (sym (ap lies still)))
 
     pub step-wait-write : (q : Offered) (buffers′ : List ℕ) → length (q .bytes) ≤ bufferBytes → J (wait true p n (writing q) b)
-        → buffers′ ≡ sets buffers (bufferBytes * placeOf f p) (filled (q .bytes))
-        → Mid J f o (waiting xs (queueAt true f) (reqWords (placeOf f p) (writing q)) (placeOf f p) n) blocks buffers′ x (wait true p n (writing q) b)
+        → buffers′ ≡ sets (m .buffers) (bufferBytes * placeOf f p) (filled (q .bytes))
+        → Mid J f o (memories (waiting (m .segment) (queueAt true f) (reqWords (placeOf f p) (writing q)) (placeOf f p) n) (m .blocks) buffers′) x (wait true p n (writing q) b)
     unfolding lies waitsRead waitsWrite
     step-wait-write q buffers′ fits good h = step-wait R true n (writing q) still refl buffers′ fits good (put h)
 
@@ -130,7 +136,7 @@ module _ {I : Built → Type 0} {f : ℕ} {o : Start} {xs blocks buffers : List 
     stands-out : outstanding (a .req) ≡ 1
     stands-out = omega (arith, side-waits side (a .req) asks, outstanding-most (a .req))
 
-    complete : Seg (completed xs (slotOf xs (queueAt side f) i) i (reqWords i q)) (withFile (withFile (o .desk) f (built b)) f (built (finish p st q b))) (endsAt i t) (fileRow f)
+    complete : Seg (completed (m .segment) (slotOf (m .segment) (queueAt side f) i) i (reqWords i q)) (withFile (withFile (o .desk) f (built b)) f (built (finish p st q b))) (endsAt i t) (fileRow f)
     unfolding finish leave say withTimers requeue alterAcc withAccs withQueues
     complete =
         seg-complete (placed stands-out) side asks (M .segment) q (finish p st q b) refl refl refl
@@ -141,10 +147,10 @@ module _ {I : Built → Type 0} {f : ℕ} {o : Start} {xs blocks buffers : List 
     ended = allot-snoc f (b .past) (ends p st) (o .alloc)
 
     -- its entry stands behind those of the places ys
-    pub step-finish : {J : Built → Type 0} (ys zs : List ℕ) → sideQueue side b ≡ ys ++ p ∷ zs → count p ys ≡ 0 → (buffers′ : List ℕ) → J (finish p st q b) → Laid f p (a .req) q buffers buffers′
-        → Mid J f o (completed xs (slotAt (queueAt side f) (entriesIn f t ys)) (placeOf f p) (reqWords (placeOf f p) q)) blocks buffers′ x (finish p st q b)
+    pub step-finish : {J : Built → Type 0} (ys zs : List ℕ) → sideQueue side b ≡ ys ++ p ∷ zs → count p ys ≡ 0 → (buffers′ : List ℕ) → J (finish p st q b) → Laid f p (a .req) q (m .buffers) buffers′
+        → Mid J f o (memories (completed (m .segment) (slotAt (queueAt side f) (entriesIn f t ys)) (placeOf f p) (reqWords (placeOf f p) q)) (m .blocks) buffers′) x (finish p st q b)
     step-finish {J} ys zs queue first buffers′ good L =
-        subst (λ (n : ℕ). Mid J f o (completed xs n (placeOf f p) (reqWords (placeOf f p) q)) blocks buffers′ x (finish p st q b)) (seg-slot (placed stands-out) side asks (M .segment) ys zs queue first)
+        subst (λ (n : ℕ). Mid J f o (memories (completed (m .segment) n (placeOf f p) (reqWords (placeOf f p) q)) (m .blocks) buffers′) x (finish p st q b)) (seg-slot (placed stands-out) side asks (M .segment) ys zs queue first)
         (mid-req K M p a e q (finish p st q b) (asks-finish p st q b) (ends-fit (b .geo .words) E (bounds-at p a r b e was (K .bounds b (M .good)))) good
         (mid-walks f (M .file) (o .alloc) .finishes p st q a r b e was E (M .allots)) _ buffers′
         (reset _ (o .desk) f b (finish p st q b) (endsAt i t) _ (fileRow f) ended complete) L)
@@ -152,39 +158,35 @@ module _ {I : Built → Type 0} {f : ℕ} {o : Start} {xs blocks buffers : List 
   -- it is cancelled
 
   module _ (side : Bool) (waits : waitsAt side (a .req) ≡ 1) where
-    gone : (entryOf xs (queueAt side f) i < entries)
-        × Seg (cancelled xs (queueAt side f) i) (withFile (withFile (o .desk) f (built b)) f (built (cancel p b))) (goesAt i t) (fileRow f)
+    gone : Seg (cancelled (m .segment) (slotOf (m .segment) (queueAt side f) i) i) (withFile (withFile (o .desk) f (built b)) f (built (cancel p b))) (goesAt i t) (fileRow f)
     unfolding cancel leave say withTimers requeue alterAcc withAccs withQueues
     gone =
         seg-cancel (placed (omega (arith, side-waits side (a .req) waits, outstanding-most (a .req)))) side waits (M .segment) idle (cancel p b) refl refl refl
         (λ k. absurd (k refl)) refl
 
-    pub step-cancel-entry : entryOf xs (queueAt side f) (placeOf f p) < entries
-    step-cancel-entry = gone .0
-
     cancelled-all : allotAll f (cancel p b .past) (o .alloc) ≡ goesAt i t
     unfolding cancel leave say withTimers requeue alterAcc withAccs withQueues allot
     cancelled-all = allot-snoc f (b .past) (cancels p) (o .alloc)
 
-    pub step-cancel : {J : Built → Type 0} (buffers′ : List ℕ) → J (cancel p b) → Laid f p (a .req) idle buffers buffers′
-        → Mid J f o (cancelled xs (queueAt side f) (placeOf f p)) blocks buffers′ x (cancel p b)
+    pub step-cancel : {J : Built → Type 0} (buffers′ : List ℕ) → J (cancel p b) → Laid f p (a .req) idle (m .buffers) buffers′
+        → Mid J f o (memories (cancelled (m .segment) (slotOf (m .segment) (queueAt side f) (placeOf f p)) (placeOf f p)) (m .blocks) buffers′) x (cancel p b)
     step-cancel buffers′ good L =
         mid-req K M p a e idle (cancel p b) (asks-cancel p b) (unfold lies in omega arith) good
         (mid-walks f (M .file) (o .alloc) .cancels p a b e (side-waits side (a .req) waits) (M .allots)) _ buffers′
-        (reset _ (o .desk) f b (cancel p b) (goesAt i t) _ (fileRow f) cancelled-all (gone .1)) L
+        (reset _ (o .desk) f b (cancel p b) (goesAt i t) _ (fileRow f) cancelled-all gone) L
 
   -- a completed one is collected
 
   module _ (done : uncollected (a .req) ≡ 1) where
-    taken : (nth xs (replyPort i) < entries)
-        × Seg (collected xs i) (withFile (withFile (o .desk) f (built b)) f (built (freed p b))) (goesAt i t) (fileRow f)
+    taken : (nth (m .segment) (replyPort i) < entries)
+        × Seg (collected (m .segment) i) (withFile (withFile (o .desk) f (built b)) f (built (freed p b))) (goesAt i t) (fileRow f)
     unfolding freed say alterAcc withAccs
     taken =
         let h : outstanding (a .req) ≡ 1 = omega (arith, outstanding-most (a .req)) in
         seg-collect (placed h) done (omega (arith, ticks, M .allots .matches .agrees .timed p, ap awaits asked)) (M .segment) (freed p b) refl refl refl
         (λ k. absurd (k refl))
 
-    pub step-free-entry : nth xs (replyPort (placeOf f p)) < entries
+    pub step-free-entry : nth (m .segment) (replyPort (placeOf f p)) < entries
     step-free-entry = taken .0
 
     freed-all : allotAll f (freed p b .past) (o .alloc) ≡ goesAt i t
@@ -192,16 +194,16 @@ module _ {I : Built → Type 0} {f : ℕ} {o : Start} {xs blocks buffers : List 
     freed-all = allot-snoc f (b .past) (collects p) (o .alloc)
 
     -- the segment with all rows, where the file's own stands as it is
-    pub step-free-rows : {k : ℕ} → Seg xs (withFile (o .desk) f (built b)) (allotAll f (b .past) (o .alloc)) k
-        → Seg (collected xs (placeOf f p)) (withFile (o .desk) f (built (freed p b))) (allotAll f (freed p b .past) (o .alloc)) k
+    pub step-free-rows : {k : ℕ} → Seg (m .segment) (withFile (o .desk) f (built b)) (allotAll f (b .past) (o .alloc)) k
+        → Seg (collected (m .segment) (placeOf f p)) (withFile (o .desk) f (built (freed p b))) (allotAll f (freed p b .past) (o .alloc)) k
     unfolding freed say alterAcc withAccs fileWords
     step-free-rows {k} S =
         let h : outstanding (a .req) ≡ 1 = omega (arith, outstanding-most (a .req)) in
         reset _ (o .desk) f b (freed p b) (goesAt i t) _ k freed-all
         (seg-collect (placed h) done (omega (arith, ticks, M .allots .matches .agrees .timed p, ap awaits asked)) S (freed p b) refl refl refl (λ _. refl) .1)
 
-    pub step-free : {J : Built → Type 0} (buffers′ : List ℕ) → J (freed p b) → Laid f p (a .req) idle buffers buffers′
-        → Mid J f o (collected xs (placeOf f p)) blocks buffers′ x (freed p b)
+    pub step-free : {J : Built → Type 0} (buffers′ : List ℕ) → J (freed p b) → Laid f p (a .req) idle (m .buffers) buffers′
+        → Mid J f o (memories (collected (m .segment) (placeOf f p)) (m .blocks) buffers′) x (freed p b)
     step-free buffers′ good L =
         mid-req K M p a e idle (freed p b) (asks-freed p b) (unfold lies in omega arith) good
         (mid-walks f (M .file) (o .alloc) .frees p a b e done (M .allots)) _ buffers′

@@ -15,6 +15,7 @@ use Rattle.laws.specs.Runs.{OnFile}
 use Rattle.laws.specs.Entries.{Calm}
 use Rattle.laws.specs.EightFiles.{EightFiles}
 use Rattle.laws.proofs.EightFiles.{file-here, file-same}
+use Rattle.memory.specs.Memories.{Memories}
 use Rattle.memory.specs.Image.{fileWords, rowOf, listsOf, boxesOf, rowsOf}
 use Rattle.memory.specs.Stands.{Bodies, Stands}
 use Rattle.words.specs.Word.{Bytes}
@@ -30,14 +31,14 @@ use Rattle.midst.proofs.Alike.{lists-alike, boxes-alike}
 use Rattle.midst.proofs.Begins.{fine-agree, hushed-alike, hushed-acc, hushed-bytes, rows-same}
 
 -- it begins
-pub seg-stands : {xs blocks buffers : List ℕ} {d : Desk} {s : Alloc} → StandsFor xs blocks buffers d s → (f : ℕ) (b : Built) → f < files → fileOf d f ≡ built b
-    → Seg xs (withFile d f (built b)) (allotAll f (b .past) s) rowCount
+pub seg-stands : {m : Memories} {d : Desk} {s : Alloc} → StandsFor m d s → (f : ℕ) (b : Built) → f < files → fileOf d f ≡ built b
+    → Seg (m .segment) (withFile d f (built b)) (allotAll f (b .past) s) rowCount
 unfolding allotAll OnFile
-seg-stands {xs} {d = d} {s = s} S f b h e =
+seg-stands {m} {d = d} {s = s} S f b h e =
     let calm : Calm (built b) = rw e at (S .agreed .calm f h) in
     rw (file-here d f (built b) e, calm) record {
       rows = rowsOf d;
-      boxes = segment-boxes d s xs (agreed-once d s (S .agreed) (λ g k. fine-agree (fileOf d g) (S .fine g k))) (S .stands .segment);
+      boxes = segment-boxes d s (m .segment) (agreed-once d s (S .agreed) (λ g k. fine-agree (fileOf d g) (S .fine g k))) (S .stands .segment);
       same = λ i k _. getD-rowsOf d s i k;
     }
 
@@ -49,15 +50,15 @@ row-hushed d f b h k =
     ∙ sym (rowOf-file (withFile d f (built (hushed b))) f h ∙ ap fileWords (file-same d f (built (hushed b)) k h))
 
 -- it ends
-pub mid-stays : {I : Built → Type 0} {f : ℕ} {o : Start} {xs blocks buffers : List ℕ} {x : hand.File} {b : Built} → Mid I f o xs blocks buffers x b
-    → Seg xs (withFile (o .desk) f (built b)) (allotAll f (b .past) (o .alloc)) rowCount → Bodies (o .blocks) (o .buffers) (o .desk) → Bytes xs → Bytes blocks → Bytes buffers
-    → Stands xs blocks buffers (withFile (o .desk) f (built (hushed b))) (allotAll f (b .past) (o .alloc))
-mid-stays {I} {f} {o} {xs} {blocks} {buffers} {x} {b} M S B bytes blocks-bytes buffers-bytes = record {
-  segment = boxes-segment d t xs [] (listsOf d₀ t) (boxesOf d₀ t) (S .rows) bytes (S .boxes)
+pub mid-stays : {I : Built → Type 0} {f : ℕ} {o : Start} {m : Memories} {x : hand.File} {b : Built} → Mid I f o m x b
+    → Seg (m .segment) (withFile (o .desk) f (built b)) (allotAll f (b .past) (o .alloc)) rowCount → Bodies (o .memories) (o .desk) → Bytes (m .segment) → Bytes (m .blocks) → Bytes (m .buffers)
+    → Stands m (withFile (o .desk) f (built (hushed b))) (allotAll f (b .past) (o .alloc))
+mid-stays {I} {f} {o} {m} {x} {b} M S B bytes blocks-bytes buffers-bytes = record {
+  segment = boxes-segment d t (m .segment) [] (listsOf d₀ t) (boxesOf d₀ t) (S .rows) bytes (S .boxes)
       (λ l h. ap (λ ls. getD ls l []) (lists-alike (o .desk) f _ _ (hushed-alike b) t) ∙ getD-listsOf d t l h)
       (λ l h. ap (λ ms. getD ms l []) (boxes-alike (o .desk) f _ _ (hushed-alike b) t) ∙ getD-boxesOf d t l h)
       (λ i h. S .same i h (λ e. omega arith) ∙ go i h (ℕ-discrete i f));
-  bodies = bodies-file (o .desk) (o .blocks) (o .buffers) blocks buffers f (built (hushed b)) B (M .eight) (M .file) blocks-bytes buffers-bytes
+  bodies = bodies-file (o .desk) (o .memories) m f (built (hushed b)) B (M .eight) (M .file) blocks-bytes buffers-bytes
       (M .blocks-size ∙ sym (B .blocks-size)) (M .buffers-size ∙ sym (B .buffers-size))
       (λ g h n. (M .apart .shares g h n, M .apart .others g h n)) (hushed-bytes b _ _ (M .share) (M .buffer));
 }
@@ -80,9 +81,9 @@ pub hushed-past : (b : Built) → b .past ≡ [] → hushed b ≡ b
 unfolding hushed
 hushed-past b e = ap (λ (hs : List Hap). record { geo = b .geo; store = b .store; accs = b .accs; rq = b .rq; wq = b .wq; timers = b .timers; past = hs }) (sym e)
 
-pub stands-still : {xs blocks buffers : List ℕ} {d : Desk} {s : Alloc} → StandsFor xs blocks buffers d s → (f : ℕ) (b : Built) → f < files → fileOf d f ≡ built b
-    → Stands xs blocks buffers (withFile d f (built (hushed b))) (allotAll f (b .past) s)
+pub stands-still : {m : Memories} {d : Desk} {s : Alloc} → StandsFor m d s → (f : ℕ) (b : Built) → f < files → fileOf d f ≡ built b
+    → Stands m (withFile d f (built (hushed b))) (allotAll f (b .past) s)
 unfolding allotAll OnFile
-stands-still {xs} {blocks} {buffers} {d} {s} S f b h e =
+stands-still {m} {d} {s} S f b h e =
     let calm : Calm (built b) = rw e at (S .agreed .calm f h) in
     rw (hushed-past b calm, file-here d f (built b) e, calm) (S .stands)

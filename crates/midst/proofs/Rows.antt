@@ -1,6 +1,6 @@
 -- The row of a place is written, and the requests stay as they were: an accessor changes beside its request, enters, or leaves.
-use Prim.Native.Nat.{ℕ, _/_, _%_, _<_}
-use mathlib.Core.Path.{_≡_, refl, sym, ap, ap₂, _∙_}
+use Prim.Native.Nat.{ℕ, _+_, _/_, _%_, _<_}
+use mathlib.Core.Path.{_≡_, refl, sym, ap, ap₂, subst, _∙_}
 use mathlib.Core.List.{List, []}
 use mathlib.Core.Option.{none, some}
 use native.Mathlib.Omega.{arith}
@@ -8,11 +8,12 @@ use native.Mathlib.Decide.{ℕ-discrete}
 use lib.ListN.{length, getD, set, length-set}
 use lib.Seq.{getD-set-same, getD-set-other}
 use Rattle.segment.specs.declared.PlaceRow.{PlaceRow}
-use Rattle.segment.specs.Layout.{placeWidth, placeRowAt, rowCount, fileRow, placeRow}
-use Rattle.segment.specs.Table.{fill}
-use Rattle.segment.specs.Fields.{placeWords}
-use Rattle.segment.proofs.Fields.{length-placeWords}
-use Rattle.segment.proofs.Apart.{row-place}
+use Rattle.segment.specs.Layout.{placeFields, placeSpare, placeWidth, placeRowAt, rowCount, fileRow, placeRow}
+use Rattle.segment.specs.Table.{nth, fill}
+use Rattle.segment.specs.Fields.{placeWords, spared}
+use Rattle.segment.proofs.Fields.{length-spared}
+use Rattle.segment.proofs.Rows.{row-at, fill-zeros}
+use Rattle.segment.proofs.Apart.{row-place, words-place}
 use Rattle.ports.proofs.Contents.{fill-boxes}
 use Rattle.rules.specs.Limits.{files, places}
 use Rattle.rules.specs.State.{idle, Acc, Built, built}
@@ -27,12 +28,13 @@ use Rattle.laws.specs.Midst as laws
 use Rattle.laws.proofs.Happenings.{open-below, matches-alike}
 use Rattle.laws.proofs.Accessors.{length-alter, getD-alter-same, getD-alter-other, enter-beside, vacate-beside}
 use Rattle.laws.proofs.EightFiles.{file-other, file-same}
+use Rattle.memory.specs.Memories.{Memories, memories}
 use Rattle.memory.specs.Image.{accOf, placeAcc, fileWords, rowOf, rqOf, wqOf, listsOf, boxesOf}
 use Rattle.laws.specs.Outstanding.{reqOf}
 use Rattle.laws.specs.EightFiles.{EightFiles}
 use Rattle.memory.specs.Image as image
 use Rattle.ring.specs.Ring.{ringOf}
-use Rattle.memory.proofs.Image.{rowOf-file, rowOf-place, rowOf-acc, each-row}
+use Rattle.memory.proofs.Image.{rowOf-file, rowOf-place, rowOf-acc, spare-zero, each-row}
 use Rattle.midst.specs.declared.File as hand
 use Rattle.midst.specs.File.{inHand}
 use Rattle.midst.specs.Seg.{Seg}
@@ -89,6 +91,19 @@ seg-row xs d d′ t t′ k i r S e el em h n er es =
     go j g u (yes v) = rw v (getD-set-same (S .rows) (placeRow i) r [] (omega (arith, S .boxes .rowed)) ∙ er)
     go j g u (no v) = getD-set-other (S .rows) (placeRow i) j r [] v ∙ S .same j g u ∙ es j g u v
 
+-- its fields alone: the words to spare are zero already
+spare-stands : (xs : List ℕ) (d : Desk) (t : Alloc) (k i : ℕ) → Seg xs d t k → placeRow i < rowCount → (placeRow i ≡ k → ⊥) → (j : ℕ) → j < placeSpare → nth xs (placeRowAt i + placeFields + j) ≡ 0
+spare-stands xs d t k i S h n j g =
+    let e : placeRowAt i + placeFields + j ≡ placeRowAt i + (placeFields + j) = omega arith in
+    ap (nth xs) e ∙ sym (row-at xs (placeRowAt i) placeWidth (placeFields + j) (omega arith))
+    ∙ ap (λ (l : List ℕ). getD l (placeFields + j) 0) (sym (words-place xs i) ∙ S .boxes .rows (placeRow i) h ∙ S .same (placeRow i) h n ∙ rowOf-place d i)
+    ∙ spare-zero (placeAcc d i) j g
+
+fields-row : (xs : List ℕ) (d : Desk) (t : Alloc) (k i : ℕ) (r : PlaceRow) → Seg xs d t k → placeRow i < rowCount → (placeRow i ≡ k → ⊥)
+    → fill xs (placeRowAt i) (spared (placeWords r)) ≡ fill xs (placeRowAt i) (placeWords r)
+unfolding placeWords
+fields-row xs d t k i r S h n = fill-zeros xs (placeRowAt i) (placeWords r) placeSpare (spare-stands xs d t k i S h n)
+
 -- all rows but those of file f and of its place p
 rows-beside : (d : Desk) (f p : ℕ) (b c : Built) → EightFiles d → f < files → ((y : ℕ) → (y ≡ p → ⊥) → accAt c y ≡ accAt b y)
     → (i : ℕ) → i < rowCount → (i ≡ fileRow f → ⊥) → (i ≡ placeRow (placeOf f p) → ⊥) → rowOf (withFile d f (built b)) i ≡ rowOf (withFile d f (built c)) i
@@ -108,32 +123,34 @@ pub place-below : (f p : ℕ) → f < files → p < places → placeRow (placeOf
 unfolding placeOf
 place-below f p h k = omega arith
 
-module _ {I J : Built → Type 0} {f : ℕ} {o : Start} {xs blocks buffers : List ℕ} {x : hand.File} {b : Built} (M : Mid I f o xs blocks buffers x b) where
-  pub mid-accs : (p : ℕ) (c : Built) (r : PlaceRow) → p < places → Beside p b c → J c → placeWords r ≡ image.placeWords (accAt c p)
-      → Mid J f o (fill xs (placeRowAt (placeOf f p)) (placeWords r)) blocks buffers x c
+module _ {I J : Built → Type 0} {f : ℕ} {o : Start} {ms : Memories} {x : hand.File} {b : Built} (M : Mid I f o ms x b) where
+  pub mid-accs : (p : ℕ) (c : Built) (r : PlaceRow) → p < places → Beside p b c → J c → spared (placeWords r) ≡ image.placeWords (accAt c p)
+      → Mid J f o (memories (fill (ms .segment) (placeRowAt (placeOf f p)) (placeWords r)) (ms .blocks) (ms .buffers)) x c
   unfolding accAt accOf
   mid-accs p c r hp B good e = record {
     file = M .file;
     eight = M .eight;
     good = good;
     allots = beside-mid B f (o .alloc) (M .allots);
-    segment = seg-row xs (withFile (o .desk) f (built b)) (withFile (o .desk) f (built c)) (allotAll f (b .past) (o .alloc)) _ (fileRow f) (placeOf f p) (placeWords r) (M .segment)
+    segment = subst (λ (ys : List ℕ). Seg ys (withFile (o .desk) f (built c)) (allotAll f (c .past) (o .alloc)) (fileRow f))
+        (fields-row (ms .segment) _ _ (fileRow f) (placeOf f p) r (M .segment) (place-below f p (M .file) hp) (λ u. unfold placeOf in omega (arith, u, M .file)))
+        (seg-row (ms .segment) (withFile (o .desk) f (built b)) (withFile (o .desk) f (built c)) (allotAll f (b .past) (o .alloc)) _ (fileRow f) (placeOf f p) (spared (placeWords r)) (M .segment)
         (ap (λ hs. allotAll f hs (o .alloc)) (B .past))
         (lists-alike (o .desk) f _ _ (beside-alike B) _) (boxes-alike (o .desk) f _ _ (beside-alike B) _)
-        (place-below f p (M .file) hp) (length-placeWords r)
+        (place-below f p (M .file) hp) (length-spared r)
         (e ∙ sym (rowOf-acc (withFile (o .desk) f (built c)) f p hp ∙ ap (λ z. image.placeWords (accOf z p)) (file-same (o .desk) f (built c) (M .eight) (M .file))))
-        (rows-beside (o .desk) f p b c (M .eight) (M .file) (B .others));
+        (rows-beside (o .desk) f p b c (M .eight) (M .file) (B .others)));
     row = M .row ∙ beside-hand B;
     share = M .share ∙ ap (λ s. s .share) (sym (B .store));
     buffer = M .buffer ∙ sym (buffers-alike (b .accs) (c .accs) (B .many) (λ y. ap lies (beside-reqs B y)));
     blocks-size = M .blocks-size;
     buffers-size = M .buffers-size;
-    apart = M .apart;
+    apart = record { shares = M .apart .shares; others = M .apart .others };
   }
 
   -- the accessor at p, changed beside its request
-  pub mid-mild : (p : ℕ) (g : Acc → Acc) (a : Acc) (r : PlaceRow) → Mild g → accAt b p ≡ some a → J (alterAcc p g b) → placeWords r ≡ image.placeWords (some (g a))
-      → Mid J f o (fill xs (placeRowAt (placeOf f p)) (placeWords r)) blocks buffers x (alterAcc p g b)
+  pub mid-mild : (p : ℕ) (g : Acc → Acc) (a : Acc) (r : PlaceRow) → Mild g → accAt b p ≡ some a → J (alterAcc p g b) → spared (placeWords r) ≡ image.placeWords (some (g a))
+      → Mid J f o (memories (fill (ms .segment) (placeRowAt (placeOf f p)) (placeWords r)) (ms .blocks) (ms .buffers)) x (alterAcc p g b)
   unfolding alterAcc withAccs accAt Mild
   mid-mild p g a r m e good h =
       mid-accs p (alterAcc p g b) r (open-below (b .accs) p a (M .allots .matches .agrees .eight) e) (record {
@@ -149,8 +166,8 @@ module _ {I J : Built → Type 0} {f : ℕ} {o : Start} {xs blocks buffers : Lis
       }) good (h ∙ sym (ap image.placeWords (getD-alter-same g a (b .accs) p e)))
 
   -- one enters
-  pub mid-enter : (a : Acc) (r : PlaceRow) → firstFree (b .accs) < places → a .req ≡ idle → J (enter a b) → placeWords r ≡ image.placeWords (some a)
-      → Mid J f o (fill xs (placeRowAt (placeOf f (firstFree (b .accs)))) (placeWords r)) blocks buffers x (enter a b)
+  pub mid-enter : (a : Acc) (r : PlaceRow) → firstFree (b .accs) < places → a .req ≡ idle → J (enter a b) → spared (placeWords r) ≡ image.placeWords (some a)
+      → Mid J f o (memories (fill (ms .segment) (placeRowAt (placeOf f (firstFree (b .accs)))) (placeWords r)) (ms .blocks) (ms .buffers)) x (enter a b)
   unfolding enter withAccs accAt
   mid-enter a r hp i good h =
       mid-accs (firstFree (b .accs)) (enter a b) r hp (record {
@@ -166,8 +183,8 @@ module _ {I J : Built → Type 0} {f : ℕ} {o : Start} {xs blocks buffers : Lis
       }) good (h ∙ sym (ap image.placeWords (getD-set-same (b .accs) (firstFree (b .accs)) (some a) none (omega (arith, M .allots .matches .agrees .eight)))))
 
   -- one with no request leaves
-  pub mid-vacate : (p : ℕ) (a : Acc) (r : PlaceRow) → accAt b p ≡ some a → a .req ≡ idle → J (vacate p b) → placeWords r ≡ image.placeWords none
-      → Mid J f o (fill xs (placeRowAt (placeOf f p)) (placeWords r)) blocks buffers x (vacate p b)
+  pub mid-vacate : (p : ℕ) (a : Acc) (r : PlaceRow) → accAt b p ≡ some a → a .req ≡ idle → J (vacate p b) → spared (placeWords r) ≡ image.placeWords none
+      → Mid J f o (memories (fill (ms .segment) (placeRowAt (placeOf f p)) (placeWords r)) (ms .blocks) (ms .buffers)) x (vacate p b)
   unfolding vacate withAccs accAt
   mid-vacate p a r e i good h =
       let hp : p < places = open-below (b .accs) p a (M .allots .matches .agrees .eight) e in

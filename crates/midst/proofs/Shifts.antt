@@ -9,7 +9,7 @@ use native.Mathlib.Omega.{arith}
 use native.Mathlib.Decide.{ℕ-discrete}
 use Rattle.occurrences.specs.Count.{count}
 use Rattle.rules.specs.Limits.{files, places}
-use Rattle.rules.specs.State.{Req, idle, reading, writing, readDone, writeDone, Acc, Built, File, unbuilt, built}
+use Rattle.rules.specs.State.{Acc, Built, File, built}
 use Rattle.rules.specs.Requests.{accAt}
 use Rattle.rules.specs.Desk.{Desk, fileOf, withFile}
 use Rattle.rules.specs.Allocation.{Alloc, placeOf, heldAt, ownEntry, queueOf, portOf, timerList}
@@ -17,7 +17,6 @@ use Rattle.segment.specs.Layout.{readQueues, replyPorts, listCount, rowCount, f
 use Rattle.segment.specs.Layout as layout
 use Rattle.ports.specs.Lists.{Boxes}
 use Rattle.ports.proofs.Lists.{once-two}
-use Rattle.ports.proofs.Maps.{map-in}
 use Rattle.memory.specs.Image.{accOf, placeAcc, timerWords, fileWords, placeWords, rowOf, rqOf, wqOf, listOf, queueWords, portWords, boxOf, listsOf, boxesOf}
 use Rattle.laws.specs.Outstanding.{reqOf}
 use Rattle.laws.specs.EightFiles.{EightFiles}
@@ -25,7 +24,7 @@ use Rattle.laws.proofs.EightFiles.{file-other, file-same}
 use Rattle.memory.proofs.Image.{placeAcc-of, rowOf-file, rowOf-place, each-row, listOf-free, listOf-read, listOf-write, listOf-port, listOf-timers, boxOf-free, boxOf-read, boxOf-write, boxOf-port, boxOf-timers, each-list}
 use Rattle.memory.proofs.Boxes.{getD-listsOf}
 use Rattle.midst.specs.Seg.{Seg, queueAt, sideQueue}
-use Rattle.midst.proofs.Lists.{boxes-are, entriesIn, wordsIn, below-side, list-side, box-side, place-under}
+use Rattle.midst.proofs.Lists.{boxes-are, entriesIn, wordsIn, below-side, list-side, box-side, place-under, queue-held, port-held}
 use Rattle.midst.proofs.Cuts.{count-made}
 use Rattle.midst.proofs.Boxed.{Boxed}
 use Rattle.midst.proofs.Goes.{blank}
@@ -78,21 +77,6 @@ once-apart d t B i m h k w g y hg n e x c z =
       ap (count (ownEntry (heldAt t i))) (getD-listsOf d t (queueAt w g) (below-side w g hg)),
     )
 
-queue-as : (t u : Alloc) (q : Built → List ℕ) (g : ℕ) (y : File)
-    → ((b : Built) → y ≡ built b → (x : ℕ) → 1 ≤ count x (q b) → heldAt u (placeOf g x) ≡ heldAt t (placeOf g x)) → queueOf q g y u ≡ queueOf q g y t
-unfolding queueOf
-queue-as t u q g unbuilt h = refl
-queue-as t u q g (built b) h =
-    map-in (λ x. ownEntry (heldAt u (placeOf g x))) (λ x. ownEntry (heldAt t (placeOf g x))) (q b) (λ x k. ap ownEntry (h b refl x k))
-
-port-as : (t u : Alloc) (j : ℕ) (q : Req) → heldAt u j ≡ heldAt t j → portOf q j u ≡ portOf q j t
-unfolding portOf
-port-as t u j idle e = refl
-port-as t u j (reading q) e = refl
-port-as t u j (writing q) e = refl
-port-as t u j (readDone q) e = rw e
-port-as t u j (writeDone q) e = rw e
-
 -- list l is none of the five
 pub record Off (f i l : ℕ) : Type 0 where
   pub free : l ≡ freeList → ⊥
@@ -138,7 +122,7 @@ module _ {f p : ℕ} {d : Desk} {t u : Alloc} {b c : Built} (C : Shift f p d t u
         boxOf-write next u g h ∙ ap (λ (y : File). queueWords g y (wqOf y)) (file-other d f g (built c) k) ∙ sym (boxOf-write d t g h),
       ))
       (λ j h o. let k : j ≡ i → ⊥ = λ e. o .port (omega arith) in (
-        listOf-port next u j h ∙ ap (λ (a : Option Acc). portOf (reqOf a) j u) (acc-other j k) ∙ port-as t u j (reqOf (placeAcc d j)) (C .held j k) ∙ sym (listOf-port d t j h),
+        listOf-port next u j h ∙ ap (λ (a : Option Acc). portOf (reqOf a) j u) (acc-other j k) ∙ port-held t u j (reqOf (placeAcc d j)) (ap ownEntry (C .held j k)) ∙ sym (listOf-port d t j h),
         boxOf-port next u j h ∙ ap (λ (a : Option Acc). portWords j (reqOf a)) (acc-other j k) ∙ sym (boxOf-port d t j h),
       ))
       (λ o. absurd (o .timers refl))
@@ -147,7 +131,7 @@ module _ {f p : ℕ} {d : Desk} {t u : Alloc} {b c : Built} (C : Shift f p d t u
           → queueOf q g (fileOf next g) u ≡ queueOf q g (fileOf d g) t
       queue w q g h k s =
           ap (λ (y : File). queueOf q g y u) (file-other d f g (built c) k)
-          ∙ queue-as t u q g (fileOf d g) (λ y e x z. C .held (placeOf g x) (C .apart w g y h k e x (s y x z)))
+          ∙ queue-held t u q g (fileOf d g) (λ y e x z. C .held (placeOf g x) (C .apart w g y h k e x (s y x z)))
 
   -- every row but row k
 

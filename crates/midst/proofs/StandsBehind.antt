@@ -20,6 +20,7 @@ use Rattle.laws.proofs.Calls.{walked}
 use Rattle.laws.proofs.Allocated.{happens-here}
 use Rattle.laws.proofs.Allocated as laws
 use Rattle.laws.proofs.EightFiles.{file-same, file-time}
+use Rattle.memory.specs.Memories.{Memories, memories}
 use Rattle.memory.specs.Stands.{Stands, shareAt, buffersAt}
 use Rattle.memory.specs.Fine.{StandsFor}
 use Rattle.midst.specs.Outcome.{Outcome, Stays}
@@ -76,44 +77,44 @@ stays-unbuilt e unbuilt h = refl
 stays-unbuilt e (built b) h = absurd (true≢false (unfold is-built in ap is-built h))
 
 -- whatever the rules' desk and allocation are
-module _ {xs blocks buffers : List ℕ} {d : Desk} {s : Alloc} (S : StandsFor xs blocks buffers d s) (c : Call) where
-  pub stands-for : (xs′ blocks′ buffers′ : List ℕ) → Stands xs′ blocks′ buffers′ (respond d c .desk) (allocAsked d (asked c) s)
-      → StandsFor xs′ blocks′ buffers′ (respond d c .desk) (allocAsked d (asked c) s)
+module _ {m : Memories} {d : Desk} {s : Alloc} (S : StandsFor m d s) (c : Call) where
+  pub stands-for : (m′ : Memories) → Stands m′ (respond d c .desk) (allocAsked d (asked c) s)
+      → StandsFor m′ (respond d c .desk) (allocAsked d (asked c) s)
   unfolding respond
-  stands-for xs′ blocks′ buffers′ T = record {
+  stands-for m′ T = record {
     stands = T;
     fine = answered-fine d (asked c) (S .agreed .eight) (asked-proper c) (S .fine);
     agreed = laws.answers d s (asked c) (asked-proper c) (S .agreed);
   }
 
   module _ (f : ℕ) (q : Ask) (is : asked c ≡ on f q) (hf : f < files) where
-    pub outcome-stays : {xs′ blocks′ buffers′ : List ℕ} → Built′ (ask (fileOf d f) q) → Outcome f d s (ask (fileOf d f) q) blocks buffers xs′ blocks′ buffers′
-        → Stays d s c blocks buffers xs′ blocks′ buffers′
+    pub outcome-stays : {ms′ : Memories} → Built′ (ask (fileOf d f) q) → Outcome f d s (ask (fileOf d f) q) m ms′
+        → Stays d s c m ms′
     unfolding is-built
-    outcome-stays {xs′} {blocks′} {buffers′} B O =
+    outcome-stays {ms′} B O =
         let e : respond d c .desk ≡ withFile d f (ask (fileOf d f) q .file) = ap (λ (r : Responded). r .desk) (respond-is d s c f q is hf) in
         record {
-          stands = stands-for xs′ blocks′ buffers′ (rw (e, alloc-is d s c f q is hf) (O .stands));
+          stands = stands-for ms′ (rw (e, alloc-is d s c f q is hf) (O .stands));
           rest = λ g h u. apart g h (sym (ap (λ (z : Desk). fileOf z g) e) ∙ u) (ℕ-discrete g f);
         }
       where
         apart : (g : ℕ) → g < files → fileOf (withFile d f (ask (fileOf d f) q .file)) g ≡ unbuilt → Dec (g ≡ f)
-            → (shareAt g blocks′ ≡ shareAt g blocks) × (buffersAt g buffers′ ≡ buffersAt g buffers)
+            → (shareAt g (ms′ .blocks) ≡ shareAt g (m .blocks)) × (buffersAt g (ms′ .buffers) ≡ buffersAt g (m .buffers))
         apart g h u (yes k) = absurd (true≢false (ap is-built (sym (B .is) ∙ sym (file-same d f (ask (fileOf d f) q .file) (S .agreed .eight) hf) ∙ ap (fileOf (withFile d f (ask (fileOf d f) q .file))) (sym k) ∙ u)))
         apart g h u (no k) = (O .apart .shares g h k, O .apart .others g h k)
 
   -- time
-  pub time-stays : (e : ℕ) → asked c ≡ time e → (xs′ buffers′ : List ℕ) → Stands xs′ blocks buffers′ (deskTime e d) (allocTime e s)
-      → ((g : ℕ) → g < files → fileOf d g ≡ unbuilt → buffersAt g buffers′ ≡ buffersAt g buffers) → Stays d s c blocks buffers xs′ blocks buffers′
+  pub time-stays : (e : ℕ) → asked c ≡ time e → (xs′ buffers′ : List ℕ) → Stands (memories xs′ (m .blocks) buffers′) (deskTime e d) (allocTime e s)
+      → ((g : ℕ) → g < files → fileOf d g ≡ unbuilt → buffersAt g buffers′ ≡ buffersAt g (m .buffers)) → Stays d s c m (memories xs′ (m .blocks) buffers′)
   unfolding is-built
   time-stays e is xs′ buffers′ T h =
       let desk-is : respond d c .desk ≡ deskTime e d = unfold respond answered in rw (is, answered) refl in
       let alloc-is : allocAsked d (asked c) s ≡ allocTime e s = unfold allocAsked in rw (is, allocAsked) refl in
       record {
-        stands = stands-for xs′ blocks buffers′ (rw (desk-is, alloc-is) T);
+        stands = stands-for (memories xs′ (m .blocks) buffers′) (rw (desk-is, alloc-is) T);
         rest = λ g k u. (refl, h g k (stays-unbuilt e (fileOf d g) (sym (file-time e d g) ∙ sym (ap (λ (z : Desk). fileOf z g) desk-is) ∙ u)));
       }
 
   -- nothing happens
-  pub still-stays : respond d c .desk ≡ d → allocAsked d (asked c) s ≡ s → Stays d s c blocks buffers xs blocks buffers
-  still-stays e u = record { stands = stands-for xs blocks buffers (rw (e, u) (S .stands)); rest = λ g k _. (refl, refl) }
+  pub still-stays : respond d c .desk ≡ d → allocAsked d (asked c) s ≡ s → Stays d s c m m
+  still-stays e u = record { stands = stands-for m (rw (e, u) (S .stands)); rest = λ g k _. (refl, refl) }

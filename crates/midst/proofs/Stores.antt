@@ -28,6 +28,7 @@ use Rattle.blocks.specs.Writing.{inscribed}
 use Rattle.ring.proofs.Stores.{ring-put}
 use Rattle.blocks.proofs.Held.{held-inscribed}
 use Rattle.shares.proofs.Put.{length-inscribed}
+use Rattle.memory.specs.Memories.{Memories, memories}
 use Rattle.memory.specs.Image.{accOf, rqOf, wqOf}
 use Rattle.memory.specs.Stands.{shareAt}
 use Rattle.words.proofs.Parts.{sets-whole}
@@ -60,16 +61,16 @@ seg-storing xs d f b c t u S e G =
       same = λ i h n. G .same i h n ∙ rows-same d f (built b) (built c) (λ p. rw (S .accs)) i h n;
     }
 
-module _ {I J : Built → Type 0} {f : ℕ} {o : Start} {xs blocks buffers : List ℕ} {x : hand.File} {b : Built} (M : Mid I f o xs blocks buffers x b) where
+module _ {I J : Built → Type 0} {f : ℕ} {o : Start} {ms : Memories} {x : hand.File} {b : Built} (M : Mid I f o ms x b) where
   pub mid-storing : (c : Built) (blocks′ : List ℕ) → Storing b c → J c → laws.Mid f (o .alloc) c → allotAll f (c .past) (o .alloc) ≡ allotAll f (b .past) (o .alloc)
-      → shareAt f blocks′ ≡ c .store .share → length blocks′ ≡ length blocks → ((g : ℕ) → (g ≡ f → ⊥) → shareAt g blocks′ ≡ shareAt g blocks)
-      → Mid J f o xs blocks′ buffers (inHand c) c
+      → shareAt f blocks′ ≡ c .store .share → length blocks′ ≡ length (ms .blocks) → ((g : ℕ) → (g ≡ f → ⊥) → shareAt g blocks′ ≡ shareAt g (ms .blocks))
+      → Mid J f o (memories (ms .segment) blocks′ (ms .buffers)) (inHand c) c
   mid-storing c blocks′ S j m e s n other = record {
     file = M .file;
     eight = M .eight;
     good = j;
     allots = m;
-    segment = seg-storing xs (o .desk) f b c _ _ S e (M .segment);
+    segment = seg-storing (ms .segment) (o .desk) f b c _ _ S e (M .segment);
     row = refl;
     share = s;
     buffer = M .buffer ∙ ap fileBuffers (sym (S .accs));
@@ -79,7 +80,7 @@ module _ {I J : Built → Type 0} {f : ℕ} {o : Start} {xs blocks buffers : Lis
   }
 
 -- what a file in hand and its share are for the functions on blocks
-module _ {I : Built → Type 0} {f : ℕ} {o : Start} {xs blocks buffers : List ℕ} {x : hand.File} {b : Built} (M : Mid I f o xs blocks buffers x b)
+module _ {I : Built → Type 0} {f : ℕ} {o : Start} {m : Memories} {x : hand.File} {b : Built} (M : Mid I f o m x b)
     (k : GoodGeo (b .geo)) (h : Holds (b .geo) (b .store)) where
   in-hand : (P : hand.File → Type 0) → P (inHand b) → P x
   in-hand P p = subst P (sym (M .row)) p
@@ -87,10 +88,10 @@ module _ {I : Built → Type 0} {f : ℕ} {o : Start} {xs blocks buffers : List 
   pub mid-fitted : Fitted (x .words) (x .ring)
   mid-fitted = in-hand (λ y. Fitted (y .words) (y .ring)) (record { words = k .words-high; factor = k .factor-high; sized = good-sized (b .geo) k })
 
-  pub mid-stores : Stores (x .words) (x .ring) (shareAt f blocks) (b .store)
-  mid-stores = in-hand (λ y. Stores (y .words) (y .ring) (shareAt f blocks) (b .store)) (record { holds = h; ring = refl; share = sym (M .share) })
+  pub mid-stores : Stores (x .words) (x .ring) (shareAt f (m .blocks)) (b .store)
+  mid-stores = in-hand (λ y. Stores (y .words) (y .ring) (shareAt f (m .blocks)) (b .store)) (record { holds = h; ring = refl; share = sym (M .share) })
 
-  pub mid-held : Held (x .words) (x .ring) (shareAt f blocks)
+  pub mid-held : Held (x .words) (x .ring) (shareAt f (m .blocks))
   mid-held = record { fitted = mid-fitted; store = b .store; holds = mid-stores .holds; ring = mid-stores .ring; share = mid-stores .share }
 
 -- records go
@@ -107,31 +108,31 @@ unfolding allotAll allot
 puts-same f [] r s = refl
 puts-same f (h ∷ hs) r s = puts-same f hs r (allot f h s)
 
-module _ {I J : Built → Type 0} {f : ℕ} {o : Start} {xs blocks buffers : List ℕ} {x : hand.File} {b : Built} (M : Mid I f o xs blocks buffers x b) where
-  pub mid-behind : (p : ℕ) (typed keep : Bool) → let c : Built = behind p (fetch (b .geo) typed keep (b .store)) b in J c → Mid J f o xs blocks buffers (inHand c) c
+module _ {I J : Built → Type 0} {f : ℕ} {o : Start} {ms : Memories} {x : hand.File} {b : Built} (M : Mid I f o ms x b) where
+  pub mid-behind : (p : ℕ) (typed keep : Bool) → let c : Built = behind p (fetch (b .geo) typed keep (b .store)) b in J c → Mid J f o ms (inHand c) c
   unfolding behind say withStore
   mid-behind p typed keep j =
-      mid-storing {J = J} M _ blocks (record { accs = refl; reads = refl; writes = refl }) j (mid-walks f (M .file) (o .alloc) .fetches p typed keep b (M .allots))
+      mid-storing {J = J} M _ (ms .blocks) (record { accs = refl; reads = refl; writes = refl }) j (mid-walks f (M .file) (o .alloc) .fetches p typed keep b (M .allots))
       (gone-same f p (b .past) (fetch (b .geo) typed keep (b .store) .went) (fetch (b .geo) typed keep (b .store) .took) (o .alloc)) (M .share ∙ sym (share-fetch (b .geo) typed keep (b .store))) refl (λ g n. refl)
 
   -- a record is put
   pub mid-put : (k : GoodGeo (b .geo)) (h : Holds (b .geo) (b .store)) (r : Rec) → J (putRec r b) → laws.Mid f (o .alloc) (putRec r b)
-      → Mid J f o xs (sets blocks (shareBytes * f) (inscribed (x .words) (x .ring) r (shareAt f blocks))) buffers (record { words = x .words; ring = ring.put (x .ring) }) (putRec r b)
+      → Mid J f o (memories (ms .segment) (sets (ms .blocks) (shareBytes * f) (inscribed (x .words) (x .ring) r (shareAt f (ms .blocks)))) (ms .buffers)) (record { words = x .words; ring = ring.put (x .ring) }) (putRec r b)
   unfolding putRec say withStore put mid-held
   mid-put k h r j m =
-      subst (λ (y : hand.File). Mid J f o xs (sets blocks (shareBytes * f) (inscribed (x .words) (x .ring) r (shareAt f blocks))) buffers y (putRec r b)) hand-put
+      subst (λ (y : hand.File). Mid J f o (memories (ms .segment) (sets (ms .blocks) (shareBytes * f) (inscribed (x .words) (x .ring) r (shareAt f (ms .blocks)))) (ms .buffers)) y (putRec r b)) hand-put
       (mid-storing {J = J} M _ _ (record { accs = refl; reads = refl; writes = refl }) j m (puts-same f (b .past) r (o .alloc))
-      share-put (length-sets blocks (shareBytes * f) ys) (λ g n. rw (← at-zero) (shareAt-sets-other f 0 ys blocks long g n)))
+      share-put (length-sets (ms .blocks) (shareBytes * f) ys) (λ g n. rw (← at-zero) (shareAt-sets-other f 0 ys (ms .blocks) long g n)))
     where
       ys : List ℕ
-      ys = inscribed (x .words) (x .ring) r (shareAt f blocks)
+      ys = inscribed (x .words) (x .ring) r (shareAt f (ms .blocks))
 
       at-zero : shareBytes * f + 0 ≡ shareBytes * f
       at-zero = omega arith
 
       is : ys ≡ put (b .geo) r (b .store) .share
       is =
-          held-inscribed (x .words) (x .ring) (shareAt f blocks) (mid-held M k h) r
+          held-inscribed (x .words) (x .ring) (shareAt f (ms .blocks)) (mid-held M k h) r
           ∙ ap (λ (y : hand.File). put (geo (y .words) (y .ring)) r (b .store) .share) (M .row)
 
       full : length ys ≡ shareBytes
@@ -140,10 +141,10 @@ module _ {I J : Built → Type 0} {f : ℕ} {o : Start} {xs blocks buffers : Lis
       long : 0 + length ys ≤ shareBytes
       long = omega (arith, full)
 
-      share-put : shareAt f (sets blocks (shareBytes * f) ys) ≡ put (b .geo) r (b .store) .share
+      share-put : shareAt f (sets (ms .blocks) (shareBytes * f) ys) ≡ put (b .geo) r (b .store) .share
       share-put =
-          ap (λ (n : ℕ). shareAt f (sets blocks n ys)) (sym at-zero) ∙ shareAt-sets f 0 ys blocks long
-          ∙ sets-whole (shareAt f blocks) ys (full ∙ sym (ap length (M .share) ∙ h .long)) ∙ is
+          ap (λ (n : ℕ). shareAt f (sets (ms .blocks) n ys)) (sym at-zero) ∙ shareAt-sets f 0 ys (ms .blocks) long
+          ∙ sets-whole (shareAt f (ms .blocks)) ys (full ∙ sym (ap length (M .share) ∙ h .long)) ∙ is
 
       hand-put : inHand (putRec r b) ≡ record { words = x .words; ring = ring.put (x .ring) }
       hand-put =

@@ -1,7 +1,10 @@
 -- The file in hand: its row's numbers by value.
+use mathlib.Core.Path.{_≡_}
 use mathlib.Core.List.{List, [], _∷_}
 use Prim.Native.Nat.{ℕ}
 use Rattle.segment.specs.declared.FileRow.{FileRow}
+use Rattle.segment.specs.Layout.{fileRowAt, fileWidth}
+use Rattle.segment.specs.Table.{row}
 use Rattle.ring.specs.Ring.{ringOf}
 use Rattle.rules.specs.State.{Built}
 use Rattle.midst.specs.declared.File.{File}
@@ -19,3 +22,11 @@ fileRowWords x = x .words ∷ x .ring .factor ∷ x .ring .blocks ∷ x .ring .b
 -- a file of the rules in hand
 abbrev pub inHand : Built → File
 inHand b = record { words = b .geo .words; ring = ringOf (b .geo) (b .store) }
+
+-- the row of file f holds x, but for where its ring stands
+pub record RowStands (xs : List ℕ) (f : ℕ) (x : File) : Type 0 where
+  pub file : File
+  pub row : row xs (fileRowAt f) fileWidth ≡ fileRowWords file
+  pub words : file .words ≡ x .words
+  pub factor : file .ring .factor ≡ x .ring .factor
+  pub blocks : file .ring .blocks ≡ x .ring .blocks

@@ -6,6 +6,7 @@ use Rattle.rules.specs.Limits.{files}
 use Rattle.rules.specs.State.{Built, built}
 use Rattle.rules.specs.Desk.{Desk, fileOf}
 use Rattle.rules.specs.Allocation.{Alloc}
+use Rattle.memory.specs.Memories.{memories}
 use Rattle.memory.specs.Fine.{StandsFor}
 
 -- the memories, with some buffers, stand for a desk whose file f is built
@@ -15,5 +16,5 @@ pub record FileStands (xs blocks : List ℕ) (f : ℕ) : Type 0 where
   pub d : Desk
   pub s : Alloc
   pub b : Built
-  pub stands : StandsFor xs blocks buffers d s
+  pub stands : StandsFor (memories xs blocks buffers) d s
   pub is : fileOf d f ≡ built b

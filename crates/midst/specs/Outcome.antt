@@ -10,11 +10,12 @@ use Rattle.kinds.specs.declared.Answer.{Answer}
 use Rattle.kinds.specs.declared.Answer.the-variants.{Built, Opened, Read, Written, Controlled, Collected, Closed, Passed, Counted, Status}
 use Rattle.rules.specs.Answers.{answerBytes}
 use Rattle.rules.specs.Reply.{Reply, answers, shows, Out}
-use Rattle.rules.specs.Calls.{Ask}
+use Rattle.rules.specs.Calls.{Ask, ask}
 use Rattle.rules.specs.Limits.{bufferBytes}
-use Rattle.rules.specs.Desk.{Desk, Call, asked, replyBytes, on, answered, respond, withFile}
+use Rattle.rules.specs.Desk.{Desk, Call, asked, replyBytes, on, answered, respond, withFile, fileOf}
 use Rattle.rules.specs.Allocation.{Alloc, allotAll, allocAsked}
 use Rattle.laws.specs.Bounds.{leastRefusal}
+use Rattle.memory.specs.Memories.{Memories}
 use Rattle.memory.specs.Stands.{Stands}
 use Rattle.memory.specs.Covers.{Alike}
 use Rattle.memory.specs.Fine.{StandsFor}
@@ -42,38 +43,45 @@ unfoldable pub refusalOf : Reply → ℕ
 refusalOf r = cond (ltb (replyStatus r) leastRefusal) 0 (replyStatus r)
 
 -- the memories stand for a desk
-abbrev pub Sound : List ℕ → List ℕ → List ℕ → Type 0
-Sound xs blocks buffers = (d : Desk) × (s : Alloc) × StandsFor xs blocks buffers d s
+abbrev pub Sound : Memories → Type 0
+Sound m = (d : Desk) × (s : Alloc) × StandsFor m d s
 
 -- the answer's bytes stand from the first byte of the answer memory, all behind them is as it was, and n is how many
 pub record Told (r : Reply) (memory memory′ : List ℕ) (n : ℕ) : Type 0 where
   pub bytes : memory′ ≡ sets memory 0 (replyBytes r)
   pub size : n ≡ length (replyBytes r)
 
--- the memories, of which the two were `blocks` and `buffers` before a call of file f, stand for the desk and the allocation behind x
-pub record Outcome (f : ℕ) (d : Desk) (s : Alloc) (x : Out) (blocks buffers xs′ blocks′ buffers′ : List ℕ) : Type 0 where
-  pub stands : Stands xs′ blocks′ buffers′ (withFile d f (x .file)) (allotAll f (x .haps) s)
-  pub apart : Apart f blocks buffers blocks′ buffers′
+-- the memories, which were m before a call of file f, stand for the desk and the allocation behind x
+pub record Outcome (f : ℕ) (d : Desk) (s : Alloc) (x : Out) (m m′ : Memories) : Type 0 where
+  pub stands : Stands m′ (withFile d f (x .file)) (allotAll f (x .haps) s)
+  pub apart : Apart f m m′
 
 -- a call of file f that comes to x and is answered a, with no data behind it
-pub record Done (f : ℕ) (d : Desk) (s : Alloc) (x : Out) (blocks buffers xs′ blocks′ buffers′ : List ℕ) (a : Answer) : Type 0 where
-  pub outcome : Outcome f d s x blocks buffers xs′ blocks′ buffers′
+pub record Done (f : ℕ) (d : Desk) (s : Alloc) (x : Out) (m m′ : Memories) (a : Answer) : Type 0 where
+  pub outcome : Outcome f d s x m m′
   pub reply : x .reply ≡ answers a []
 
 -- and with n bytes of data, which stand in the answer memory where the answer's own bytes end
-pub record Gave (f : ℕ) (d : Desk) (s : Alloc) (x : Out) (blocks buffers memory xs′ blocks′ buffers′ memory′ : List ℕ) (a : Answer) (n : ℕ) : Type 0 where
-  pub outcome : Outcome f d s x blocks buffers xs′ blocks′ buffers′
+pub record Gave (f : ℕ) (d : Desk) (s : Alloc) (x : Out) (m : Memories) (memory : List ℕ) (m′ : Memories) (memory′ : List ℕ) (a : Answer) (n : ℕ) : Type 0 where
+  pub outcome : Outcome f d s x m m′
   pub bytes : List ℕ
   pub reply : x .reply ≡ answers a bytes
   pub size : n ≡ length bytes
   pub most : n ≤ bufferBytes
   pub behind : memory′ ≡ sets memory (length (answerBytes a)) bytes
 
+-- the same for every desk and allocation that the memories m stand for, of what is asked of file f
+abbrev pub Does : ℕ → Ask → Memories → Memories → Answer → Type 0
+Does f q m m′ a = (d : Desk) (s : Alloc) → StandsFor m d s → Done f d s (ask (fileOf d f) q) m m′ a
+
+abbrev pub Gives : ℕ → Ask → Memories → List ℕ → Memories → List ℕ → Answer → ℕ → Type 0
+Gives f q m memory m′ memory′ a n = (d : Desk) (s : Alloc) → StandsFor m d s → Gave f d s (ask (fileOf d f) q) m memory m′ memory′ a n
+
 -- no desk that the memories stand for refuses what is asked of file f
-abbrev pub Accepted : ℕ → Ask → List ℕ → List ℕ → List ℕ → Type 0
-Accepted f q xs blocks buffers = (d : Desk) (s : Alloc) → StandsFor xs blocks buffers d s → refusalOf (answered d (on f q) .reply) ≡ 0
+abbrev pub Accepted : ℕ → Ask → Memories → Type 0
+Accepted f q m = (d : Desk) (s : Alloc) → StandsFor m d s → refusalOf (answered d (on f q) .reply) ≡ 0
 
 -- the memories behind a call of the desk d with the allocation s are those of the rules' desk and allocation; files that are not built keep their bytes
-pub record Stays (d : Desk) (s : Alloc) (c : Call) (blocks buffers xs′ blocks′ buffers′ : List ℕ) : Type 0 where
-  pub stands : StandsFor xs′ blocks′ buffers′ (respond d c .desk) (allocAsked d (asked c) s)
-  pub rest : Alike (respond d c .desk) blocks′ buffers′ blocks buffers
+pub record Stays (d : Desk) (s : Alloc) (c : Call) (m m′ : Memories) : Type 0 where
+  pub stands : StandsFor m′ (respond d c .desk) (allocAsked d (asked c) s)
+  pub rest : Alike (respond d c .desk) m′ m

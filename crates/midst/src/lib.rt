@@ -6,9 +6,10 @@ ghost use Rattle.rules.specs.Limits.{files};
 ghost use Rattle.segment.specs.Layout.{segmentBytes, fileRowAt};
 ghost use Rattle.segment.specs.Table.{fill};
 ghost use Rattle.segment.specs.Fields.{fileAt};
-ghost use Rattle.midst.specs.File.{fileOfRow, fileRowWords};
+ghost use Rattle.midst.specs.File.{fileOfRow, fileRowWords, RowStands};
 use ring::Ring;
 use segment::FileRow;
+use segment::layout;
 
 // R, and the ring of the file's blocks.
 pub struct File {
@@ -51,4 +52,18 @@ pub fn put_file(segment: &mut [u8], f: usize, file: File)
         held: ring.held,
     };
     segment::write_file(segment, f, row);
+}
+
+// And back where the row holds it already, but for where its ring stands.
+pub fn put_ring(segment: &mut [u8], f: usize, file: File)
+    requires { ⌜ length (now segment) ≡ segmentBytes ⌝ }
+    requires { ⌜ f < files ⌝ }
+    requires { ⌜ RowStands (now segment) f file ⌝ }
+    ensures { λ _. ⌜ now (segment .exit) ≡ fill (now (segment .entry)) (fileRowAt f) (fileRowWords file) ⌝ }
+{
+    let at = layout::FILE_ROWS + layout::FILE_ROW_WORDS * f;
+    let ring = file.ring;
+    segment::put(segment, at + layout::FILE_BLOCK, ring.block);
+    segment::put(segment, at + layout::FILE_SPENT, ring.spent);
+    segment::put(segment, at + layout::FILE_HELD, ring.held);
 }

@@ -1,7 +1,6 @@
 -- A file is built: its row is written, and its share and its buffers are zeros.
 use Prim.Native.Nat.{ℕ, _*_, _≤_, _<_}
 use mathlib.Core.Path.{_≡_, refl}
-use mathlib.Core.List.{List}
 use lib.ListN.{length}
 use lib.Seq.{sets}
 use Rattle.words.specs.Word.{zeros, Bytes}
@@ -21,6 +20,7 @@ use Rattle.rules.specs.Calls.{ask}
 use Rattle.rules.specs.Calls as calls
 use Rattle.rules.specs.Desk.{Desk, fileOf}
 use Rattle.rules.specs.Allocation.{Alloc, allot, allotAll}
+use Rattle.memory.specs.Memories.{Memories}
 use Rattle.memory.specs.Image as image
 use Rattle.memory.specs.Fine.{StandsFor}
 use Rattle.midst.specs.Outcome.{Sound, Accepted, Done}
@@ -28,32 +28,32 @@ use Rattle.midst.proofs.Accepted.{accepted-build}
 use Rattle.midst.proofs.New.{made}
 
 -- build, its numbers judged
-module _ {xs blocks buffers : List ℕ} (f r b n x : ℕ) where
-  pub build-file : Sound xs blocks buffers × Accepted f (calls.build r b n x) xs blocks buffers → f < files
+module _ {ms : Memories} (f r b n x : ℕ) where
+  pub build-file : Sound ms × Accepted f (calls.build r b n x) ms → f < files
   build-file (k, a) = accepted-build (k .0) f r b n x (a (k .0) (k .1) (k .2)) .file
 
-  pub build-numbers : Sound xs blocks buffers × Accepted f (calls.build r b n x) xs blocks buffers → ((1 ≤ n) × (n ≤ mostRecords)) × ((1 ≤ b) × (b ≤ mostFactor)) × ((1 ≤ x) × (x ≤ mostExtents))
+  pub build-numbers : Sound ms × Accepted f (calls.build r b n x) ms → ((1 ≤ n) × (n ≤ mostRecords)) × ((1 ≤ b) × (b ≤ mostFactor)) × ((1 ≤ x) × (x ≤ mostExtents))
   build-numbers (k, a) =
       let i = in-range-is r b n x (accepted-build (k .0) f r b n x (a (k .0) (k .1) (k .2)) .known .numbers) in
       (i .2, i .1, i .3)
 
   -- what is built has no more records than its share has words
-  pub build-room : Sound xs blocks buffers × Accepted f (calls.build r b n x) xs blocks buffers → (m : ℕ) → m ≡ dataBlocks n b x → capacity b m ≤ shareWords
+  pub build-room : Sound ms × Accepted f (calls.build r b n x) ms → (m : ℕ) → m ≡ dataBlocks n b x → capacity b m ≤ shareWords
   build-room (k, a) m e = rw e (fits-capacity r b (dataBlocks n b x) (accepted-build (k .0) f r b n x (a (k .0) (k .1) (k .2)) .known .fits))
 
-  pub build-sizes : Sound xs blocks buffers × Accepted f (calls.build r b n x) xs blocks buffers → (length xs ≡ segmentBytes) × (length blocks ≡ shareBytes * files) × (length buffers ≡ places * bufferBytes * files)
+  pub build-sizes : Sound ms × Accepted f (calls.build r b n x) ms → (length (ms .segment) ≡ segmentBytes) × (length (ms .blocks) ≡ shareBytes * files) × (length (ms .buffers) ≡ places * bufferBytes * files)
   build-sizes (k, a) = (k .2 .stands .segment .size, k .2 .stands .bodies .blocks-size, k .2 .stands .bodies .buffers-size)
 
-  pub build-done : Sound xs blocks buffers × Accepted f (calls.build r b n x) xs blocks buffers → (m c : ℕ) (xs′ blocks′ buffers′ : List ℕ) → m ≡ dataBlocks n b x → c ≡ capacity b m
-      → xs′ ≡ fill xs (fileRowAt f) (fileWords (record { words = r; factor = b; blocks = m; block = 0; spent = 0; held = 0 }))
-      → blocks′ ≡ sets blocks (shareBytes * f) (zeros shareBytes) → buffers′ ≡ sets buffers (places * bufferBytes * f) (zeros (places * bufferBytes)) → Bytes xs′ → Bytes blocks′ → Bytes buffers′
-      → (d : Desk) (s : Alloc) → StandsFor xs blocks buffers d s
-      → Done f d s (ask (fileOf d f) (calls.build r b n x)) blocks buffers xs′ blocks′ buffers′ (answer.Built c)
+  pub build-done : Sound ms × Accepted f (calls.build r b n x) ms → (m c : ℕ) (ms′ : Memories) → m ≡ dataBlocks n b x → c ≡ capacity b m
+      → ms′ .segment ≡ fill (ms .segment) (fileRowAt f) (fileWords (record { words = r; factor = b; blocks = m; block = 0; spent = 0; held = 0 }))
+      → ms′ .blocks ≡ sets (ms .blocks) (shareBytes * f) (zeros shareBytes) → ms′ .buffers ≡ sets (ms .buffers) (places * bufferBytes * f) (zeros (places * bufferBytes)) → Bytes (ms′ .segment) → Bytes (ms′ .blocks) → Bytes (ms′ .buffers)
+      → (d : Desk) (s : Alloc) → StandsFor ms d s
+      → Done f d s (ask (fileOf d f) (calls.build r b n x)) ms ms′ (answer.Built c)
   unfolding answering leaves geoOf newFile emptyStore allotAll allot fileWords image.fileWords
-  build-done (k, a) m c xs′ blocks′ buffers′ em ec wrote zeroed blank xb bb ub d s S =
+  build-done (k, a) m c ms′ em ec wrote zeroed blank xb bb ub d s S =
       let A = accepted-build d f r b n x (a d s S) in
       let g : Geo = geoOf r b (dataBlocks n b x) in
       rw (A .known .out) record {
-        outcome = made S f (A .file) (A .stands) g emptyStore (length-zeros shareBytes) xs′ blocks′ buffers′ (rw (← em) wrote) zeroed blank xb bb ub (answering (answer.Built (capacity b (dataBlocks n b x))) (newFile g emptyStore)) refl refl;
+        outcome = made S f (A .file) (A .stands) g emptyStore (length-zeros shareBytes) ms′ (rw (← em) wrote) zeroed blank xb bb ub (answering (answer.Built (capacity b (dataBlocks n b x))) (newFile g emptyStore)) refl refl;
         reply = rw (ec, em);
       }

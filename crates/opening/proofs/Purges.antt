@@ -20,6 +20,7 @@ use Rattle.store.specs.Door.{Stored, Keeps, emptied}
 use Rattle.store.proofs.Hands.{through}
 use Rattle.store.proofs.Purges.{emptied-stored}
 use Rattle.opening.specs.Opens.{Takes}
+use Rattle.memory.specs.Memories.{memories}
 
 pub purged-accs : (access : ℕ) (b : Built) → purged access b .accs ≡ b .accs
 unfolding say withStore
@@ -27,18 +28,18 @@ purged-accs access b = purged-keeps (λ (c : Built). c .accs ≡ b .accs) access
 
 -- the code's test is the rules'
 module _ (xs : List ℕ) (f access : ℕ) (t : Bool) (k : t ≡ purgesAt xs f access) where
-  test : {o : Start} {blocks buffers : List ℕ} {x : hand.File} {b : Built} → Mid Stored f o xs blocks buffers x b → t ≡ (eqb access 1 && eqb (opened b) 0)
+  test : {o : Start} {blocks buffers : List ℕ} {x : hand.File} {b : Built} → Mid Stored f o (memories xs blocks buffers) x b → t ≡ (eqb access 1 && eqb (opened b) 0)
   test {b = b} M = k ∙ purges-is xs f b (M .allots .matches .agrees .eight) (mid-row M) access
 
   module _ (x : hand.File) (e : x ≡ fileOfRow (fileAt xs f)) where
     pub taken-plain : t ≡ false → Takes access f xs x
     unfolding purged
     taken-plain h = λ o blocks buffers b M.
-        subst (λ (c : Built). Mid Stored f o xs blocks buffers x c) (sym (pick-false (eqb access 1 && eqb (opened b) 0) _ _ (sym (test M) ∙ h)))
-        (subst (λ (y : hand.File). Mid Stored f o xs blocks buffers y b) (sym e) M)
+        subst (λ (c : Built). Mid Stored f o (memories xs blocks buffers) x c) (sym (pick-false (eqb access 1 && eqb (opened b) 0) _ _ (sym (test M) ∙ h)))
+        (subst (λ (y : hand.File). Mid Stored f o (memories xs blocks buffers) y b) (sym e) M)
 
     pub taken-purged : t ≡ true → (y : hand.File) → ((g : ℕ) (blocks : List ℕ) → Keeps g emptied blocks x blocks y) → Takes access f xs y
     unfolding purged emptied
     taken-purged h y keeps = λ o blocks buffers b M.
-        subst (λ (c : Built). Mid Stored f o xs blocks buffers y c) (sym (pick-true (eqb access 1 && eqb (opened b) 0) _ _ (sym (test M) ∙ h)))
-        (through (subst (λ (z : hand.File). Mid Stored f o xs blocks buffers z b) (sym e) M) emptied blocks y (keeps f blocks) (M .good) (emptied-stored b (M .good)))
+        subst (λ (c : Built). Mid Stored f o (memories xs blocks buffers) y c) (sym (pick-true (eqb access 1 && eqb (opened b) 0) _ _ (sym (test M) ∙ h)))
+        (through (subst (λ (z : hand.File). Mid Stored f o (memories xs blocks buffers) z b) (sym e) M) emptied blocks y (keeps f blocks) (M .good) (emptied-stored b (M .good)))

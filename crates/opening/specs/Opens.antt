@@ -10,6 +10,7 @@ use Rattle.rules.specs.Requests.{opened}
 use Rattle.rules.specs.Open.{purged, roomToOpen}
 use Rattle.rules.specs.Desk.{Desk, fileOf}
 use Rattle.rules.specs.Allocation.{Alloc}
+use Rattle.memory.specs.Memories.{Memories, memories}
 use Rattle.memory.specs.Fine.{StandsFor}
 use Rattle.midst.specs.declared.File.{File}
 use Rattle.midst.specs.File.{fileOfRow}
@@ -17,8 +18,8 @@ use Rattle.midst.specs.Mid.{Start, Mid}
 use Rattle.store.specs.Door.{Stored}
 
 -- whatever desk the memories stand for, its file f is built, and K holds of it
-abbrev pub Each : (Built → Type 0) → ℕ → List ℕ → List ℕ → List ℕ → Type 0
-Each K f xs blocks buffers = (d : Desk) (s : Alloc) → StandsFor xs blocks buffers d s → (f < files) × (b : Built) × (fileOf d f ≡ built b) × K b
+abbrev pub Each : (Built → Type 0) → ℕ → Memories → Type 0
+Each K f m = (d : Desk) (s : Alloc) → StandsFor m d s → (f < files) × (b : Built) × (fileOf d f ≡ built b) × K b
 
 -- a place is free, and for a writer there is room for its open record
 abbrev pub Reads : Built → Type 0
@@ -30,4 +31,4 @@ Writes access b = (opened b < places) × (roomToOpen access b ≡ true)
 -- file f in hand, purged or not: in the midst of every call it stands for the rules' file
 abbrev pub Takes : ℕ → ℕ → List ℕ → File → Type 0
 Takes access f xs x =
-    (o : Start) (blocks buffers : List ℕ) (b : Built) → Mid Stored f o xs blocks buffers (fileOfRow (fileAt xs f)) b → Mid Stored f o xs blocks buffers x (purged access b)
+    (o : Start) (blocks buffers : List ℕ) (b : Built) → Mid Stored f o (memories xs blocks buffers) (fileOfRow (fileAt xs f)) b → Mid Stored f o (memories xs blocks buffers) x (purged access b)

@@ -11,6 +11,7 @@ ghost use Rattle.rules.specs.Open.{purged, openReader, openWriter};
 ghost use Rattle.rules.specs.Desk.{Desk, fileOf};
 ghost use Rattle.rules.specs.Allocation.{Alloc};
 ghost use Rattle.ring.specs.Ring.{Ranged};
+ghost use Rattle.memory.specs.Memories.{memories};
 ghost use Rattle.memory.specs.Fine.{StandsFor};
 ghost use Rattle.midst.specs.File.{fileOfRow};
 ghost use Rattle.midst.specs.Outcome.{Sound, Done};
@@ -69,8 +70,8 @@ pub fn open_reader(
     f: usize,
     share: u16,
 ) -> Answer
-    requires { ⌜ Sound (now segment) (now blocks) (now buffers) × Each Reads f (now segment) (now blocks) (now buffers) ⌝ }
-    ensures { λ r. ⌜ ((d : Desk) (s : Alloc) (b : Built) → StandsFor (now (segment .entry)) (now (blocks .entry)) (now (buffers .entry)) d s → fileOf d f ≡ built b → Done f d s (openReader share b) (now (blocks .entry)) (now (buffers .entry)) (now (segment .exit)) (now (blocks .exit)) (now (buffers .exit)) r) ⌝ }
+    requires { ⌜ Sound (memories (now segment) (now blocks) (now buffers)) × Each Reads f (memories (now segment) (now blocks) (now buffers)) ⌝ }
+    ensures { λ r. ⌜ ((d : Desk) (s : Alloc) (b : Built) → StandsFor (memories (now (segment .entry)) (now (blocks .entry)) (now (buffers .entry))) d s → fileOf d f ≡ built b → Done f d s (openReader share b) (memories (now (segment .entry)) (now (blocks .entry)) (now (buffers .entry))) (memories (now (segment .exit)) (now (blocks .exit)) (now (buffers .exit))) r) ⌝ }
 {
     let acc = free_place(segment, f);
     let file = take_file(segment, f);
@@ -88,8 +89,8 @@ pub fn open_writer(
     access: u8,
     share: u16,
 ) -> Answer
-    requires { ⌜ Sound (now segment) (now blocks) (now buffers) × Each (Writes access) f (now segment) (now blocks) (now buffers) ⌝ }
-    ensures { λ r. ⌜ ((d : Desk) (s : Alloc) (b : Built) → StandsFor (now (segment .entry)) (now (blocks .entry)) (now (buffers .entry)) d s → fileOf d f ≡ built b → Done f d s (openWriter share (purged access b)) (now (blocks .entry)) (now (buffers .entry)) (now (segment .exit)) (now (blocks .exit)) (now (buffers .exit)) r) ⌝ }
+    requires { ⌜ Sound (memories (now segment) (now blocks) (now buffers)) × Each (Writes access) f (memories (now segment) (now blocks) (now buffers)) ⌝ }
+    ensures { λ r. ⌜ ((d : Desk) (s : Alloc) (b : Built) → StandsFor (memories (now (segment .entry)) (now (blocks .entry)) (now (buffers .entry))) d s → fileOf d f ≡ built b → Done f d s (openWriter share (purged access b)) (memories (now (segment .entry)) (now (blocks .entry)) (now (buffers .entry))) (memories (now (segment .exit)) (now (blocks .exit)) (now (buffers .exit))) r) ⌝ }
 {
     let acc = free_place(segment, f);
     let id = free_id(segment, f);

@@ -1,15 +1,12 @@
 // Build and open. What is asked has been judged and is not refused; here it is done.
-ghost use Rattle.rules.specs.Calls.{ask};
 ghost use Rattle.rules.specs.Calls as calls;
-ghost use Rattle.rules.specs.Desk.{Desk, fileOf};
-ghost use Rattle.rules.specs.Allocation.{Alloc};
-ghost use Rattle.memory.specs.Fine.{StandsFor};
-ghost use Rattle.midst.specs.Outcome.{Sound, Accepted, Done};
+ghost use Rattle.memory.specs.Memories.{memories};
+ghost use Rattle.midst.specs.Outcome.{Sound, Accepted, Does};
 
 mod entering;
 mod finding;
 
-use accessors::share_of;
+use accessors::sharing_of;
 use blocks::by_file::clear;
 use entering::open_reader;
 use entering::open_writer;
@@ -37,8 +34,8 @@ pub fn build(
     records: u16,
     extents: u8,
 ) -> Answer
-    requires { ⌜ Sound (now segment) (now blocks) (now buffers) × Accepted f (calls.build words factor records extents) (now segment) (now blocks) (now buffers) ⌝ }
-    ensures { λ r. ⌜ ((d : Desk) (s : Alloc) → StandsFor (now (segment .entry)) (now (blocks .entry)) (now (buffers .entry)) d s → Done f d s (ask (fileOf d f) (calls.build words factor records extents)) (now (blocks .entry)) (now (buffers .entry)) (now (segment .exit)) (now (blocks .exit)) (now (buffers .exit)) r) ⌝ }
+    requires { ⌜ Sound (memories (now segment) (now blocks) (now buffers)) × Accepted f (calls.build words factor records extents) (memories (now segment) (now blocks) (now buffers)) ⌝ }
+    ensures { λ r. ⌜ Does f (calls.build words factor records extents) (memories (now (segment .entry)) (now (blocks .entry)) (now (buffers .entry))) (memories (now (segment .exit)) (now (blocks .exit)) (now (buffers .exit))) r ⌝ }
 {
     let count = data_blocks(records, factor, extents);
     let row = FileRow {
@@ -66,10 +63,10 @@ pub fn open(
     share: u8,
     multi: u8,
 ) -> Answer
-    requires { ⌜ Sound (now segment) (now blocks) (now buffers) × Accepted f (calls.opens access share multi) (now segment) (now blocks) (now buffers) ⌝ }
-    ensures { λ r. ⌜ ((d : Desk) (s : Alloc) → StandsFor (now (segment .entry)) (now (blocks .entry)) (now (buffers .entry)) d s → Done f d s (ask (fileOf d f) (calls.opens access share multi)) (now (blocks .entry)) (now (buffers .entry)) (now (segment .exit)) (now (blocks .exit)) (now (buffers .exit)) r) ⌝ }
+    requires { ⌜ Sound (memories (now segment) (now blocks) (now buffers)) × Accepted f (calls.opens access share multi) (memories (now segment) (now blocks) (now buffers)) ⌝ }
+    ensures { λ r. ⌜ Does f (calls.opens access share multi) (memories (now (segment .entry)) (now (blocks .entry)) (now (buffers .entry))) (memories (now (segment .exit)) (now (blocks .exit)) (now (buffers .exit))) r ⌝ }
 {
-    let given = share_of(share);
+    let given = sharing_of(share);
     if access == READS {
         return open_reader(segment, blocks, buffers, f, given);
     }

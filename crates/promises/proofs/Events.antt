@@ -10,10 +10,11 @@ use Rattle.rules.specs.Limits.{answerRoom}
 use Rattle.rules.specs.Desk.{Desk, respond, replyBytes}
 use Rattle.rules.specs.Desk as rules
 use Rattle.rules.specs.Allocation.{Alloc}
+use Rattle.memory.specs.Memories.{Memories}
 use Rattle.memory.specs.Fine.{StandsFor}
 use Rattle.midst.specs.Outcome.{Told, Stays}
 use Rattle.sound.specs.Sound.{soundly}
-use Rattle.promises.specs.Promise.{Memories, event, Given, answer, givenSize, givenMemory, Standing, unsound, stands, lent, replyOf, answered, Behind, Promise}
+use Rattle.promises.specs.Promise.{event, Given, answer, givenSize, givenMemory, Standing, unsound, stands, lent, replyOf, answered, Behind, Promise}
 use Rattle.promises.proofs.Seen.{seen-none, seen-some}
 
 -- a memory of the right length hides nothing, one of another everything
@@ -39,25 +40,25 @@ module _ (m : Memories) (memory frame : List ℕ) where
   event-length h v S = rw (lent-wrong answerRoom memory v h) none-comes
 
   module _ (e : length memory ≡ answerRoom) where
-    pub event-unsound : soundly (m .segment) (m .blocks) (m .buffers) ≡ false → Promise m (event memory frame) (answer 0 memory) m
+    pub event-unsound : soundly m ≡ false → Promise m (event memory frame) (answer 0 memory) m
     unfolding Promise Comes
     event-unsound h v S = rw (lent-right answerRoom memory v e) (seen-none (Comes (answer 0 memory) m) h none-comes v S)
 
     module _ (m′ : Memories) (memory′ : List ℕ) (n : ℕ) where
-      pub event-done : soundly (m .segment) (m .blocks) (m .buffers) ≡ true
-          → ((d : Desk) (s : Alloc) → StandsFor (m .segment) (m .blocks) (m .buffers) d s
-          → Stays d s (rules.event frame) (m .blocks) (m .buffers) (m′ .segment) (m′ .blocks) (m′ .buffers) × Told (respond d (rules.event frame) .reply) memory memory′ n)
+      pub event-done : soundly m ≡ true
+          → ((d : Desk) (s : Alloc) → StandsFor m d s
+          → Stays d s (rules.event frame) m m′ × Told (respond d (rules.event frame) .reply) memory memory′ n)
           → Promise m (event memory frame) (answer n memory′) m′
       unfolding Promise Comes
       event-done h f v S = rw (lent-right answerRoom memory v e) (seen-some (Comes (answer n memory′) m′) h comes v S)
         where
-          comes : (d : Desk) (s : Alloc) → StandsFor (m .segment) (m .blocks) (m .buffers) d s → Comes (answer n memory′) m′ (some (record { desk = d; alloc = s }))
+          comes : (d : Desk) (s : Alloc) → StandsFor m d s → Comes (answer n memory′) m′ (some (record { desk = d; alloc = s }))
           comes d s S = let (k, t) = f d s S in unfold Comes answered replyOf Behind in (rw (t .size, t .bytes), k)
 
       -- what it says of memories that stand for a desk
       module _ (P : Promise m (event memory frame) (answer n memory′) m′) where
-        pub event-says : (d : Desk) (s : Alloc) → StandsFor (m .segment) (m .blocks) (m .buffers) d s
-            → Stays d s (rules.event frame) (m .blocks) (m .buffers) (m′ .segment) (m′ .blocks) (m′ .buffers) × Told (respond d (rules.event frame) .reply) memory memory′ n
+        pub event-says : (d : Desk) (s : Alloc) → StandsFor m d s
+            → Stays d s (rules.event frame) m m′ × Told (respond d (rules.event frame) .reply) memory memory′ n
         unfolding Promise Comes answered replyOf Behind givenSize givenMemory
         event-says d s S =
             let v : Option Standing = some (record { desk = d; alloc = s }) in
@@ -65,6 +66,6 @@ module _ (m : Memories) (memory frame : List ℕ) where
             (c .1, record { bytes = ap givenMemory (c .0); size = ap givenSize (c .0) })
 
         -- and of memories that are not sound
-        pub event-keeps : soundly (m .segment) (m .blocks) (m .buffers) ≡ false → m′ ≡ m
+        pub event-keeps : soundly m ≡ false → m′ ≡ m
         unfolding Promise Behind
         event-keeps h = subst (λ (v : Option Standing). Behind v (rules.event frame) m m′) (lent-right answerRoom memory none e) (P none (unsound h) .1)

@@ -1,4 +1,4 @@
--- The answer to an event has room in the 264 bytes that it is lent.
+-- The answer to an event has room in the memory that it is lent.
 use Prim.Native.Nat.{ℕ, _≤_, _<_}
 use mathlib.Core.Path.{_≡_, ap, subst}
 use mathlib.Core.List.{List}
@@ -26,8 +26,9 @@ use Rattle.rules.proofs.Split.{both, opt}
 use Rattle.laws.specs.Outstanding.{reqOf}
 use Rattle.laws.specs.Bounds.{Bounded, Bounds}
 use Rattle.laws.specs.Runs.{OnFile}
+use Rattle.memory.specs.Memories.{Memories}
 use Rattle.memory.specs.Fine.{Fine}
-use Rattle.promises.specs.Promise.{Memories, Standing, Seen, stands, lent, replyOf, givenSize, Promise}
+use Rattle.promises.specs.Promise.{Standing, Seen, stands, lent, replyOf, givenSize, Promise}
 use Rattle.promises.specs.Promise as host
 use Rattle.promises.proofs.Seen.{sees}
 use Rattle.promises.proofs.Short.{Short, ShortOut, plain, done-short, IsEvent, refusal-short, build-short, open-short, read-short, write-short, control-short, collect-short, close-short}
@@ -103,12 +104,12 @@ unfolding respond asked Short
 event-told d h fr = frame-short d (frameOf fr) (drop writeHead fr) h .0
 
 -- whatever the memories are seen as
-seen-short : (xs blocks buffers : List ℕ) (v : Option Standing) → Seen xs blocks buffers v → (fr : List ℕ) → length (replyBytes (replyOf v (desk.event fr))) ≤ answerRoom
+seen-short : (m : Memories) (v : Option Standing) → Seen m v → (fr : List ℕ) → length (replyBytes (replyOf v (desk.event fr))) ≤ answerRoom
 unfolding replyOf replyBytes
-seen-short xs blocks buffers none S fr = omega arith
-seen-short xs blocks buffers (some v) (stands d s S) fr = event-fits d (S .fine) fr
+seen-short m none S fr = omega arith
+seen-short m (some v) (stands d s S) fr = event-fits d (S .fine) fr
 
--- the answer of an event call has at most 264 bytes, whatever the memories
+-- the answer of an event call is no longer than that, whatever the memories
 answer-fits : (m m′ : Memories) (memory fr memory′ : List ℕ) (n : ℕ) → Bytes (m .segment) → Bytes (m .blocks) → Bytes (m .buffers)
     → Promise m (host.event memory fr) (host.answer n memory′) m′ → n ≤ answerRoom
 unfolding Promise host.answered lent replyOf replyBytes givenSize
@@ -117,7 +118,7 @@ answer-fits m m′ memory fr memory′ n bs bb bf P =
     let e : n ≡ length (replyBytes (replyOf (lent answerRoom memory v) (desk.event fr))) = ap givenSize (P v S .0) in
     let k : length (replyBytes (replyOf (lent answerRoom memory v) (desk.event fr))) ≤ answerRoom =
     both (λ (w : Option Standing). length (replyBytes (replyOf w (desk.event fr))) ≤ answerRoom) (eqb (length memory) answerRoom)
-    (λ _. seen-short (m .segment) (m .blocks) (m .buffers) v S fr) (λ _. omega arith) in
+    (λ _. seen-short m v S fr) (λ _. omega arith) in
     omega (arith, e, k)
 
 -- so that who keeps the promise can say it with the promise

@@ -1,7 +1,5 @@
 -- The promises leave nothing open: two results that meet one are the same, in all that is given and in all memory.
-use Prim.Native.Nat.{ℕ}
-use mathlib.Core.Path.{_≡_, refl, sym, _∙_}
-use mathlib.Core.List.{List}
+use mathlib.Core.Path.{_≡_, sym, _∙_}
 use mathlib.Core.Option.{Option, none, some}
 use Rattle.rules.specs.Reply.{Reply}
 use Rattle.rules.specs.Desk.{Desk, Call, asked, fileOf, respond}
@@ -9,25 +7,18 @@ use Rattle.rules.specs.Allocation.{Alloc, allocAsked}
 use Rattle.laws.specs.Queues.{Agree}
 use Rattle.laws.proofs.Files.{on-file}
 use Rattle.words.specs.Word.{Bytes}
+use Rattle.memory.specs.Memories.{Memories}
 use Rattle.memory.specs.Covers.{Alike}
 use Rattle.memory.specs.Fine.{Fine, StandsFor}
 use Rattle.memory.proofs.Once.{agreed-covers}
 use Rattle.memory.proofs.Determined.{stands-same}
-use Rattle.promises.specs.Promise.{Memories, HostCall, fresh, event, look, save, load, Given, Standing, Seen, answered, shown, said, Behind, Answers, Promise}
+use Rattle.promises.specs.Promise.{HostCall, fresh, event, look, save, load, Given, Standing, Seen, answered, shown, said, Behind, Answers, Promise}
 use Rattle.promises.proofs.Seen.{sees}
 
-pub memories-are : (m n : Memories) → m .segment ≡ n .segment → m .blocks ≡ n .blocks → m .buffers ≡ n .buffers → m ≡ n
-memories-are m n = go (m .segment) (m .blocks) (m .buffers)
-  where
-    go : (x b y : List ℕ) → x ≡ n .segment → b ≡ n .blocks → y ≡ n .buffers → record { segment = x; blocks = b; buffers = y } ≡ n
-    go x b y e f g = rw (e, f, g) refl
-
 -- memories that stand for the same, and agree where no file is built
-pub standing-same : (d : Desk) (s : Alloc) (m n : Memories) → StandsFor (m .segment) (m .blocks) (m .buffers) d s → StandsFor (n .segment) (n .blocks) (n .buffers) d s
-    → Alike d (m .blocks) (m .buffers) (n .blocks) (n .buffers) → m ≡ n
+pub standing-same : (d : Desk) (s : Alloc) (m n : Memories) → StandsFor m d s → StandsFor n d s → Alike d m n → m ≡ n
 standing-same d s m n S T A =
-    let (x, b, y) = stands-same d s _ _ _ _ _ _ (agreed-covers d s (S .agreed) (λ f h. on-file Fine Agree (λ c i. i .queues) (fileOf d f) (S .fine f h))) (S .stands) (T .stands) A in
-    memories-are m n x b y
+    stands-same d s m n (agreed-covers d s (S .agreed) (λ f h. on-file Fine Agree (λ c i. i .queues) (fileOf d f) (S .fine f h))) (S .stands) (T .stands) A
 
 pub behind-same : (v : Option Standing) (c : Call) (m x y : Memories) → Behind v c m x → Behind v c m y → x ≡ y
 unfolding Behind
@@ -38,8 +29,8 @@ behind-same (some v) c m x y S T =
 
 module _ (m : Memories) (bs : Bytes (m .segment)) (bb : Bytes (m .blocks)) (bf : Bytes (m .buffers)) where
   -- look's part and its status: whatever is said of it for all that the memories are seen as
-  pub seen-same : {A : Type 0} (g : Option Standing → A) (r q : A) → ((v : Option Standing) → Seen (m .segment) (m .blocks) (m .buffers) v → r ≡ g v)
-      → ((v : Option Standing) → Seen (m .segment) (m .blocks) (m .buffers) v → q ≡ g v) → r ≡ q
+  pub seen-same : {A : Type 0} (g : Option Standing → A) (r q : A) → ((v : Option Standing) → Seen m v → r ≡ g v)
+      → ((v : Option Standing) → Seen m v → q ≡ g v) → r ≡ q
   seen-same g r q R Q = let (v, S) = sees bs bb bf in R v S ∙ sym (Q v S)
 
   answers-same : (lends : Option Standing → Option Standing) (c : Call) (gives : Reply → Given) (g h : Given) (x y : Memories)

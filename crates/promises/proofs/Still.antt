@@ -26,8 +26,9 @@ use Rattle.laws.specs.Entries.{Calm, Agreed}
 use Rattle.laws.proofs.Allocated.{happens-here, happens-nowhere}
 use Rattle.laws.proofs.EightFiles.{file-here}
 use Rattle.midst.proofs.StandsBehind.{still-stays}
-use Rattle.promises.specs.Promise.{Memories, Standing, Seen, stands, Behind, lent}
+use Rattle.promises.specs.Promise.{Standing, Seen, stands, Behind, lent}
 use Rattle.midst.proofs.RowUntouched.{hushed-past}
+use Rattle.memory.specs.Memories.{Memories}
 
 Still : Built → Out → Type 0
 Still b o = (o .file ≡ built (hushed b)) × (o .haps ≡ b .past)
@@ -89,7 +90,7 @@ module _ (d : Desk) (s : Alloc) (A : Agreed d s) (f : ℕ) (q : Ask) (I : Idle q
 
 -- memories of any content are behind such a call what they were
 
-call-still : (m : Memories) (c : Call) (f : ℕ) (q : Ask) → asked c ≡ on f q → Idle q → (v : Option Standing) → Seen (m .segment) (m .blocks) (m .buffers) v → Behind v c m m
+call-still : (m : Memories) (c : Call) (f : ℕ) (q : Ask) → asked c ≡ on f q → Idle q → (v : Option Standing) → Seen m v → Behind v c m m
 unfolding Behind respond
 call-still m c f q is I none S = refl
 call-still m c f q is I (some v) (stands d s S) =
@@ -100,7 +101,7 @@ lent-still : (m : Memories) (c : Call) (n : ℕ) (memory : List ℕ) (v : Option
 unfolding lent Behind
 lent-still m c n memory v B = both (λ (w : Option Standing). Behind w c m m) (eqb (length memory) n) (λ _. B) (λ _. refl)
 
-module _ (m : Memories) (v : Option Standing) (S : Seen (m .segment) (m .blocks) (m .buffers) v) where
+module _ (m : Memories) (v : Option Standing) (S : Seen m v) where
   pub look-behind : (n f p : ℕ) (memory : List ℕ) → Behind (lent n memory v) (rules.look f p) m m
   unfolding asked
   look-behind n f p memory = lent-still m (rules.look f p) n memory v (call-still m (rules.look f p) f (calls.look p) refl (idle-look p) v S)

@@ -15,16 +15,11 @@ use Rattle.rules.specs.Desk.{Desk, Call, respond, replyBytes}
 use Rattle.rules.specs.Desk as rules
 use Rattle.rules.specs.Allocation.{Alloc}
 use Rattle.segment.specs.Layout.{segmentBytes}
+use Rattle.memory.specs.Memories.{Memories}
 use Rattle.memory.specs.Fine.{StandsFor}
-use Rattle.memory.specs.Fresh.{freshSegment, freshBlocks, freshBuffers}
+use Rattle.memory.specs.Fresh.{freshMemories}
 use Rattle.midst.specs.Outcome.{replyStatus, Stays}
 use Rattle.sound.specs.Sound.{soundly}
-
--- the three memories that a desk is
-pub record Memories : Type 0 where
-  pub segment : List ℕ
-  pub blocks : List ℕ
-  pub buffers : List ℕ
 
 -- a call as the host makes it, with the memory that it lends beside these three
 pub data HostCall : Type 0 where
@@ -71,9 +66,9 @@ pub record Standing : Type 0 where
   pub alloc : Alloc
 
 -- no desk, where a length is wrong or the content unsound; else what they stand for
-pub data Seen (xs blocks buffers : List ℕ) : Option Standing → Type 0 where
-  unsound : soundly xs blocks buffers ≡ false → Seen xs blocks buffers none
-  stands : (d : Desk) (s : Alloc) → StandsFor xs blocks buffers d s → Seen xs blocks buffers (some (record { desk = d; alloc = s }))
+pub data Seen (m : Memories) : Option Standing → Type 0 where
+  unsound : soundly m ≡ false → Seen m none
+  stands : (d : Desk) (s : Alloc) → StandsFor m d s → Seen m (some (record { desk = d; alloc = s }))
 
 -- no desk either, where the memory lent beside them has not n bytes
 unfoldable pub lent : ℕ → List ℕ → Option Standing → Option Standing
@@ -100,21 +95,18 @@ said r = status (replyStatus r)
 
 unfoldable pub Behind : Option Standing → Call → Memories → Memories → Type 0
 Behind none c m m′ = m′ ≡ m
-Behind (some v) c m m′ = Stays (v .desk) (v .alloc) c (m .blocks) (m .buffers) (m′ .segment) (m′ .blocks) (m′ .buffers)
+Behind (some v) c m m′ = Stays (v .desk) (v .alloc) c m m′
 
 -- The calls.
 
 -- of a call of the rules: whatever the memories are seen as, the reply is given and the memories are those behind it
 abbrev pub Answers : (Option Standing → Option Standing) → Call → (Reply → Given) → Memories → Given → Memories → Type 0
 Answers lends c gives m g m′ =
-    (v : Option Standing) → Seen (m .segment) (m .blocks) (m .buffers) v → (g ≡ gives (replyOf (lends v) c)) × Behind (lends v) c m m′
+    (v : Option Standing) → Seen m v → (g ≡ gives (replyOf (lends v) c)) × Behind (lends v) c m m′
 
 -- "of 29 it tests lengths alone"
 unfoldable pub sized : Memories → Bool
 sized m = eqb (length (m .segment)) segmentBytes && (eqb (length (m .blocks)) (shareBytes * files) && eqb (length (m .buffers)) (places * bufferBytes * files))
-
-unfoldable pub freshMemories : Memories
-freshMemories = record { segment = freshSegment; blocks = freshBlocks; buffers = freshBuffers }
 
 unfoldable pub Promise : Memories → HostCall → Given → Memories → Type 0
 Promise m fresh g m′ = (g ≡ status (cond (sized m) 0 29)) × (m′ ≡ cond (sized m) freshMemories m)

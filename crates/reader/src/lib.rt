@@ -2,6 +2,7 @@
 use geometry::capacity;
 use geometry::fits_share;
 use geometry::in_range;
+use hex::LF;
 use kinds::limits::LEAST_CAPACITY;
 use kinds::limits::MOST_TYPE;
 use kinds::limits::SHEET_LINE_BYTES;
@@ -15,21 +16,18 @@ ghost use Rattle.rules.specs.Sheet.{goodRec, readSheet};
 ghost use Rattle.reader.specs.Frames.{lineEnd, frameAt, nextOf, behind};
 ghost use Rattle.reader.specs.Sheets.{goodNumbers, noHead, saysHead, headOf, mostSize, goodFrom, isSome};
 
-// A line ends with LF.
-const LF: u8 = 10;
-
 // "First frame: 01, R(2), B, D(2), records held(2)."
-const HEAD: u8 = 1;
+pub const HEAD: u8 = 1;
 
-const HEAD_BYTES: usize = 8;
+pub const HEAD_BYTES: usize = 8;
 
-const HEAD_WORDS: usize = 1;
+pub const HEAD_WORDS: usize = 1;
 
 const HEAD_FACTOR: usize = 3;
 
-const HEAD_BLOCKS: usize = 4;
+pub const HEAD_BLOCKS: usize = 4;
 
-const HEAD_HELD: usize = 6;
+pub const HEAD_HELD: usize = 6;
 
 // "Then one frame a record, oldest first: type(2), ID(2), data."
 pub const TYPE: usize = 0;

@@ -1,10 +1,10 @@
 -- A walk over the records that a ring holds.
-use Prim.Native.Nat.{ℕ}
+use Prim.Native.Nat.{ℕ, _+_, _≤_, _<_}
 use mathlib.Core.Path.{_≡_}
 use mathlib.Core.List.{List}
 use Rattle.rules.specs.State.{Rec}
 use Rattle.shares.specs.Back.{readBack}
-use Rattle.shares.specs.Places.{placeIn}
+use Rattle.shares.specs.Places.{skip, placeIn}
 use Rattle.ring.specs.declared.Ring.{Ring}
 use Rattle.ring.specs.Ring.{geo}
 use Rattle.ring.specs.Held.{Held}
@@ -17,6 +17,10 @@ headPlace words r xs = placeIn (geo words r) xs (r .block) (r .spent)
 -- the records held, oldest first
 abbrev pub heldRecs : ℕ → Ring → List ℕ → List Rec
 heldRecs words r xs = readBack (geo words r) xs (r .block) (r .spent) (r .held)
+
+-- n records on from p, if there are any to pass, a record's head stands before e
+abbrev pub Behind : List ℕ → ℕ → ℕ → ℕ → Type 0
+Behind xs e p n = 0 < n → skip xs e p n + 6 ≤ e
 
 -- the cursor stands at the oldest of its ring's records, which the share holds
 pub record Stands (words : ℕ) (xs : List ℕ) (c : Cursor) : Type 0 where

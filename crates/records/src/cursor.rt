@@ -1,7 +1,7 @@
 // The one walk over held records. A cursor is a ring and the place of its oldest record, which stands under the cursor; a step leads to the ring without it.
 // `Stands` (specs/Cursor.antt) is the invariant: `first` begins it, `next` keeps it.
 ghost use mathlib.Core.Path.{_≡_};
-ghost use Prim.Native.Nat.{_+_, _*_, _≤_, _<_};
+ghost use Prim.Native.Nat.{ℕ, _+_, _*_, _≤_, _<_};
 ghost use lib.Dec.{eqb};
 ghost use lib.ListN.{length};
 ghost use Rattle.words.specs.Word.{wordAt};
@@ -9,7 +9,7 @@ ghost use Rattle.rules.specs.Limits.{shareBytes};
 ghost use Rattle.shares.specs.Places.{skip};
 ghost use Rattle.ring.specs.Ring.{advanced};
 ghost use Rattle.ring.specs.Held.{Held};
-ghost use Rattle.records.specs.Cursor.{Stands};
+ghost use Rattle.records.specs.Cursor.{Behind, Stands};
 use crate::reading::next;
 use ring::Ring;
 use ring::layout::BLOCK_HEAD;
@@ -25,17 +25,14 @@ pub struct Cursor {
     pub at: usize,
 }
 
-// The place n records on from `at` in a block that ends at e, or e where the bytes there are no records.
-fn skip(share: &[u8], e: usize, at: usize, n: u16) -> usize
-    requires { ⌜ (e ≤ length (now share)) × (length (now share) ≡ shareBytes) × (at ≤ shareBytes) ⌝ }
-    ensures { λ r. ⌜ r ≡ skip (now (share .entry)) e at n ⌝ }
+// The place n records on from `at`, in a block that ends at some e. A record stands there, so each step has one under it, and none asks.
+fn skip(share: &[u8], at: usize, n: u16) -> usize
+    requires { ⌜ (length (now share) ≡ shareBytes) × ((e : ℕ) × (e ≤ shareBytes) × Behind (now share) e at n) × (at ≤ shareBytes) ⌝ }
+    ensures { λ r. ⌜ ((e : ℕ) → Behind (now (share .entry)) e at n → r ≡ skip (now (share .entry)) e at n) ⌝ }
 {
     let mut p = at;
     let mut left = n;
     while left > 0 {
-        if p + RECORD_HEAD > e {
-            return e;
-        }
         p = next(share, p);
         left -= 1;
     }
@@ -67,12 +64,7 @@ pub fn first(share: &[u8], ring: Ring, words: u16) -> Cursor
             at: block.at + BLOCK_HEAD + ring.spent as usize * each,
         };
     }
-    let at = skip(
-        share,
-        block.at + block.size,
-        block.at + BLOCK_HEAD,
-        ring.spent,
-    );
+    let at = skip(share, block.at + BLOCK_HEAD, ring.spent);
     Cursor { ring, at }
 }
 

@@ -85,7 +85,7 @@ pub fn handed<'a>(share: &'a [u8], at: usize, typed: bool, limit: u16) -> &'a [u
     let follow = words::get(share, at);
     let before = header_bytes(typed);
     let n = least(follow - before, limit);
-    let a = at + 2 + before as usize;
+    let a = at + TYPE + before as usize;
     let e = a + n as usize;
     &share[a..e]
 }

@@ -29,7 +29,7 @@ pub fn next(share: &[u8], at: usize) -> usize
     ensures bound { λ r. ⌜ r ≤ at + 65538 ⌝ }
 {
     let follow = words::get(share, at) as usize;
-    at + 2 + follow + follow % 2
+    at + TYPE + (follow + 1) / 2 * 2
 }
 
 // What the record at `at` says of itself.
@@ -50,6 +50,6 @@ pub fn frame<'a>(share: &'a [u8], at: usize) -> &'a [u8]
     ensures { λ r. ⌜ now r ≡ recFrame (recAt (now (share .entry)) at) ⌝ }
 {
     let a = at + TYPE;
-    let e = at + 2 + words::get(share, at) as usize;
+    let e = at + TYPE + words::get(share, at) as usize;
     &share[a..e]
 }

@@ -2,6 +2,7 @@
 // No memory is lent: whoever keeps a desk, in whatever form, looks these numbers up and asks here. "the lowest that applies is given"
 use kinds::Control;
 use kinds::Outstanding;
+use kinds::limits::MOST_MODE;
 use kinds::refusals;
 use kinds::sides::WRITER;
 ghost use mathlib.Core.Path.{_≡_};
@@ -9,9 +10,6 @@ ghost use Rattle.refusing.specs.Verdicts.{free, whileFree, nothingRefusa
 
 // The most that a setting takes, "with 0 or 1".
 const MOST_SETTING: u16 = 1;
-
-// "access, share and multiaccess: 0 to 3"
-const MOST_MODE: u8 = 3;
 
 fn is_free(request: Outstanding) -> bool
     ensures { λ r. ⌜ r ≡ free request ⌝ }

@@ -44,9 +44,9 @@ disarmed s place =
 unfoldable pub completed : List ℕ → ℕ → ℕ → List ℕ → List ℕ
 completed s p place m = insert (putData (disarmed (unlink s p) place) (nth s p) m) (replyPort place) (nth s p)
 
--- it leaves list l and its entry is freed, the timer's first
+-- it leaves its list and its entry is freed, the timer's first
 unfoldable pub cancelled : List ℕ → ℕ → ℕ → List ℕ
-cancelled s l place = released (disarmed (out s l place) place) (entryOf s l place)
+cancelled s p place = released (disarmed (unlink s p) place) (nth s p)
 
 -- a completed request is collected
 unfoldable pub collected : List ℕ → ℕ → List ℕ

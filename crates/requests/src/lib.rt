@@ -89,13 +89,13 @@ pub fn complete(s: &mut [u8], p: usize, m: Entry)
     ports::insert_at(s, layout::REPLY_PORTS + place as usize, e);
 }
 
-// The request of a place, which waits in list l, is gone.
-pub fn cancel(s: &mut [u8], l: usize, place: u16)
+// The request of a place, whose entry stands at slot p, is gone.
+pub fn cancel(s: &mut [u8], p: usize, place: u16)
     requires { ⌜ length (now s) ≡ segmentBytes ⌝ }
-    requires { ⌜ (l < listCount) × (entryOf (now s) l place < entries) ⌝ }
-    ensures { λ _. ⌜ now (s .exit) ≡ cancelled (now (s .entry)) l place ⌝ }
+    requires { ⌜ (p < fileRows) × (nth (now s) p < entries) ⌝ }
+    ensures { λ _. ⌜ now (s .exit) ≡ cancelled (now (s .entry)) p place ⌝ }
 {
-    let e = take_out(s, l, place);
+    let e = ports::unlink_at(s, p);
     disarm(s, place);
     ports::release_entry(s, e);
 }

@@ -1,5 +1,6 @@
-// Where things stand in a block and in a record, in bytes; a block's own size follows from the geometry.
+// Where things stand in a block and in a record, in bytes; how long their heads are, and a block's own size, follow from the geometry.
 use crate::Ring;
+pub use geometry::BLOCK_HEAD_WORDS;
 ghost use mathlib.Core.Path.{_≡_};
 ghost use Prim.Native.Nat.{_+_, _≤_, _<_};
 ghost use Rattle.rules.specs.Limits.{shareBytes};
@@ -8,21 +9,19 @@ ghost use Rattle.ring.specs.Ring.{geo, Fitted, spanOf};
 // Of a block: word 0 records put, word 1 words used, with these two.
 pub const USED: usize = 2;
 
-pub const BLOCK_HEAD: usize = 4;
-
-pub const BLOCK_HEAD_WORDS: u16 = 2;
+pub const BLOCK_HEAD: usize = 2 * BLOCK_HEAD_WORDS as usize;
 
 // Of a record: a word with the bytes that follow, its type, the writer's ID, and data.
 pub const TYPE: usize = 2;
 
 pub const ID: usize = 4;
 
-pub const RECORD_HEAD: usize = 6;
+pub const RECORD_HEAD_WORDS: usize = geometry::RECORD_HEAD_WORDS as usize;
 
-pub const RECORD_HEAD_WORDS: usize = 3;
+pub const RECORD_HEAD: usize = 2 * RECORD_HEAD_WORDS;
 
-// What a record's first word counts before the data.
-pub const FOLLOW: u16 = 4;
+// What a record's first word counts before the data: what stands behind it there.
+pub const FOLLOW: u16 = (RECORD_HEAD - TYPE) as u16;
 
 // A block's bytes in the share: where it begins, and how many.
 pub struct Span {

@@ -18,9 +18,10 @@ use Rattle.rules.specs.Desk.{Desk, fileOf, asked, respond, replyBytes}
 use Rattle.rules.specs.Desk as desk
 use Rattle.rules.specs.Allocation.{Alloc}
 use Rattle.rules.proofs.Split.{both}
+use Rattle.memory.specs.Memories.{Memories}
 use Rattle.memory.specs.Fine.{StandsFor}
 use Rattle.midst.specs.Outcome.{replyStatus}
-use Rattle.promises.specs.Promise.{Memories, status, written, givenStatus, givenSize, givenMemory, stands, replyOf, shown, said, Behind, Promise}
+use Rattle.promises.specs.Promise.{status, written, givenStatus, givenSize, givenMemory, stands, replyOf, shown, said, Behind, Promise}
 use Rattle.promises.specs.Promise as host
 use Rattle.roundtrip.specs.Trip.{DeskTrip}
 use Rattle.roundtrip.specs.Carried.{Carried}
@@ -43,7 +44,7 @@ save-fits b n =
     both (λ (o : Out). replyStatus (o .reply) ≡ 0 → length t ≤ n) (leb (length t) n) (λ e _. leb-true (length t) n e) (λ _ z. absurd (omega (arith, z)))
 
 -- file f of a desk that memories stand for is saved
-module _ (m m′ : Memories) {d : Desk} {s : Alloc} (S : StandsFor (m .segment) (m .blocks) (m .buffers) d s) (f : ℕ) (lf : f < files) (b : Built) (ef : fileOf d f ≡ built b)
+module _ (m m′ : Memories) {d : Desk} {s : Alloc} (S : StandsFor m d s) (f : ℕ) (lf : f < files) (b : Built) (ef : fileOf d f ≡ built b)
     (output output′ : List ℕ) (n : ℕ) (saved : Promise m (host.save f output) (written 0 n output′) m′) where
   abbrev t : List ℕ
   t = sheet (b .geo) (b .store .recs)
@@ -60,13 +61,13 @@ module _ (m m′ : Memories) {d : Desk} {s : Alloc} (S : StandsFor (m .segment) 
   is-text = let k = shown-text 0 n t output output′ (is-saved ∙ ap (shown output) (saves b (length output) t refl had-room)) had-room in (k .1, k .2)
 
   -- and loaded into file g of a desk that the same or other memories stand for
-  module _ (k k′ : Memories) {c : Desk} {a : Alloc} (T : StandsFor (k .segment) (k .blocks) (k .buffers) c a) (g : ℕ) (lg : g < files) (eg : fileOf c g ≡ unbuilt) (st : ℕ)
+  module _ (k k′ : Memories) {c : Desk} {a : Alloc} (T : StandsFor k c a) (g : ℕ) (lg : g < files) (eg : fileOf c g ≡ unbuilt) (st : ℕ)
       (loaded : Promise k (host.load g (take n output′)) (status st) k′) where
     abbrev behind : Desk
     behind = respond c (desk.load g (take n output′)) .desk
 
     told : DeskTrip d f b c g (length output)
-    told = desks d f b c g (length output) lf ef (T .agreed .eight) lg eg (trip b (length output) (stands-written (m .segment) (m .blocks) (m .buffers) d s f b S lf ef) had-room)
+    told = desks d f b c g (length output) lf ef (T .agreed .eight) lg eg (trip b (length output) (stands-written m d s f b S lf ef) had-room)
 
     same-text : take n output′ ≡ told .text
     unfolding respond asked replyBytes

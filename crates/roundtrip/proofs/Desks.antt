@@ -1,7 +1,7 @@
 -- The round trip by calls on desks.
 use Prim.Native.Nat.{ℕ, _<_, _≤_}
 use mathlib.Core.Path.{_≡_, ap, _∙_}
-use mathlib.Core.List.{List, []}
+use mathlib.Core.List.{[]}
 use lib.Dec.{ltb}
 use borrow.Author.Tests.{lt-ltb}
 use Rattle.rules.specs.Limits.{files}
@@ -14,6 +14,7 @@ use Rattle.rules.specs.Allocation.{Alloc}
 use Rattle.laws.specs.EightFiles.{EightFiles}
 use Rattle.laws.proofs.EightFiles.{file-same}
 use Rattle.rules.proofs.Split.{pick-true}
+use Rattle.memory.specs.Memories.{Memories}
 use Rattle.memory.specs.Fine.{StandsFor}
 use Rattle.roundtrip.specs.Trip.{Trip, DeskTrip, sheetRoom}
 use Rattle.roundtrip.proofs.Stands.{stands-trip}
@@ -46,7 +47,7 @@ desks d f b c g n lf ef m lg eg t =
     }
 
 -- from a desk that memories stand for
-pub stands-desks : (xs blocks buffers : List ℕ) (d : Desk) (s : Alloc) (f : ℕ) (b : Built) → StandsFor xs blocks buffers d s → f < files → fileOf d f ≡ built b
+pub stands-desks : (ms : Memories) (d : Desk) (s : Alloc) (f : ℕ) (b : Built) → StandsFor ms d s → f < files → fileOf d f ≡ built b
     → (c : Desk) (g n : ℕ) → EightFiles c → g < files → fileOf c g ≡ unbuilt → sheetRoom ≤ n
     → DeskTrip d f b c g n
-stands-desks xs blocks buffers d s f b h lf ef c g n m lg eg r = desks d f b c g n lf ef m lg eg (stands-trip xs blocks buffers d s f b h lf ef n r)
+stands-desks ms d s f b h lf ef c g n m lg eg r = desks d f b c g n lf ef m lg eg (stands-trip ms d s f b h lf ef n r)

@@ -22,6 +22,7 @@ use Rattle.shares.proofs.Back.{back}
 use Rattle.laws.specs.Runs.{OnFile}
 use Rattle.laws.specs.Changes.{GoodRecs, GoodSheet}
 use Rattle.laws.proofs.Room.{good-sized}
+use Rattle.memory.specs.Memories.{Memories}
 use Rattle.memory.specs.Stands.{shareAt, FileBytes}
 use Rattle.memory.specs.Fine.{Fine, StandsFor}
 use Rattle.roundtrip.specs.Trip.{Written, sheetOf, Trip, sheetRoom}
@@ -57,12 +58,12 @@ fine-written b k h =
 
 -- every file of a desk that memories stand for
 
-module _ (xs blocks buffers : List ℕ) (d : Desk) (s : Alloc) (f : ℕ) (b : Built) (h : StandsFor xs blocks buffers d s) (l : f < files) (e : fileOf d f ≡ built b) where
+module _ (ms : Memories) (d : Desk) (s : Alloc) (f : ℕ) (b : Built) (h : StandsFor ms d s) (l : f < files) (e : fileOf d f ≡ built b) where
   share-bytes : Bytes (b .store .share)
   unfolding Bytes FileBytes shareAt
   share-bytes =
-      let k : FileBytes (built b) (shareAt f blocks) _ = rw e at (h .stands .bodies .each f l) in
-      rw (← k .0) (part-bytes shareBytes (shareBytes * f) blocks (h .stands .bodies .blocks-bytes))
+      let k : FileBytes (built b) (shareAt f (ms .blocks)) _ = rw e at (h .stands .bodies .each f l) in
+      rw (← k .0) (part-bytes shareBytes (shareBytes * f) (ms .blocks) (h .stands .bodies .blocks-bytes))
 
   pub stands-written : Written (sheetOf b)
   unfolding OnFile

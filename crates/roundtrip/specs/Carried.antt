@@ -5,7 +5,8 @@ use mathlib.Core.List.{List}
 use lib.ListN.{length, take}
 use Rattle.rules.specs.State.{Built, built}
 use Rattle.rules.specs.Desk.{Desk, fileOf, load, respond}
-use Rattle.promises.specs.Promise.{Memories, save, written, Promise}
+use Rattle.promises.specs.Promise.{save, written, Promise}
+use Rattle.memory.specs.Memories.{Memories}
 
 -- the file b was saved as a text; loaded into file g of desk c it gave a status and left the memories m
 pub record Carried (b : Built) (text : List ℕ) (c : Desk) (g status : ℕ) (m : Memories) : Type 0 where

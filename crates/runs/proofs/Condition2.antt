@@ -7,11 +7,12 @@ use Rattle.rules.specs.Reply.{shows}
 use Rattle.rules.specs.Desk.{Desk, Call, asked, respond, freshDesk, replies, after}
 use Rattle.rules.specs.Allocation.{Alloc, freshAlloc, allocAsked, allocAfter}
 use Rattle.midst.specs.Outcome.{replyStatus}
-use Rattle.promises.specs.Promise.{Memories, HostCall, fresh, Given, said, sized, Promise}
+use Rattle.promises.specs.Promise.{HostCall, fresh, Given, said, sized, Promise}
 use Rattle.runs.specs.Run.{Run, ended, then, Meant, anew, unfit, asks, meant, gives, Holds}
 use Rattle.runs.specs.Condition2.{stretch, heard, since, Condition2}
 use Rattle.runs.proofs.Holds.{holds-bodies}
 use Rattle.runs.proofs.Steps.{Comes, step-comes, fresh-first}
+use Rattle.memory.specs.Memories.{Memories, memories}
 
 -- the desk and the allocation behind calls and one more
 

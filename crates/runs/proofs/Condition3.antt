@@ -13,7 +13,7 @@ use Rattle.rules.specs.Desk as rules
 use Rattle.laws.specs.Runs.{only, theirs, OnFile}
 use Rattle.laws.proofs.Isolation.{isolation}
 use Rattle.laws.proofs.EightFiles.{eight-fresh, fresh-file}
-use Rattle.promises.specs.Promise.{Memories, HostCall, fresh, event, Given, Standing, stands, replyOf, answered, said, sized, Promise}
+use Rattle.promises.specs.Promise.{HostCall, fresh, event, Given, Standing, stands, replyOf, answered, said, sized, Promise}
 use Rattle.promises.proofs.Events.{lent-right}
 use Rattle.promises.proofs.Room.{event-fits}
 use Rattle.promises.proofs.Fits.{FineDesk}
@@ -27,6 +27,7 @@ use Rattle.runs.proofs.Stays.{run-stays}
 use Rattle.runs.proofs.isolation.Cases.{since-all}
 use Rattle.runs.proofs.isolation.Asks.{asksAll, only-ours}
 use Rattle.runs.proofs.isolation.Found.{foundAll, finds-ours, answer-found, shape-reply, shape-found}
+use Rattle.memory.specs.Memories.{Memories}
 
 fine-fresh : FineDesk freshDesk
 unfolding OnFile

@@ -21,6 +21,7 @@ use Rattle.segment.specs.Layout as layout
 use Rattle.segment.specs.Table.{nth, row, dataOf}
 use Rattle.ports.specs.Lists.{Chain}
 use Rattle.ports.proofs.Lists.{short}
+use Rattle.memory.specs.Memories.{Memories}
 use Rattle.memory.specs.Image.{accOf, fileWords, placeWords, rqOf, wqOf, queueWords, portWords, timerWords, listOf, boxOf}
 use Rattle.laws.specs.Outstanding.{reqOf}
 use Rattle.memory.specs.Fine.{Fine}
@@ -28,7 +29,6 @@ use Rattle.memory.proofs.Boxes.{getD-listsOf, segment-boxes}
 use Rattle.memory.proofs.Image.{placeAcc-of, boxOf-read, boxOf-write, boxOf-port, boxOf-timers}
 use Rattle.memory.proofs.Segments.{segment-file, segment-place}
 use Rattle.memory.proofs.Once.{agreed-once}
-use Rattle.promises.specs.Promise.{Memories}
 use Rattle.runs.specs.Run.{Holds}
 use Rattle.runs.specs.OneFile.{walk, listed, timersOn, OneFile, fileIn}
 use Rattle.memory.proofs.Bodies.{file-blank}

@@ -23,13 +23,14 @@ use Rattle.rules.specs.Desk as rules
 use Rattle.rules.specs.Allocation.{Alloc, freshAlloc, allocAfter}
 use Rattle.rules.proofs.Split.{both, opt}
 use Rattle.midst.specs.Outcome.{replyStatus}
-use Rattle.promises.specs.Promise.{Memories, HostCall, fresh, event, look, save, load, Given, Standing, stands, lent, replyOf, shown, said, sized, Promise}
+use Rattle.promises.specs.Promise.{HostCall, fresh, event, look, save, load, Given, Standing, stands, lent, replyOf, shown, said, sized, Promise}
 use Rattle.promises.specs.Promise as host
 use Rattle.promises.proofs.Room.{event-told}
 use Rattle.runs.specs.Run.{Run, ended, then, Holds}
 use Rattle.runs.specs.Refusal29.{is29, wrongLength}
 use Rattle.runs.proofs.Steps.{fresh-first, size-true}
 use Rattle.runs.proofs.Condition2.{Since, since-none, step-since}
+use Rattle.memory.specs.Memories.{Memories}
 
 -- On the rules: look, save and load never reply 29.
 

@@ -16,12 +16,13 @@ use Rattle.rules.specs.Calls as calls
 use Rattle.rules.specs.Desk.{Desk, asked, answered, respond, fileOf, freshDesk, after}
 use Rattle.rules.specs.Desk as rules
 use Rattle.midst.specs.Outcome.{replyStatus}
-use Rattle.promises.specs.Promise.{Memories, HostCall, fresh, save, load, Given, status, written, givenStatus, stands, replyOf, shown, sized, Promise}
+use Rattle.promises.specs.Promise.{HostCall, fresh, save, load, Given, status, written, givenStatus, stands, replyOf, shown, sized, Promise}
 use Rattle.roundtrip.specs.Carried.{Carried}
 use Rattle.roundtrip.proofs.Carried.{carried}
 use Rattle.runs.specs.Run.{Run}
 use Rattle.runs.specs.Condition2.{since}
 use Rattle.runs.proofs.Condition2.{condition-2}
+use Rattle.memory.specs.Memories.{Memories}
 
 -- what is saved is built
 save-built : (d : Desk) (f n : ℕ) → replyStatus (respond d (rules.save f n) .reply) ≡ 0 → (f < files) × ((b : Built) × (fileOf d f ≡ built b))

@@ -14,13 +14,14 @@ use Rattle.rules.specs.Reply.{Reply}
 use Rattle.rules.specs.Desk.{Desk, Call, respond, replyBytes, freshDesk, after}
 use Rattle.rules.specs.Desk as rules
 use Rattle.rules.specs.Allocation.{Alloc, freshAlloc, allocAfter}
-use Rattle.promises.specs.Promise.{Memories, HostCall, fresh, event, look, save, load, Given, givenSize, givenMemory, Standing, stands, lent, replyOf, answered, shown, said, sized, Promise}
+use Rattle.promises.specs.Promise.{HostCall, fresh, event, look, save, load, Given, givenSize, givenMemory, Standing, stands, lent, replyOf, answered, shown, said, sized, Promise}
 use Rattle.promises.proofs.Room.{event-fits}
 use Rattle.promises.proofs.Fits.{look-fits, save-fits}
 use Rattle.runs.specs.Run.{Run, ended, then, Holds}
 use Rattle.runs.specs.Condition3.{lentBy, Stay}
 use Rattle.runs.proofs.Steps.{fresh-first, size-true}
 use Rattle.runs.proofs.Condition2.{Since, since-none, step-since}
+use Rattle.memory.specs.Memories.{Memories}
 
 drop-put : (memory bs : List ℕ) → length bs ≤ length memory → drop (length bs) (sets memory 0 bs) ≡ drop (length bs) memory
 drop-put memory bs h =

@@ -15,10 +15,12 @@ use Rattle.rules.specs.Allocation.{Alloc, allocAsked, freshAlloc}
 use Rattle.rules.proofs.Split.{true-and}
 use Rattle.segment.specs.Layout.{segmentBytes}
 use Rattle.midst.specs.Outcome.{replyStatus, Stays}
-use Rattle.promises.specs.Promise.{Memories, HostCall, fresh, event, look, save, load, Given, status, Standing, stands, lent, replyOf, said, Behind, sized, freshMemories, Promise}
+use Rattle.promises.specs.Promise.{HostCall, fresh, event, look, save, load, Given, status, Standing, stands, lent, replyOf, said, Behind, sized, Promise}
 use Rattle.runs.specs.Run.{Meant, anew, unfit, asks, lending, meant, gives, Holds}
 use Rattle.runs.proofs.Holds.{holds-fresh}
 use Rattle.promises.proofs.Unbuilt.{unbuilt-before}
+use Rattle.memory.specs.Memories.{Memories}
+use Rattle.memory.specs.Fresh.{freshMemories}
 
 -- what a call comes to, by what it means
 unfoldable pub Comes : Meant → Desk → Alloc → HostCall → Given → Memories → Type 0
@@ -37,7 +39,7 @@ module _ (m n : Memories) (d : Desk) (s : Alloc) (H : Holds m d s) where
   seen = some (record { desk = d; alloc = s })
 
   -- what stays of memories that a desk holds is held
-  held : (c : Call) → Stays d s c (m .blocks) (m .buffers) (n .segment) (n .blocks) (n .buffers) → Holds n (respond d c .desk) (allocAsked d (asked c) s)
+  held : (c : Call) → Stays d s c m n → Holds n (respond d c .desk) (allocAsked d (asked c) s)
   held c T = record {
     stands = T .stands;
     blank = λ f h u.

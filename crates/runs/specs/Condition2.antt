@@ -7,8 +7,9 @@ use Rattle.rules.specs.Reply.{Reply, shows}
 use Rattle.rules.specs.Desk.{Call, freshDesk, replies, after}
 use Rattle.rules.specs.Allocation.{freshAlloc, allocAfter}
 use Rattle.rules.specs.Memories as bytes
-use Rattle.promises.specs.Promise.{Memories, HostCall, fresh, Given}
+use Rattle.promises.specs.Promise.{HostCall, fresh, Given}
 use Rattle.runs.specs.Run.{anew, unfit, asks, meant, gives, Holds}
+use Rattle.memory.specs.Memories.{Memories, memories}
 
 -- the calls of the rules until the desk is made fresh again
 unfoldable pub stretch : List HostCall → List Call

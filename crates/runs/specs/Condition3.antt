@@ -11,10 +11,11 @@ use Rattle.rules.specs.Limits.{files, answerRoom}
 use Rattle.rules.specs.Desk.{Asked, on, time, bad, asked}
 use Rattle.rules.specs.Desk as rules
 use Rattle.laws.specs.Runs.{names}
-use Rattle.promises.specs.Promise.{Memories, HostCall, Given, givenStatus, givenSize, givenMemory}
+use Rattle.promises.specs.Promise.{HostCall, Given, givenStatus, givenSize, givenMemory}
 use Rattle.promises.specs.Promise as host
 use Rattle.runs.specs.Run.{anew, unfit, asks, meant}
 use Rattle.runs.specs.OneFile.{fileIn}
+use Rattle.memory.specs.Memories.{Memories}
 
 -- "two calls are the same when their numbers, frames, texts and the lengths of answer and output memory are"
 pub data Sort : Type 0 where

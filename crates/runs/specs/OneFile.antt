@@ -9,8 +9,8 @@ use Rattle.rules.specs.Limits.{places, entries}
 use Rattle.rules.specs.Allocation.{placeOf, upFrom}
 use Rattle.segment.specs.Layout.{readQueue, writeQueue, replyPort, timerList, linkAt, fileWidth, placeWidth, fileRowAt, placeRowAt}
 use Rattle.segment.specs.Table.{nth, row, dataOf}
+use Rattle.memory.specs.Memories.{Memories}
 use Rattle.memory.specs.Stands.{shareAt, buffersAt}
-use Rattle.promises.specs.Promise.{Memories}
 
 -- the nine words of each entry of a list, from its head on: place, unit, limit, keep, status, log, size, seconds, and one to spare
 unfoldable pub walk : ℕ → List ℕ → ℕ → List (List ℕ)

@@ -9,9 +9,10 @@ use Rattle.rules.specs.Reply.{Reply}
 use Rattle.rules.specs.Desk.{Desk, Call}
 use Rattle.rules.specs.Desk as rules
 use Rattle.rules.specs.Allocation.{Alloc}
+use Rattle.memory.specs.Memories.{Memories}
 use Rattle.memory.specs.Covers.{Blank}
 use Rattle.memory.specs.Fine.{StandsFor}
-use Rattle.promises.specs.Promise.{Memories, HostCall, fresh, event, look, save, load, Given, answered, shown, said, Promise}
+use Rattle.promises.specs.Promise.{HostCall, fresh, event, look, save, load, Given, answered, shown, said, Promise}
 
 pub data Run : Memories → List HostCall → List Given → Memories → Type 0 where
   ended : {m : Memories} → Run m [] [] m
@@ -48,5 +49,5 @@ gives (load f text) r = said r
 -- The memories are those of a desk and an allocation, to the last byte: bytes of files that are not built are zero. Two memories that are so are equal
 -- (proofs/Holds.antt).
 pub record Holds (m : Memories) (d : Desk) (s : Alloc) : Type 0 where
-  pub stands : StandsFor (m .segment) (m .blocks) (m .buffers) d s
-  pub blank : Blank d (m .blocks) (m .buffers)
+  pub stands : StandsFor m d s
+  pub blank : Blank d m

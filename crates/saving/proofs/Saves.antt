@@ -22,6 +22,7 @@ use Rattle.shares.proofs.Back.{back}
 use Rattle.laws.proofs.Room.{good-sized}
 use Rattle.segment.specs.Fields.{fileAt}
 use Rattle.blocks.specs.Memory.{shareAt}
+use Rattle.memory.specs.Memories.{Memories, memories}
 use Rattle.memory.specs.Fine.{StandsFor}
 use Rattle.midst.specs.declared.File as hand
 use Rattle.midst.specs.File.{fileOfRow}
@@ -31,7 +32,7 @@ use Rattle.accessors.proofs.Names.{words-low, is-built, not-built}
 use Rattle.midst.specs.FileStands.{FileStands}
 use Rattle.midst.proofs.FileStands.{row-is, share-is, room}
 use Rattle.sound.specs.Sound.{soundly}
-use Rattle.promises.specs.Promise.{Memories, Given, written, Standing, Seen, replyOf, shown, Promise}
+use Rattle.promises.specs.Promise.{Given, written, Standing, Seen, replyOf, shown, Promise}
 use Rattle.promises.specs.Promise as host
 use Rattle.promises.proofs.Seen.{seen-none, seen-some}
 use Rattle.promises.proofs.Still.{save-behind}
@@ -56,8 +57,8 @@ unfolding save leaves
 save-short n b h = rw (lt-leb (length (sheet (b .geo) (b .store .recs))) n h, save) refl
 
 -- a built file, as the code has it in hand, and its share
-module _ {xs blocks buffers : List ℕ} {d : Desk} {s : Alloc} (S : StandsFor xs blocks buffers d s) (f : ℕ) (l : f < files) (b : Built) (e : fileOf d f ≡ built b)
-    (x : hand.File) (ys : List ℕ) (h : x ≡ fileOfRow (fileAt xs f)) (k : ys ≡ shareAt f blocks) where
+module _ {m : Memories} {d : Desk} {s : Alloc} (S : StandsFor m d s) (f : ℕ) (l : f < files) (b : Built) (e : fileOf d f ≡ built b)
+    (x : hand.File) (ys : List ℕ) (h : x ≡ fileOfRow (fileAt (m .segment) f)) (k : ys ≡ shareAt f (m .blocks)) where
   sheet-is : sheetOf (x .words) (x .ring) ys ≡ sheet (b .geo) (b .store .recs)
   sheet-is =
       let R = room S f l b e in
@@ -85,43 +86,43 @@ unfolding respond asked answered refusal
 above d f n h = rw (le-ltb f files h, answered) refl
 
 -- the memories are lent to be read, and are what the rules leave
-pub saves : (m : Memories) (f : ℕ) (out : List ℕ) (g : Given) → ((v : Option Standing) → Seen (m .segment) (m .blocks) (m .buffers) v → g ≡ shown out (replyOf v (rules.save f (length out))))
+pub saves : (m : Memories) (f : ℕ) (out : List ℕ) (g : Given) → ((v : Option Standing) → Seen m v → g ≡ shown out (replyOf v (rules.save f (length out))))
     → Promise m (host.save f out) g m
 unfolding Promise
 saves m f out g h v S = (h v S, save-behind m v S f (length out))
 
 -- a file whose R is not 0 is built
-pub save-stands : {xs blocks buffers : List ℕ} {d : Desk} {s : Alloc} (f w : ℕ) → w ≡ wordsAt xs f → (w ≡ 0 → ⊥) → StandsFor xs blocks buffers d s → FileStands xs blocks f
-save-stands {xs} {buffers = buffers} {d = d} {s = s} f w e h S =
+pub save-stands : {m : Memories} {d : Desk} {s : Alloc} (f w : ℕ) → w ≡ wordsAt (m .segment) f → (w ≡ 0 → ⊥) → StandsFor m d s → FileStands (m .segment) (m .blocks) f
+save-stands {m} {d = d} {s = s} f w e h S =
     let (b, k) = is-built S f w e h in
-    record { file = words-low xs f w e h; buffers = buffers; d = d; s = s; b = b; stands = S; is = k }
+    record { file = words-low (m .segment) f w e h; buffers = m .buffers; d = d; s = s; b = b; stands = S; is = k }
 
 abbrev Comes : ℕ → List ℕ → ℕ → ℕ → List ℕ → Option Standing → Type 0
 Comes f out st n out′ v = written st n out′ ≡ shown out (replyOf v (rules.save f (length out)))
 
-module _ {xs blocks buffers : List ℕ} (f : ℕ) (out : List ℕ) where
+module _ {m : Memories} (f : ℕ) (out : List ℕ) where
   -- 29
-  pub save-unsound : soundly xs blocks buffers ≡ false → (v : Option Standing) → Seen xs blocks buffers v → Comes f out 29 0 out v
+  pub save-unsound : soundly m ≡ false → (v : Option Standing) → Seen m v → Comes f out 29 0 out v
   unfolding replyOf
   save-unsound t = seen-none (Comes f out 29 0 out) t (refused-as 29 out (shows 29 []) refl)
 
-  module _ (t : soundly xs blocks buffers ≡ true) (w : ℕ) (e : w ≡ wordsAt xs f) where
+  module _ (t : soundly m ≡ true) (w : ℕ) (e : w ≡ wordsAt (m .segment) f) where
     -- 31: file above 7 or not built
-    pub save-unbuilt : w ≡ 0 → (v : Option Standing) → Seen xs blocks buffers v → Comes f out 31 0 out v
+    pub save-unbuilt : w ≡ 0 → (v : Option Standing) → Seen m v → Comes f out 31 0 out v
     unfolding replyOf ask askUnbuilt refusal unmade
     save-unbuilt z =
         seen-some (Comes f out 31 0 out) t
         (λ d s S. refused-as 31 out (respond d (rules.save f (length out)) .reply) (go d s S (decLt f files)))
       where
-        go : (d : Desk) (s : Alloc) → StandsFor xs blocks buffers d s → Dec (f < files) → respond d (rules.save f (length out)) .reply ≡ shows 31 []
+        go : (d : Desk) (s : Alloc) → StandsFor m d s → Dec (f < files) → respond d (rules.save f (length out)) .reply ≡ shows 31 []
         go d s S (yes h) = on-file d f (length out) unbuilt h (not-built S f w e h z)
         go d s S (no h) = above d f (length out) (omega arith)
 
     pub save-built : (w ≡ 0 → ⊥) → (st n : ℕ) (out′ : List ℕ)
-        → ((buffers : List ℕ) (d : Desk) (s : Alloc) (b : Built) → StandsFor xs blocks buffers d s → fileOf d f ≡ built b → written st n out′ ≡ shown out (save (length out) b .reply))
-        → (v : Option Standing) → Seen xs blocks buffers v → Comes f out st n out′ v
+        → ((buffers : List ℕ) (d : Desk) (s : Alloc) (b : Built) → StandsFor (memories (m .segment) (m .blocks) buffers) d s → fileOf d f ≡ built b → written st n out′ ≡ shown out (save (length out) b .reply))
+        → (v : Option Standing) → Seen m v → Comes f out st n out′ v
     unfolding replyOf ask askBuilt
     save-built h st n out′ g =
         seen-some (Comes f out st n out′) t
         (λ d s S. let (b, k) = is-built S f w e h in
-        g buffers d s b S k ∙ ap (λ (r : Reply). shown out r) (sym (on-file d f (length out) (built b) (words-low xs f w e h) k)))
+        g (m .buffers) d s b S k ∙ ap (λ (r : Reply). shown out r) (sym (on-file d f (length out) (built b) (words-low (m .segment) f w e h) k)))

@@ -1,4 +1,9 @@
 // A file's sheet: how long it is, and its lines written into the output.
+use reader::HEAD;
+use reader::HEAD_BLOCKS;
+use reader::HEAD_BYTES;
+use reader::HEAD_HELD;
+use reader::HEAD_WORDS;
 use records::cursor::first;
 use ring::Ring;
 ghost use mathlib.Core.Path.{_≡_};
@@ -11,18 +16,7 @@ ghost use Rattle.ring.specs.Held.{Held};
 ghost use Rattle.records.specs.Cursor.{heldRecs};
 ghost use Rattle.saving.specs.Sheets.{sheetOf};
 
-// What the first frame begins with, and where R, D and the records held stand in it.
-const SHEET: u8 = 1;
-
-const WORDS: usize = 1;
-
-const BLOCKS: usize = 4;
-
-const HELD: usize = 6;
-
 // The first line: the bytes of its frame, two digits each, and LF.
-const HEAD_BYTES: usize = 8;
-
 const HEAD_LINE: usize = 2 * HEAD_BYTES + 1;
 
 // The length of the sheet.
@@ -45,10 +39,10 @@ fn head_frame(ring: Ring, words: u16) -> [u8; HEAD_BYTES]
     requires { ⌜ Fitted words ring ⌝ }
     ensures { λ r. ⌜ r ≡ headFrame (geo words ring) (ring .held) ⌝ }
 {
-    let mut frame = [SHEET, 0, 0, ring.factor as u8, 0, 0, 0, 0];
-    words::put(&mut frame, WORDS, words);
-    words::put(&mut frame, BLOCKS, ring.blocks);
-    words::put(&mut frame, HELD, ring.held);
+    let mut frame = [HEAD, 0, 0, ring.factor as u8, 0, 0, 0, 0];
+    words::put(&mut frame, HEAD_WORDS, words);
+    words::put(&mut frame, HEAD_BLOCKS, ring.blocks);
+    words::put(&mut frame, HEAD_HELD, ring.held);
     frame
 }
 

@@ -3,10 +3,10 @@ use mathlib.Core.Path.{_≡_, refl}
 use lib.ListN.{length}
 use Rattle.segment.specs.declared.PlaceRow.{PlaceRow}
 use Rattle.segment.specs.Layout.{placeWidth}
-use Rattle.segment.specs.Fields.{placeWords}
+use Rattle.segment.specs.Fields.{placeWords, spared}
 
-pub length-placeWords : (r : PlaceRow) → length (placeWords r) ≡ placeWidth
+pub length-spared : (r : PlaceRow) → length (spared (placeWords r)) ≡ placeWidth
 unfolding placeWords
-length-placeWords r = refl
+length-spared r = refl
 
 -- what is written is read

@@ -6,8 +6,8 @@ use mathlib.Core.Logic.{_⊎_, inl, inr}
 use native.Mathlib.Omega.{arith}
 use native.Mathlib.Numerals.{add-one}
 use native.Mathlib.Decide.{ℕ-discrete, decLt}
-use lib.ListN.{length, getD, set, drop}
-use lib.Seq.{sets, length-sets, drop-cons}
+use lib.ListN.{length, getD, set, drop, replicate}
+use lib.Seq.{sets, length-sets, drop-cons, set-getD}
 use Rattle.words.specs.Word.{word}
 use Rattle.words.proofs.Runs.{sets-at}
 use Rattle.words.proofs.Stands.{word-same, word-other}
@@ -56,6 +56,18 @@ unfolding row
 row-more s k zero = let e : k + 0 ≡ k = omega arith in rw e
 row-more s k (suc n) = let e : k + suc n ≡ suc k + n = omega arith in rw e (ap (_∷_ (nth s k)) (row-more s (suc k) n))
 
+-- a run in two parts
+pub row-join : (s : List ℕ) (k m n : ℕ) → row s k (m + n) ≡ row s k m ++ row s (k + m) n
+unfolding row
+row-join s k zero n =
+    let e : k + 0 ≡ k = omega arith in
+    let z : 0 + n ≡ n = omega arith in
+    rw (e, z)
+row-join s k (suc m) n =
+    let e : k + suc m ≡ suc k + m = omega arith in
+    let z : suc m + n ≡ suc (m + n) = omega arith in
+    rw (e, z) (ap (_∷_ (nth s k)) (row-join s (suc k) m n))
+
 -- a word outside of what was written
 pub fill-below : (s : List ℕ) (k : ℕ) (vs : List ℕ) (j : ℕ) → j < k → nth (fill s k vs) j ≡ nth s j
 unfolding fill
@@ -94,6 +106,29 @@ row-word s t k (suc n) e j a b = go (ℕ-discrete k j) (λ h. row-word s t (suc 
 pub row-other : (s : List ℕ) (k : ℕ) (vs : List ℕ) (j n : ℕ) → (j + n ≤ k) ⊎ (k + length vs ≤ j) → row (fill s k vs) j n ≡ row s j n
 row-other s k vs j n (inl h) = row-same s (fill s k vs) j n (λ i a b. fill-below s k vs i (omega arith))
 row-other s k vs j n (inr h) = row-same s (fill s k vs) j n (λ i a b. fill-above s k vs i (omega arith))
+
+-- zeros written where zeros stand behind a run
+
+put-zero : (s : List ℕ) (k : ℕ) → nth s k ≡ 0 → putNth s k 0 ≡ s
+unfolding nth putNth
+put-zero s k h =
+    let high : 0 ≡ getD s (2 * k) 0 = omega arith in
+    let low : 0 ≡ getD s (suc (2 * k)) 0 = let e : 2 * k + 1 ≡ suc (2 * k) = omega arith in omega (arith, ap (λ (i : ℕ). getD s i 0) e) in
+    ap₂ {C = List ℕ} (λ (a b : ℕ). set (set s (2 * k) a) (suc (2 * k)) b) high low
+    ∙ ap (λ (ys : List ℕ). set ys (suc (2 * k)) (getD s (suc (2 * k)) 0)) (set-getD s (2 * k) 0) ∙ set-getD s (suc (2 * k)) 0
+
+pub fill-zeros : (s : List ℕ) (k : ℕ) (vs : List ℕ) (n : ℕ) → ((j : ℕ) → j < n → nth s (k + length vs + j) ≡ 0) → fill s k (vs ++ replicate n 0) ≡ fill s k vs
+unfolding fill
+fill-zeros s k [] zero f = refl
+fill-zeros s k [] (suc n) f =
+    let e : k ≡ k + 0 + 0 = omega arith in
+    let z : putNth s k 0 ≡ s = put-zero s k (ap (nth s) e ∙ f 0 (omega arith)) in
+    ap (λ (ys : List ℕ). fill ys (suc k) (replicate n 0)) z
+    ∙ fill-zeros s (suc k) [] n (λ j h. let d : suc k + 0 + j ≡ k + 0 + suc j = omega arith in ap (nth s) d ∙ f (suc j) (omega arith))
+fill-zeros s k (v ∷ vs) n f =
+    fill-zeros (putNth s k v) (suc k) vs n
+    (λ j h. let d : suc k + length vs + j ≡ k + suc (length vs) + j = omega arith in
+    nth-other s k v (suc k + length vs + j) (λ u. omega arith) ∙ ap (nth s) d ∙ f j h)
 
 -- one turn of the loops that write and read a run
 

@@ -1,11 +1,11 @@
 -- What the words of an entry and of a row are, in their order.
 use Prim.Native.Nat.{ℕ}
-use mathlib.Core.List.{List, [], _∷_}
-use lib.ListN.{getD}
+use mathlib.Core.List.{List, [], _∷_, _++_}
+use lib.ListN.{getD, replicate}
 use Rattle.segment.specs.declared.Entry.{Entry}
 use Rattle.segment.specs.declared.FileRow.{FileRow}
 use Rattle.segment.specs.declared.PlaceRow.{PlaceRow}
-use Rattle.segment.specs.Layout.{fileWidth, placeWidth, fileRowAt, placeRowAt}
+use Rattle.segment.specs.Layout.{fileWidth, placeSpare, placeWidth, fileRowAt, placeRowAt}
 use Rattle.segment.specs.Table.{row, dataOf}
 
 -- an entry's data, with one word to spare
@@ -16,9 +16,13 @@ entryWords m = m .place ∷ m .unit ∷ m .limit ∷ m .keep ∷ m .status ∷ m
 unfoldable pub fileWords : FileRow → List ℕ
 fileWords r = r .words ∷ r .factor ∷ r .blocks ∷ r .block ∷ r .spent ∷ r .held ∷ 0 ∷ 0 ∷ []
 
--- a place's row: all zero where no accessor is open there, since a reader's side is 1 and a writer's 2
+-- a place's fields: all zero where no accessor is open there, since a reader's side is 1 and a writer's 2
 unfoldable pub placeWords : PlaceRow → List ℕ
 placeWords r = r .side ∷ r .id ∷ r .share ∷ r .timeout ∷ r .extended ∷ r .typed ∷ r .keep ∷ r .first ∷ []
+
+-- and its row: the words to spare stand behind them
+abbrev pub spared : List ℕ → List ℕ
+spared ws = ws ++ replicate placeSpare 0
 
 -- and back: what has these words
 

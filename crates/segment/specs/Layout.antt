@@ -57,8 +57,15 @@ dataAt e = listCount + 1 + entryWidth * e
 abbrev pub fileWidth : ℕ
 fileWidth = 8
 
+abbrev pub placeFields : ℕ
+placeFields = 8
+
+-- words behind a place's fields: zero, asked to be zero, and written by fresh alone
+abbrev pub placeSpare : ℕ
+placeSpare = 0
+
 abbrev pub placeWidth : ℕ
-placeWidth = 8
+placeWidth = placeFields + placeSpare
 
 abbrev pub fileRows : ℕ
 fileRows = listCount + entryWidth * entries

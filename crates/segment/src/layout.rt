@@ -49,7 +49,12 @@ pub const ENTRY_SECONDS: usize = 7;
 // The rows: those of the files, then those of the places, each kind with a width of its own.
 pub const FILE_ROW_WORDS: usize = 8;
 
-pub const PLACE_ROW_WORDS: usize = 8;
+pub const PLACE_FIELDS: usize = 8;
+
+// Words behind a place's fields: zero, and asked to be zero.
+pub const PLACE_SPARE: usize = 0;
+
+pub const PLACE_ROW_WORDS: usize = PLACE_FIELDS + PLACE_SPARE;
 
 pub const FILE_ROWS: usize = LINKS + ENTRY_WORDS * ENTRIES as usize;
 

@@ -235,6 +235,31 @@ pub fn place_side(s: &[u8], i: usize) -> u16
     get(s, place_at(i) + layout::PLACE_SIDE)
 }
 
+// The ID of place i, and its controls 46 and 47, each alone.
+pub fn place_id(s: &[u8], i: usize) -> u16
+    requires { ⌜ length (now s) ≡ segmentBytes ⌝ }
+    requires { ⌜ i < deskPlaces ⌝ }
+    ensures { λ r. ⌜ r ≡ placeAt (now (s .entry)) i .id ⌝ }
+{
+    get(s, place_at(i) + layout::PLACE_ID)
+}
+
+pub fn place_typed(s: &[u8], i: usize) -> u16
+    requires { ⌜ length (now s) ≡ segmentBytes ⌝ }
+    requires { ⌜ i < deskPlaces ⌝ }
+    ensures { λ r. ⌜ r ≡ placeAt (now (s .entry)) i .typed ⌝ }
+{
+    get(s, place_at(i) + layout::PLACE_TYPED)
+}
+
+pub fn place_keep(s: &[u8], i: usize) -> u16
+    requires { ⌜ length (now s) ≡ segmentBytes ⌝ }
+    requires { ⌜ i < deskPlaces ⌝ }
+    ensures { λ r. ⌜ r ≡ placeAt (now (s .entry)) i .keep ⌝ }
+{
+    get(s, place_at(i) + layout::PLACE_KEEP)
+}
+
 // The row of place i becomes r.
 pub fn write_place(s: &mut [u8], i: usize, r: PlaceRow)
     requires { ⌜ length (now s) ≡ segmentBytes ⌝ }

@@ -9,7 +9,7 @@ use Rattle.rules.specs.Reply.{Reply}
 use Rattle.rules.specs.Desk.{Desk, Call, event, freshDesk, respond, replies, after, replyBytes, inputLines, answerLines, program}
 use Rattle.rules.specs.Allocation.{allocAfter}
 use Rattle.rules.proofs.Split.{by-cases, pick-true, pick-false}
-use Rattle.memory.specs.Fresh.{freshSegment, freshBlocks, freshBuffers}
+use Rattle.memory.specs.Fresh.{freshMemories}
 use Rattle.memory.proofs.Fresh.{fresh-stands}
 use Rattle.memory.proofs.Reached.{reached}
 use Rattle.serving.specs.Going.{Going, begun, begins, lineEnds, byte, goes, ends, At}
@@ -94,6 +94,6 @@ prints t =
     ∙ ap (λ (x : List (List ℕ)). answerLines (replies freshDesk (calls x))) (sym (pick-false _ _ _ e)))
 
 -- it begins with the memories of a fresh desk
-pub begins-at : (line out : List ℕ) → At begins freshSegment freshBlocks freshBuffers line out 0 0
+pub begins-at : (line out : List ℕ) → At begins freshMemories line out 0 0
 unfolding begun begins after allocAfter
-begins-at line out = record { printed = record { stands = reached [] freshSegment freshBlocks freshBuffers fresh-stands; filled = refl }; held = refl }
+begins-at line out = record { printed = record { stands = reached [] freshMemories fresh-stands; filled = refl }; held = refl }

@@ -9,6 +9,7 @@ use Rattle.rules.specs.Limits.{lineBytes}
 use Rattle.rules.specs.Line.{lineFrame, lineOf}
 use Rattle.rules.specs.Desk.{Desk, Call, event, asked, freshDesk, Responded, respond, replyBytes}
 use Rattle.rules.specs.Allocation.{Alloc, freshAlloc, allocAsked}
+use Rattle.memory.specs.Memories.{Memories}
 use Rattle.memory.specs.Fine.{StandsFor}
 
 -- a digit more than the longest line has: so much of a line shows that it is none, whatever follows
@@ -60,11 +61,11 @@ unfoldable pub ends : Going → Going
 ends g = elim (eqb (length (g .part)) 0) [ true ↦ g | false ↦ lineEnds g ]
 
 -- the memories stand for its desk, and the first m bytes of `out` are what it printed
-pub record Printed (g : Going) (segment blocks buffers out : List ℕ) (m : ℕ) : Type 0 where
-  pub stands : StandsFor segment blocks buffers (g .desk) (g .alloc)
+pub record Printed (g : Going) (ms : Memories) (out : List ℕ) (m : ℕ) : Type 0 where
+  pub stands : StandsFor ms (g .desk) (g .alloc)
   pub filled : take m out ≡ g .printed
 
 -- and the first n bytes of `line` are those of its line, as far as they are kept
-pub record At (g : Going) (segment blocks buffers line out : List ℕ) (n m : ℕ) : Type 0 where
-  pub printed : Printed g segment blocks buffers out m
+pub record At (g : Going) (ms : Memories) (line out : List ℕ) (n m : ℕ) : Type 0 where
+  pub printed : Printed g ms out m
   pub held : take n line ≡ take mostHeld (g .part)

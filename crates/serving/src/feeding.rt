@@ -1,19 +1,18 @@
 // From bytes of input to bytes of output: each line that ends is answered by the desk.
 use crate::held::keep;
+use hex::LF;
 use kinds::limits::ANSWER_ROOM;
 use lines::answer_line;
 ghost use mathlib.Core.Path.{_≡_};
 ghost use Prim.Native.Nat.{_+_, _≤_, _<_};
 ghost use lib.ListN.{length, take};
-ghost use Rattle.lines.specs.Asked.{mostAnswer};
+ghost use Rattle.lines.specs.Asked.{answerLine};
 ghost use Rattle.serving.specs.Going.{mostHeld, outBytes, Going, byte, goes, ends, Printed, At};
 ghost use Rattle.serving.specs.Served.{Kept};
-
-// A line ends with LF.
-const LF: u8 = 10;
+ghost use Rattle.memory.specs.Memories.{memories};
 
 // The digits of the longest answer, and LF.
-const MOST_ANSWER: usize = 2 * ANSWER_ROOM + 1;
+const ANSWER_LINE: usize = 2 * ANSWER_ROOM + 1;
 
 // The output that is written at once.
 pub const OUT_BYTES: usize = 65536;
@@ -41,10 +40,10 @@ fn feed_byte(
     at: Filled,
     b: u8,
 ) -> Filled
-    requires { ⌜ (length (now line) ≡ mostHeld) × (length (now out) ≡ outBytes) × (at .held ≤ mostHeld) × (at .used + mostAnswer ≤ outBytes) ⌝ }
+    requires { ⌜ (length (now line) ≡ mostHeld) × (length (now out) ≡ outBytes) × (at .held ≤ mostHeld) × (at .used + answerLine ≤ outBytes) ⌝ }
     ensures bound { λ r. ⌜ (r .held ≤ mostHeld) × (r .used ≤ outBytes) ⌝ }
-    ensures at { λ r. ⌜ ((g : Going) → At g (now (segment .entry)) (now (blocks .entry)) (now (buffers .entry)) (now (line .entry)) (now (out .entry)) (at .held) (at .used) → At (byte g b) (now (segment .exit)) (now (blocks .exit)) (now (buffers .exit)) (now (line .exit)) (now (out .exit)) (r .held) (r .used)) ⌝ }
-    ensures kept { λ _. ⌜ Kept (now (segment .entry)) (now (blocks .entry)) (now (buffers .entry)) (now (segment .exit)) (now (blocks .exit)) (now (buffers .exit)) ⌝ }
+    ensures at { λ r. ⌜ ((g : Going) → At g (memories (now (segment .entry)) (now (blocks .entry)) (now (buffers .entry))) (now (line .entry)) (now (out .entry)) (at .held) (at .used) → At (byte g b) (memories (now (segment .exit)) (now (blocks .exit)) (now (buffers .exit))) (now (line .exit)) (now (out .exit)) (r .held) (r .used)) ⌝ }
+    ensures kept { λ _. ⌜ Kept (memories (now (segment .entry)) (now (blocks .entry)) (now (buffers .entry))) (memories (now (segment .exit)) (now (blocks .exit)) (now (buffers .exit))) ⌝ }
 {
     let held = at.held;
     let used = at.used;
@@ -72,8 +71,8 @@ pub fn feed(
     requires { ⌜ (length (now line) ≡ mostHeld) × (length (now out) ≡ outBytes) × (held ≤ mostHeld) ⌝ }
     ensures bound { λ r. ⌜ (r .taken ≤ length (now (chunk .entry))) × (r .held ≤ mostHeld) × (r .used ≤ outBytes) ⌝ }
     ensures some { λ r. ⌜ (0 < length (now (chunk .entry)) → 0 < r .taken) ⌝ }
-    ensures at { λ r. ⌜ ((g : Going) → At g (now (segment .entry)) (now (blocks .entry)) (now (buffers .entry)) (now (line .entry)) (now (out .entry)) held 0 → At (goes g (take (r .taken) (now (chunk .entry)))) (now (segment .exit)) (now (blocks .exit)) (now (buffers .exit)) (now (line .exit)) (now (out .exit)) (r .held) (r .used)) ⌝ }
-    ensures kept { λ _. ⌜ Kept (now (segment .entry)) (now (blocks .entry)) (now (buffers .entry)) (now (segment .exit)) (now (blocks .exit)) (now (buffers .exit)) ⌝ }
+    ensures at { λ r. ⌜ ((g : Going) → At g (memories (now (segment .entry)) (now (blocks .entry)) (now (buffers .entry))) (now (line .entry)) (now (out .entry)) held 0 → At (goes g (take (r .taken) (now (chunk .entry)))) (memories (now (segment .exit)) (now (blocks .exit)) (now (buffers .exit))) (now (line .exit)) (now (out .exit)) (r .held) (r .used)) ⌝ }
+    ensures kept { λ _. ⌜ Kept (memories (now (segment .entry)) (now (blocks .entry)) (now (buffers .entry))) (memories (now (segment .exit)) (now (blocks .exit)) (now (buffers .exit))) ⌝ }
 {
     let mut at = Filled {
         held: held,
@@ -81,7 +80,7 @@ pub fn feed(
     };
     let mut i = 0;
     while i < chunk.len() {
-        if at.used > OUT_BYTES - MOST_ANSWER {
+        if at.used > OUT_BYTES - ANSWER_LINE {
             return Fed {
                 taken: i,
                 held: at.held,
@@ -109,8 +108,8 @@ pub fn finish(
 ) -> usize
     requires { ⌜ (length (now line) ≡ mostHeld) × (length (now out) ≡ outBytes) × (held ≤ mostHeld) ⌝ }
     ensures bound { λ r. ⌜ r ≤ outBytes ⌝ }
-    ensures printed { λ r. ⌜ ((g : Going) → At g (now (segment .entry)) (now (blocks .entry)) (now (buffers .entry)) (now (line .entry)) (now (out .entry)) held 0 → Printed (ends g) (now (segment .exit)) (now (blocks .exit)) (now (buffers .exit)) (now (out .exit)) r) ⌝ }
-    ensures kept { λ _. ⌜ Kept (now (segment .entry)) (now (blocks .entry)) (now (buffers .entry)) (now (segment .exit)) (now (blocks .exit)) (now (buffers .exit)) ⌝ }
+    ensures printed { λ r. ⌜ ((g : Going) → At g (memories (now (segment .entry)) (now (blocks .entry)) (now (buffers .entry))) (now (line .entry)) (now (out .entry)) held 0 → Printed (ends g) (memories (now (segment .exit)) (now (blocks .exit)) (now (buffers .exit))) (now (out .exit)) r) ⌝ }
+    ensures kept { λ _. ⌜ Kept (memories (now (segment .entry)) (now (blocks .entry)) (now (buffers .entry))) (memories (now (segment .exit)) (now (blocks .exit)) (now (buffers .exit))) ⌝ }
 {
     if held == 0 {
         return 0;

@@ -11,6 +11,10 @@ ghost use Prim.Native.Nat.{_≤_};
 ghost use lib.ListN.{length};
 ghost use Rattle.serving.specs.Going.{mostHeld, outBytes, Going, goes, written, At};
 ghost use Rattle.serving.specs.Served.{Behind, Turned, Served, Kept};
+ghost use Rattle.memory.specs.Memories.{memories};
+
+// The input that is read at once.
+const IN_BYTES: usize = 65536;
 
 // Answers are printed where the desk is served aloud; whether that went well. Where it did not, that is told.
 fn print(aloud: bool, answers: &[u8]) -> bool {
@@ -56,9 +60,9 @@ fn answer_chunk(
 ) -> Turn
     requires { ⌜ (length (now line) ≡ mostHeld) × (length (now out) ≡ outBytes) × (before ≤ mostHeld) ⌝ }
     ensures bound { λ r. ⌜ r .held ≤ mostHeld ⌝ }
-    ensures at { λ r. ⌜ ((g : Going) → At (written g) (now (segment .entry)) (now (blocks .entry)) (now (buffers .entry)) (now (line .entry)) (now (out .entry)) before 0 → r .more ≡ true → At (written (goes g (now (chunk .entry)))) (now (segment .exit)) (now (blocks .exit)) (now (buffers .exit)) (now (line .exit)) (now (out .exit)) (r .held) 0) ⌝ }
-    ensures stands { λ r. ⌜ ((g : Going) → At (written g) (now (segment .entry)) (now (blocks .entry)) (now (buffers .entry)) (now (line .entry)) (now (out .entry)) before 0 → Behind g (now (segment .exit)) (now (blocks .exit)) (now (buffers .exit))) ⌝ }
-    ensures kept { λ _. ⌜ Kept (now (segment .entry)) (now (blocks .entry)) (now (buffers .entry)) (now (segment .exit)) (now (blocks .exit)) (now (buffers .exit)) ⌝ }
+    ensures at { λ r. ⌜ ((g : Going) → At (written g) (memories (now (segment .entry)) (now (blocks .entry)) (now (buffers .entry))) (now (line .entry)) (now (out .entry)) before 0 → r .more ≡ true → At (written (goes g (now (chunk .entry)))) (memories (now (segment .exit)) (now (blocks .exit)) (now (buffers .exit))) (now (line .exit)) (now (out .exit)) (r .held) 0) ⌝ }
+    ensures stands { λ r. ⌜ ((g : Going) → At (written g) (memories (now (segment .entry)) (now (blocks .entry)) (now (buffers .entry))) (now (line .entry)) (now (out .entry)) before 0 → Behind g (memories (now (segment .exit)) (now (blocks .exit)) (now (buffers .exit)))) ⌝ }
+    ensures kept { λ _. ⌜ Kept (memories (now (segment .entry)) (now (blocks .entry)) (now (buffers .entry))) (memories (now (segment .exit)) (now (blocks .exit)) (now (buffers .exit))) ⌝ }
 {
     let mut held = before;
     let mut at = 0;
@@ -90,8 +94,8 @@ fn answer_read(
 ) -> Turn
     requires { ⌜ (length (now line) ≡ mostHeld) × (length (now out) ≡ outBytes) × (held ≤ mostHeld) ⌝ }
     ensures bound { λ r. ⌜ r .held ≤ mostHeld ⌝ }
-    ensures turned { λ r. ⌜ ((g : Going) → At (written g) (now (segment .entry)) (now (blocks .entry)) (now (buffers .entry)) (now (line .entry)) (now (out .entry)) held 0 → Turned g (now (segment .exit)) (now (blocks .exit)) (now (buffers .exit)) (now (line .exit)) (now (out .exit)) (r .held) (r .more)) ⌝ }
-    ensures kept { λ _. ⌜ Kept (now (segment .entry)) (now (blocks .entry)) (now (buffers .entry)) (now (segment .exit)) (now (blocks .exit)) (now (buffers .exit)) ⌝ }
+    ensures turned { λ r. ⌜ ((g : Going) → At (written g) (memories (now (segment .entry)) (now (blocks .entry)) (now (buffers .entry))) (now (line .entry)) (now (out .entry)) held 0 → Turned g (memories (now (segment .exit)) (now (blocks .exit)) (now (buffers .exit))) (now (line .exit)) (now (out .exit)) (r .held) (r .more)) ⌝ }
+    ensures kept { λ _. ⌜ Kept (memories (now (segment .entry)) (now (blocks .entry)) (now (buffers .entry))) (memories (now (segment .exit)) (now (blocks .exit)) (now (buffers .exit))) ⌝ }
 {
     let got = libc::read(STDIN_FILENO, chunk);
     if got < 0 {
@@ -126,8 +130,8 @@ fn answer_all(
     aloud: bool,
 )
     requires { ⌜ (length (now line) ≡ mostHeld) × (length (now out) ≡ outBytes) ⌝ }
-    ensures served { λ _. ⌜ Served (now (segment .entry)) (now (blocks .entry)) (now (buffers .entry)) (now (segment .exit)) (now (blocks .exit)) (now (buffers .exit)) ⌝ }
-    ensures kept { λ _. ⌜ Kept (now (segment .entry)) (now (blocks .entry)) (now (buffers .entry)) (now (segment .exit)) (now (blocks .exit)) (now (buffers .exit)) ⌝ }
+    ensures served { λ _. ⌜ Served (memories (now (segment .entry)) (now (blocks .entry)) (now (buffers .entry))) (memories (now (segment .exit)) (now (blocks .exit)) (now (buffers .exit))) ⌝ }
+    ensures kept { λ _. ⌜ Kept (memories (now (segment .entry)) (now (blocks .entry)) (now (buffers .entry))) (memories (now (segment .exit)) (now (blocks .exit)) (now (buffers .exit))) ⌝ }
 {
     let mut held = 0;
     let mut reads = u64::MAX;
@@ -143,12 +147,12 @@ fn answer_all(
 
 // All frames of standard input. Served aloud, their answers are printed.
 pub fn serve(segment: &mut [u8], blocks: &mut [u8], buffers: &mut [u8], aloud: bool)
-    ensures served { λ _. ⌜ Served (now (segment .entry)) (now (blocks .entry)) (now (buffers .entry)) (now (segment .exit)) (now (blocks .exit)) (now (buffers .exit)) ⌝ }
-    ensures kept { λ _. ⌜ Kept (now (segment .entry)) (now (blocks .entry)) (now (buffers .entry)) (now (segment .exit)) (now (blocks .exit)) (now (buffers .exit)) ⌝ }
+    ensures served { λ _. ⌜ Served (memories (now (segment .entry)) (now (blocks .entry)) (now (buffers .entry))) (memories (now (segment .exit)) (now (blocks .exit)) (now (buffers .exit))) ⌝ }
+    ensures kept { λ _. ⌜ Kept (memories (now (segment .entry)) (now (blocks .entry)) (now (buffers .entry))) (memories (now (segment .exit)) (now (blocks .exit)) (now (buffers .exit))) ⌝ }
 {
     let mut line = [0u8; held::MOST_HELD];
     let mut out = [0u8; feeding::OUT_BYTES];
-    let mut chunk = [0u8; 65536];
+    let mut chunk = [0u8; IN_BYTES];
     answer_all(
         segment,
         blocks,

@@ -1,17 +1,20 @@
 // The calls that have no frame. What each is answered, as a line of a table has it: the status, and what is given, behind spaces.
+use hex::LF;
 use loading::load;
 use looking::look;
 use looking::look_status;
+use saving::SHEET_ROOM;
 use saving::save;
 ghost use Prim.Native.Nat.{_+_, _≤_};
 ghost use lib.ListN.{length};
-
-const LF: u8 = 10;
 
 // The status stands in two digits, and behind a space what is given.
 const STATUS: usize = 2;
 
 const GIVEN: usize = 3;
+
+// Room for what every call is answered: save tells a sheet.
+pub const TOLD: usize = GIVEN + SHEET_ROOM;
 
 // The number that the digit at a place of a line says; where there is none, one that no file and no place has.
 fn number_at(line: &[u8], i: usize) -> usize {

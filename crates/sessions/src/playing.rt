@@ -7,6 +7,7 @@
 //     + FILE FRAME ..=STATUS         load, of a sheet with these frames
 //     @ FILE READER=STATUS BYTES     look: the status, and the bytes shown
 // and an empty line, which ends the session. FILE and READER are one digit.
+use crate::calls::TOLD;
 use crate::calls::tell_load;
 use crate::calls::tell_look;
 use crate::calls::tell_save;
@@ -15,6 +16,7 @@ use crate::spelling::spell;
 use crate::text::behind;
 use crate::text::find;
 use check::same;
+use hex::LF;
 use kinds::limits::BLOCKS_BYTES;
 use kinds::limits::BUFFERS_BYTES;
 use libc::STDOUT_FILENO;
@@ -22,8 +24,6 @@ use lines::answer_line;
 use segment::layout::SEGMENT_BYTES;
 ghost use Prim.Native.Nat.{_+_, _≤_};
 ghost use lib.ListN.{length};
-
-const LF: u8 = 10;
 
 // Whether a session has begun, and whether it went as its lines say so far.
 struct Played {
@@ -110,7 +110,7 @@ fn asked_end(line: &[u8]) -> usize
 
 // Whether the call of a line is answered as the line says; what differs is printed.
 fn call(segment: &mut [u8], blocks: &mut [u8], buffers: &mut [u8], line: &[u8]) -> bool {
-    let mut told = [0u8; 8195];
+    let mut told = [0u8; TOLD];
     let n = asked_end(line);
     if n >= told.len() {
         return false;

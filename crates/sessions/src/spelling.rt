@@ -4,10 +4,9 @@ use crate::text::behind;
 use crate::text::find;
 use crate::vocabulary::FORMS;
 use check::same;
+use hex::LF;
 ghost use Prim.Native.Nat.{_≤_};
 ghost use lib.ListN.{length};
-
-const LF: u8 = 10;
 
 // Room for the longest frame and the longest answer, and more.
 pub const SPELT: usize = 2048;

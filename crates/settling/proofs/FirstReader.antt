@@ -19,6 +19,7 @@ use Rattle.segment.specs.declared.PlaceRow.{PlaceRow}
 use Rattle.segment.specs.Layout.{readQueue, deskPlaces}
 use Rattle.segment.specs.Table.{nth}
 use Rattle.segment.specs.Fields.{entryOf, entryAt, placeAt, placeRowOf}
+use Rattle.memory.specs.Memories.{Memories}
 use Rattle.memory.specs.Image.{reqWords, placeWords}
 use Rattle.memory.specs.Fine.{Fine}
 use Rattle.midst.specs.declared.File as hand
@@ -44,8 +45,8 @@ pub record Reader (xs : List ℕ) (f : ℕ) (b : Built) : Type 0 where
   pub asks : acc .req ≡ reading wanted
   pub entry : entryAt xs (nth xs (readQueue f)) ≡ record { place = placeOf f place; unit = bit (wanted .words); limit = wanted .limit; keep = bit (wanted .keep); status = 0; log = 0; size = 0; seconds = 0 }
 
-module _ {f : ℕ} {o : Start} {xs blocks buffers : List ℕ} {x : hand.File} {b : Built} (M : Mid Fine f o xs blocks buffers x b) where
-  reader-at : (p : ℕ) (rest : List ℕ) → b .rq ≡ p ∷ rest → Reader xs f b
+module _ {f : ℕ} {o : Start} {ms : Memories} {x : hand.File} {b : Built} (M : Mid Fine f o ms x b) where
+  reader-at : (p : ℕ) (rest : List ℕ) → b .rq ≡ p ∷ rest → Reader (ms .segment) f b
   unfolding entryOf reqWords reqOf
   reader-at p rest q =
       let (a, w, e, r) = reads-at b p rest (M .good .queues) q in
@@ -61,17 +62,17 @@ module _ {f : ℕ} {o : Start} {xs blocks buffers : List ℕ} {x : hand.File} {b
       }
 
   -- there is one exactly where the head is an entry's number
-  pub reader-or : (P : List ℕ → Type 0) → (entries ≤ nth xs (readQueue f) → b .rq ≡ [] → P []) → ((r : Reader xs f b) → nth xs (readQueue f) < entries → P (b .rq)) → P (b .rq)
+  pub reader-or : (P : List ℕ → Type 0) → (entries ≤ nth (ms .segment) (readQueue f) → b .rq ≡ [] → P []) → ((r : Reader (ms .segment) f b) → nth (ms .segment) (readQueue f) < entries → P (b .rq)) → P (b .rq)
   reader-or P n s = go (b .rq) refl
     where
       go : (l : List ℕ) → b .rq ≡ l → P l
       go [] e = n (head-none M false e) e
       go (p ∷ rest) e = subst P e (s (reader-at p rest e) (head-some M false p rest e .0))
 
-  pub reader-of : nth xs (readQueue f) < entries → Reader xs f b
-  reader-of h = reader-or (λ _. Reader xs f b) (λ n _. absurd (omega arith)) (λ r _. r)
+  pub reader-of : nth (ms .segment) (readQueue f) < entries → Reader (ms .segment) f b
+  reader-of h = reader-or (λ _. Reader (ms .segment) f b) (λ n _. absurd (omega arith)) (λ r _. r)
 
-  module _ (r : Reader xs f b) where
+  module _ (r : Reader (ms .segment) f b) where
     pub reader-below : r .place < places
     reader-below = mid-below M (r .place) (r .acc) (r .opens)
 
@@ -79,16 +80,16 @@ module _ {f : ℕ} {o : Start} {xs blocks buffers : List ℕ} {x : hand.File} {b
     reader-place = place-under f (r .place) (M .file) reader-below
 
     -- control 46, as its row has it
-    pub reader-typed : (m : Entry) (row : PlaceRow) → m ≡ entryAt xs (nth xs (readQueue f)) → row ≡ placeAt xs (m .place) → eqb (row .typed) 1 ≡ r .acc .typed
+    pub reader-typed : (m : Entry) (row : PlaceRow) → m ≡ entryAt (ms .segment) (nth (ms .segment) (readQueue f)) → row ≡ placeAt (ms .segment) (m .place) → eqb (row .typed) 1 ≡ r .acc .typed
     unfolding placeRowOf placeWords
     reader-typed m row e u =
         ap (λ (y : PlaceRow). eqb (y .typed) 1)
-        (u ∙ ap (placeAt xs) (ap (λ (n : Entry). n .place) (e ∙ r .entry)) ∙ mid-place M (r .place) reader-below ∙ ap (λ (z : Option Acc). placeRowOf (placeWords z)) (r .opens))
+        (u ∙ ap (placeAt (ms .segment)) (ap (λ (n : Entry). n .place) (e ∙ r .entry)) ∙ mid-place M (r .place) reader-below ∙ ap (λ (z : Option Acc). placeRowOf (placeWords z)) (r .opens))
         ∙ bit-one (r .acc .typed)
 
     pub reader-short : r .wanted .limit ≤ bufferBytes
     unfolding Bounded
     reader-short = bounds-at (r .place) (r .acc) _ b (r .opens) (r .asks) (M .good .bounds)
 
-    pub reader-under : (e : ℕ) (m : Entry) → e ≡ nth xs (readQueue f) → m ≡ entryAt xs e → m .place < deskPlaces
-    reader-under e m at em = subst (λ (n : Entry). n .place < deskPlaces) (sym (em ∙ ap (entryAt xs) at ∙ r .entry)) reader-place
+    pub reader-under : (e : ℕ) (m : Entry) → e ≡ nth (ms .segment) (readQueue f) → m ≡ entryAt (ms .segment) e → m .place < deskPlaces
+    reader-under e m at em = subst (λ (n : Entry). n .place < deskPlaces) (sym (em ∙ ap (entryAt (ms .segment)) at ∙ r .entry)) reader-place

@@ -23,6 +23,7 @@ use Rattle.segment.specs.Layout.{writeQueue, deskPlaces}
 use Rattle.segment.specs.Table.{nth, row}
 use Rattle.segment.specs.Fields.{entryOf, entryAt, placeAt, placeRowOf}
 use Rattle.buffers.specs.Buffer as code
+use Rattle.memory.specs.Memories.{Memories}
 use Rattle.memory.specs.Image.{reqWords, placeWords}
 use Rattle.memory.specs.Stands.{bufferAt}
 use Rattle.memory.specs.Fine.{Fine}
@@ -46,8 +47,8 @@ pub record Writer (xs : List ℕ) (f : ℕ) (b : Built) : Type 0 where
   pub asks : acc .req ≡ writing offered
   pub entry : entryAt xs (nth xs (writeQueue f)) ≡ record { place = placeOf f place; unit = bit (offered .words); limit = 0; keep = 0; status = 0; log = 0; size = length (offered .bytes); seconds = 0 }
 
-module _ {f : ℕ} {o : Start} {xs blocks buffers : List ℕ} {x : hand.File} {b : Built} (M : Mid Fine f o xs blocks buffers x b) where
-  writer-at : (p : ℕ) (rest : List ℕ) → b .wq ≡ p ∷ rest → Writer xs f b
+module _ {f : ℕ} {o : Start} {ms : Memories} {x : hand.File} {b : Built} (M : Mid Fine f o ms x b) where
+  writer-at : (p : ℕ) (rest : List ℕ) → b .wq ≡ p ∷ rest → Writer (ms .segment) f b
   unfolding entryOf reqWords reqOf
   writer-at p rest q =
       let (a, w, e, r) = writes-at b p rest (M .good .queues) q in
@@ -63,43 +64,43 @@ module _ {f : ℕ} {o : Start} {xs blocks buffers : List ℕ} {x : hand.File} {b
       }
 
   -- there is one exactly where the head is an entry's number
-  pub writer-or : (P : List ℕ → Type 0) → (entries ≤ nth xs (writeQueue f) → b .wq ≡ [] → P []) → ((r : Writer xs f b) → nth xs (writeQueue f) < entries → P (b .wq)) → P (b .wq)
+  pub writer-or : (P : List ℕ → Type 0) → (entries ≤ nth (ms .segment) (writeQueue f) → b .wq ≡ [] → P []) → ((r : Writer (ms .segment) f b) → nth (ms .segment) (writeQueue f) < entries → P (b .wq)) → P (b .wq)
   writer-or P n s = go (b .wq) refl
     where
       go : (l : List ℕ) → b .wq ≡ l → P l
       go [] e = n (head-none M true e) e
       go (p ∷ rest) e = subst P e (s (writer-at p rest e) (head-some M true p rest e .0))
 
-  pub writer-of : nth xs (writeQueue f) < entries → Writer xs f b
-  writer-of h = writer-or (λ _. Writer xs f b) (λ n _. absurd (omega arith)) (λ r _. r)
+  pub writer-of : nth (ms .segment) (writeQueue f) < entries → Writer (ms .segment) f b
+  writer-of h = writer-or (λ _. Writer (ms .segment) f b) (λ n _. absurd (omega arith)) (λ r _. r)
 
-  module _ (r : Writer xs f b) where
+  module _ (r : Writer (ms .segment) f b) where
     writer-below : r .place < places
     writer-below = mid-below M (r .place) (r .acc) (r .opens)
 
     pub writer-place : placeOf f (r .place) < deskPlaces
     writer-place = place-under f (r .place) (M .file) writer-below
 
-    pub writer-id : (m : Entry) (row : PlaceRow) → m ≡ entryAt xs (nth xs (writeQueue f)) → row ≡ placeAt xs (m .place) → row .id ≡ r .acc .ident
+    pub writer-id : (m : Entry) (row : PlaceRow) → m ≡ entryAt (ms .segment) (nth (ms .segment) (writeQueue f)) → row ≡ placeAt (ms .segment) (m .place) → row .id ≡ r .acc .ident
     unfolding placeRowOf placeWords
     writer-id m row e u =
         ap (λ (y : PlaceRow). y .id)
-        (u ∙ ap (placeAt xs) (ap (λ (n : Entry). n .place) (e ∙ r .entry)) ∙ mid-place M (r .place) writer-below ∙ ap (λ (z : Option Acc). placeRowOf (placeWords z)) (r .opens))
+        (u ∙ ap (placeAt (ms .segment)) (ap (λ (n : Entry). n .place) (e ∙ r .entry)) ∙ mid-place M (r .place) writer-below ∙ ap (λ (z : Option Acc). placeRowOf (placeWords z)) (r .opens))
 
     pub writer-short : length (r .offered .bytes) ≤ 2 * b .geo .words
     unfolding Bounded
     writer-short = bounds-at (r .place) (r .acc) _ b (r .opens) (r .asks) (M .good .bounds)
 
     -- its data lie in its buffer
-    writer-buffer : bufferAt (placeOf f (r .place)) buffers ≡ buffer (accAt b (r .place))
+    writer-buffer : bufferAt (placeOf f (r .place)) (ms .buffers) ≡ buffer (accAt b (r .place))
     unfolding accAt placeOf
     writer-buffer =
-        bufferAt-is f buffers (b .accs) (M .allots .matches .agrees .eight)
+        bufferAt-is f (ms .buffers) (b .accs) (M .allots .matches .agrees .eight)
         (λ y k. length-buffer (b .geo .words) (getD (b .accs) y none) (M .good .room .geo .words-high) (M .good .bounds y)) (M .buffer) (r .place) writer-below
 
-    module _ (e : ℕ) (m : Entry) (at : e ≡ nth xs (writeQueue f)) (em : m ≡ entryAt xs e) where
+    module _ (e : ℕ) (m : Entry) (at : e ≡ nth (ms .segment) (writeQueue f)) (em : m ≡ entryAt (ms .segment) e) where
       pub writer-is : m ≡ record { place = placeOf f (r .place); unit = bit (r .offered .words); limit = 0; keep = 0; status = 0; log = 0; size = length (r .offered .bytes); seconds = 0 }
-      writer-is = em ∙ ap (entryAt xs) at ∙ r .entry
+      writer-is = em ∙ ap (entryAt (ms .segment)) at ∙ r .entry
 
       pub writer-under : m .place < deskPlaces
       writer-under = subst (λ (n : Entry). n .place < deskPlaces) (sym writer-is) writer-place
@@ -107,9 +108,9 @@ module _ {f : ℕ} {o : Start} {xs blocks buffers : List ℕ} {x : hand.File} {b
       pub writer-size : m .size ≤ bufferBytes
       writer-size = omega (arith, ap (λ (n : Entry). n .size) writer-is, writer-short, M .good .room .geo .words-high)
 
-      pub writer-data : dataOf m buffers ≡ r .offered .bytes
+      pub writer-data : dataOf m (ms .buffers) ≡ r .offered .bytes
       unfolding bufferAt buffer lies
       writer-data =
-          ap (λ (n : Entry). take (n .size) (code.bufferAt (n .place) buffers)) writer-is
+          ap (λ (n : Entry). take (n .size) (code.bufferAt (n .place) (ms .buffers))) writer-is
           ∙ ap (take (length (r .offered .bytes))) (writer-buffer ∙ ap buffer (r .opens) ∙ ap (λ (q : Req). lies q ++ zeros (bufferBytes - length (lies q))) (r .asks))
           ∙ take-append-seam (r .offered .bytes) (zeros (bufferBytes - length (r .offered .bytes)))

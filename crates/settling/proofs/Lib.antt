@@ -4,5 +4,6 @@ pub mod ReadTurns
 pub mod FirstWriter
 pub mod WriteTurns
 pub mod Rests
+pub mod Beside
 pub mod Loops
 pub mod Outs

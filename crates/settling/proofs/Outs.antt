@@ -6,6 +6,7 @@ use Rattle.segment.specs.Layout.{fileRowAt}
 use Rattle.segment.specs.Table.{fill}
 use Rattle.rules.specs.State.{Built}
 use Rattle.rules.specs.Reply.{Reply, leaves}
+use Rattle.memory.specs.Memories.{Memories, memories}
 use Rattle.memory.specs.Stands.{Bodies}
 use Rattle.words.specs.Word.{Bytes}
 use Rattle.midst.specs.declared.File as hand
@@ -14,10 +15,10 @@ use Rattle.midst.specs.Mid.{Start, Mid}
 use Rattle.midst.specs.Outcome.{Outcome}
 use Rattle.midst.proofs.Begins.{mid-end}
 
-pub mid-out : {I : Built → Type 0} {f : ℕ} {o : Start} {xs blocks buffers : List ℕ} {x : hand.File} {b : Built} → Mid I f o xs blocks buffers x b
-    → Bodies (o .blocks) (o .buffers) (o .desk) → (xs′ : List ℕ) → xs′ ≡ fill xs (fileRowAt f) (fileRowWords x) → Bytes xs′ → Bytes blocks → Bytes buffers → (r : Reply)
-    → Outcome f (o .desk) (o .alloc) (leaves r b) (o .blocks) (o .buffers) xs′ blocks buffers
+pub mid-out : {I : Built → Type 0} {f : ℕ} {o : Start} {m : Memories} {x : hand.File} {b : Built} → Mid I f o m x b
+    → Bodies (o .memories) (o .desk) → (xs′ : List ℕ) → xs′ ≡ fill (m .segment) (fileRowAt f) (fileRowWords x) → Bytes xs′ → Bytes (m .blocks) → Bytes (m .buffers) → (r : Reply)
+    → Outcome f (o .desk) (o .alloc) (leaves r b) (o .memories) (memories xs′ (m .blocks) (m .buffers))
 unfolding leaves
-mid-out {I} {f} {o} {xs} {blocks} {buffers} {x} {b} M B xs′ e xb bb ub r =
-    subst (λ (ys : List ℕ). Outcome f (o .desk) (o .alloc) (leaves r b) (o .blocks) (o .buffers) ys blocks buffers) (sym e)
-    record { stands = mid-end M B (subst Bytes e xb) bb ub; apart = M .apart }
+mid-out {I} {f} {o} {m} {x} {b} M B xs′ e xb bb ub r =
+    subst (λ (ys : List ℕ). Outcome f (o .desk) (o .alloc) (leaves r b) (o .memories) (memories ys (m .blocks) (m .buffers))) (sym e)
+    record { stands = mid-end M B (subst Bytes e xb) bb ub; apart = record { shares = M .apart .shares; others = M .apart .others } }

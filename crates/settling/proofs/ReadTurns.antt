@@ -29,6 +29,7 @@ use Rattle.requests.specs.Moves.{completed}
 use Rattle.buffers.specs.Buffer.{filled}
 use Rattle.blocks.specs.Memory as code
 use Rattle.shares.specs.Back.{recAt}
+use Rattle.memory.specs.Memories.{Memories, memories}
 use Rattle.memory.specs.Image.{reqWords}
 use Rattle.memory.specs.Fine.{Fine}
 use Rattle.midst.specs.declared.File as hand
@@ -52,29 +53,29 @@ pub record Seen (f : ℕ) (xs blocks : List ℕ) (x : hand.File) (e : ℕ) (m : 
   pub keeps : (p : ℕ) → Keeps f (fetching p (eqb (row .typed) 1) (eqb (m .keep) 1)) blocks x blocks (z .file)
   pub gets : Gets f (eqb (row .typed) 1) (eqb (m .keep) 1) blocks x z
 
-pub still-served : (f : ℕ) (o : Start) (xs blocks buffers : List ℕ) (y : hand.File) (c : Built) → Mid Fine f o xs blocks buffers y c
-    → Served f o xs blocks buffers (record { moved = false; file = y }) (still c)
+pub still-served : (f : ℕ) (o : Start) (m : Memories) (y : hand.File) (c : Built) → Mid Fine f o m y c
+    → Served f o m (record { moved = false; file = y }) (still c)
 unfolding still
-still-served f o xs blocks buffers y c N = record { moved = refl; mid = N }
+still-served f o m y c N = record { moved = refl; mid = N }
 
-pub onward-served : (f : ℕ) (o : Start) (xs blocks buffers : List ℕ) (y : hand.File) (c : Built) → Mid Fine f o xs blocks buffers y c
-    → Served f o xs blocks buffers (record { moved = true; file = y }) (onward c)
+pub onward-served : (f : ℕ) (o : Start) (m : Memories) (y : hand.File) (c : Built) → Mid Fine f o m y c
+    → Served f o m (record { moved = true; file = y }) (onward c)
 unfolding onward
-onward-served f o xs blocks buffers y c N = record { moved = refl; mid = N }
+onward-served f o m y c N = record { moved = refl; mid = N }
 
-module _ {f : ℕ} {o : Start} {xs blocks buffers : List ℕ} {x : hand.File} {b : Built} (M : Mid Fine f o xs blocks buffers x b) where
+module _ {f : ℕ} {o : Start} {ms : Memories} {x : hand.File} {b : Built} (M : Mid Fine f o ms x b) where
   -- nobody waits
-  pub turn-nobody : (e : ℕ) → e ≡ nth xs (readQueue f) → entries ≤ e → Served f o xs blocks buffers (record { moved = false; file = x }) (atHead serveReader (b .rq) b)
+  pub turn-nobody : (e : ℕ) → e ≡ nth (ms .segment) (readQueue f) → entries ≤ e → Served f o ms (record { moved = false; file = x }) (atHead serveReader (b .rq) b)
   unfolding atHead still
   turn-nobody e q h =
-      reader-or M (λ (l : List ℕ). Served f o xs blocks buffers (record { moved = false; file = x }) (atHead serveReader l b))
+      reader-or M (λ (l : List ℕ). Served f o ms (record { moved = false; file = x }) (atHead serveReader l b))
       (λ _ _. record { moved = refl; mid = M }) (λ r k. absurd (omega arith))
 
   abbrev g : Geo
   g = b .geo
 
   -- the reader r waits, and the code has seen what it needs
-  module _ (r : Reader xs f b) {e : ℕ} {m : Entry} {row : PlaceRow} {z : Fetched} (v : Seen f xs blocks x e m row z) where
+  module _ (r : Reader (ms .segment) f b) {e : ℕ} {m : Entry} {row : PlaceRow} {z : Fetched} (v : Seen f (ms .segment) (ms .blocks) x e m row z) where
     abbrev typed : Bool
     typed = r .acc .typed
 
@@ -83,28 +84,28 @@ module _ {f : ℕ} {o : Start} {xs blocks buffers : List ℕ} {x : hand.File} {b
     B = fetching (r .place) typed (r .wanted .keep) b
 
     entry-is : m ≡ record { place = placeOf f (r .place); unit = bit (r .wanted .words); limit = r .wanted .limit; keep = bit (r .wanted .keep); status = 0; log = 0; size = 0; seconds = 0 }
-    entry-is = v .entry ∙ ap (entryAt xs) (v .first) ∙ r .entry
+    entry-is = v .entry ∙ ap (entryAt (ms .segment)) (v .first) ∙ r .entry
 
     is-typed : eqb (row .typed) 1 ≡ typed
-    is-typed = reader-typed M r m row (v .entry ∙ ap (entryAt xs) (v .first)) (v .place)
+    is-typed = reader-typed M r m row (v .entry ∙ ap (entryAt (ms .segment)) (v .first)) (v .place)
 
     is-kept : eqb (m .keep) 1 ≡ r .wanted .keep
     is-kept = ap (λ (n : Entry). eqb (n .keep) 1) entry-is ∙ bit-one (r .wanted .keep)
 
-    mid-fetched : Mid Fine f o xs blocks buffers (z .file) (fetching (r .place) typed (r .wanted .keep) b)
+    mid-fetched : Mid Fine f o ms (z .file) (fetching (r .place) typed (r .wanted .keep) b)
     mid-fetched = fetched-mid M _ _ z (r .place) (v .keeps (r .place)) (v .gets) typed (r .wanted .keep) is-typed is-kept
 
     -- it finds nothing
-    pub turn-nothing : z .got ≡ false → Served f o xs blocks buffers (record { moved = false; file = z .file }) (atHead serveReader (b .rq) b)
+    pub turn-nothing : z .got ≡ false → Served f o ms (record { moved = false; file = z .file }) (atHead serveReader (b .rq) b)
     turn-nothing n =
-        subst (Served f o xs blocks buffers (record { moved = false; file = z .file }))
+        subst (Served f o ms (record { moved = false; file = z .file }))
         (sym (reads-none b (r .place) (r .rest) (r .acc) (r .opens) (r .wanted) (r .first) (r .asks) (fetched-none M _ _ z (r .place) (v .keeps (r .place)) (v .gets) typed (r .wanted .keep) is-typed is-kept n)))
-        (still-served f o xs blocks buffers (z .file) B mid-fetched)
+        (still-served f o ms (z .file) B mid-fetched)
 
     -- it finds a record, d, and the bytes that the code hands over are those of d
-    module _ (some-got : z .got ≡ true) (own : List ℕ) (share : own ≡ code.shareAt f blocks) (bytes : List ℕ) (given : bytes ≡ handed (eqb (row .typed) 1) (m .limit) (recAt own (z .at))) where
+    module _ (some-got : z .got ≡ true) (own : List ℕ) (share : own ≡ code.shareAt f (ms .blocks)) (bytes : List ℕ) (given : bytes ≡ handed (eqb (row .typed) 1) (m .limit) (recAt own (z .at))) where
       abbrev d : Rec
-      d = recAt (code.shareAt f blocks) (z .at)
+      d = recAt (code.shareAt f (ms .blocks)) (z .at)
 
       abbrev q : Req
       q = readResult (r .wanted .words) (handed typed (r .wanted .limit) d)
@@ -122,13 +123,13 @@ module _ {f : ℕ} {o : Start} {xs blocks buffers : List ℕ} {x : hand.File} {b
       pub handed-short : length bytes ≤ bufferBytes
       handed-short = omega (arith, ap length bytes-are, length-handed typed (r .wanted .limit) d, reader-short M r)
 
-      pub served : (xs′ buffers′ : List ℕ) → xs′ ≡ completed xs (readQueue f) (m .place) (readWords m (length bytes)) → buffers′ ≡ sets buffers (bufferBytes * m .place) (filled bytes)
-          → Served f o xs′ blocks buffers′ (record { moved = true; file = z .file }) (atHead serveReader (b .rq) b)
+      pub served : (xs′ buffers′ : List ℕ) → xs′ ≡ completed (ms .segment) (readQueue f) (m .place) (readWords m (length bytes)) → buffers′ ≡ sets (ms .buffers) (bufferBytes * m .place) (filled bytes)
+          → Served f o (memories xs′ (ms .blocks) buffers′) (record { moved = true; file = z .file }) (atHead serveReader (b .rq) b)
       served xs′ buffers′ ex ey =
-          subst (Served f o xs′ blocks buffers′ (record { moved = true; file = z .file }))
+          subst (Served f o (memories xs′ (ms .blocks) buffers′) (record { moved = true; file = z .file }))
           (sym (reads-some b (r .place) (r .rest) (r .acc) (r .opens) (r .wanted) (r .first) (r .asks) d (fetched-some M _ _ z (r .place) (v .keeps (r .place)) (v .gets) typed (r .wanted .keep) is-typed is-kept some-got)))
-          (onward-served f o xs′ blocks buffers′ (z .file) (finish (r .place) 0 q B)
-          (subst (λ (zs : List ℕ). Mid Fine f o zs blocks buffers′ (z .file) (finish (r .place) 0 q B)) (sym (ex ∙ entry-words))
+          (onward-served f o (memories xs′ (ms .blocks) buffers′) (z .file) (finish (r .place) 0 q B)
+          (subst (λ (zs : List ℕ). Mid Fine f o (memories zs (ms .blocks) buffers′) (z .file) (finish (r .place) 0 q B)) (sym (ex ∙ entry-words))
           (step-finish fine-knows mid-fetched (r .place) (r .acc) open-behind false 0 (reading (r .wanted)) q
           (r .asks) waits ends [] (r .rest) (unfold behind withStore say in r .first) (unfold occurrences.count in refl) buffers′
           (fine-walks .finishes (r .place) 0 q (r .acc) (reading (r .wanted)) B open-behind (r .asks) ends (mid-fetched .good)) (put laid))))
@@ -136,10 +137,10 @@ module _ {f : ℕ} {o : Start} {xs blocks buffers : List ℕ} {x : hand.File} {b
           waits : waitsAt false (reading (r .wanted)) ≡ 1
           waits = unfold waitsRead in refl
 
-          laid : buffers′ ≡ sets buffers (bufferBytes * placeOf f (r .place)) (filled (lies q))
-          laid = unfold lies readResult in ey ∙ ap₂ {C = List ℕ} (λ (n : ℕ) (zs : List ℕ). sets buffers (bufferBytes * n) (filled zs)) (ap (λ (n : Entry). n .place) entry-is) bytes-are
+          laid : buffers′ ≡ sets (ms .buffers) (bufferBytes * placeOf f (r .place)) (filled (lies q))
+          laid = unfold lies readResult in ey ∙ ap₂ {C = List ℕ} (λ (n : ℕ) (zs : List ℕ). sets (ms .buffers) (bufferBytes * n) (filled zs)) (ap (λ (n : Entry). n .place) entry-is) bytes-are
 
-          entry-words : completed xs (readQueue f) (m .place) (readWords m (length bytes)) ≡ completed xs (readQueue f) (placeOf f (r .place)) (reqWords (placeOf f (r .place)) q)
+          entry-words : completed (ms .segment) (readQueue f) (m .place) (readWords m (length bytes)) ≡ completed (ms .segment) (readQueue f) (placeOf f (r .place)) (reqWords (placeOf f (r .place)) q)
           entry-words =
-              ap (λ (n : Entry). completed xs (readQueue f) (n .place) (readWords n (length bytes))) entry-is
-              ∙ ap (completed xs (readQueue f) (placeOf f (r .place))) (unfold readWords reqWords readResult in rw (bytes-are, bit-one (r .wanted .words)) refl)
+              ap (λ (n : Entry). completed (ms .segment) (readQueue f) (n .place) (readWords n (length bytes))) entry-is
+              ∙ ap (completed (ms .segment) (readQueue f) (placeOf f (r .place))) (unfold readWords reqWords readResult in rw (bytes-are, bit-one (r .wanted .words)) refl)

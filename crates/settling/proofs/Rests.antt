@@ -16,6 +16,7 @@ use Rattle.laws.proofs.Settled.{many, shrunk-turn, idle-turn, settle-more}
 use Rattle.segment.specs.Layout.{linkAt}
 use Rattle.ports.specs.Lists.{Chain}
 use Rattle.ports.proofs.Lists.{short}
+use Rattle.memory.specs.Memories.{Memories}
 use Rattle.memory.specs.Image.{listsOf}
 use Rattle.memory.proofs.Boxes.{getD-listsOf}
 use Rattle.midst.specs.declared.File as hand
@@ -61,16 +62,16 @@ chain-span s p [] (suc n) c h = rw (c) refl
 chain-span s p (x ∷ xs) zero c h = absurd (omega arith)
 chain-span s p (x ∷ xs) (suc n) c h = rw (c .0, lt-ltb x entries (c .1)) (ap suc (chain-span s (linkAt x) xs n (c .2) (omega arith)))
 
-module _ {I : Built → Type 0} {f : ℕ} {o : Start} {xs blocks buffers : List ℕ} {x : hand.File} {b : Built} (M : Mid I f o xs blocks buffers x b) where
-  queue-span : (w : Bool) → span xs (queueAt w f) entries ≡ length (sideQueue w b)
+module _ {I : Built → Type 0} {f : ℕ} {o : Start} {m : Memories} {x : hand.File} {b : Built} (M : Mid I f o m x b) where
+  queue-span : (w : Bool) → span (m .segment) (queueAt w f) entries ≡ length (sideQueue w b)
   queue-span w =
       let d : Desk = withFile (o .desk) f (built b) in
       let t : Alloc = allotAll f (b .past) (o .alloc) in
       let h = below-side w f (M .file) in
       let e : getD (listsOf d t) (queueAt w f) [] ≡ entriesIn f t (sideQueue w b) = getD-listsOf d t (queueAt w f) h ∙ list-side d t f (M .file) b (mid-file M) w in
-      chain-span xs (queueAt w f) _ entries (M .segment .boxes .lists .chains (queueAt w f) h) (short (M .segment .boxes .lists) (queueAt w f) h)
+      chain-span (m .segment) (queueAt w f) _ entries (M .segment .boxes .lists .chains (queueAt w f) h) (short (M .segment .boxes .lists) (queueAt w f) h)
       ∙ ap length e ∙ length-map (sideQueue w b) _
 
-  pub mid-waiting : waiting xs f ≡ many b
+  pub mid-waiting : waiting (m .segment) f ≡ many b
   unfolding waiting
   mid-waiting = ap₂ {C = ℕ} _+_ (queue-span false) (queue-span true)

@@ -28,6 +28,7 @@ use Rattle.blocks.specs.Memory as code
 use Rattle.blocks.specs.Memory.{blocksBytes}
 use Rattle.blocks.specs.Writing.{recOf, Ready}
 use Rattle.accessors.specs.Sides.{countSide}
+use Rattle.memory.specs.Memories.{Memories, memories}
 use Rattle.memory.specs.Image.{reqWords}
 use Rattle.memory.specs.Fine.{Fine}
 use Rattle.midst.specs.declared.File as hand
@@ -45,29 +46,29 @@ use Rattle.settling.proofs.FirstWriter.{Writer, writer-or, writer-id, w
 use Rattle.settling.proofs.ReadTurns.{still-served, onward-served}
 use Rattle.settling.proofs.Serves.{writes-none, writes-some}
 
-module _ {f : ℕ} {o : Start} {xs blocks buffers : List ℕ} {x : hand.File} {b : Built} (M : Mid Fine f o xs blocks buffers x b) where
+module _ {f : ℕ} {o : Start} {ms : Memories} {x : hand.File} {b : Built} (M : Mid Fine f o ms x b) where
   -- nobody waits
-  pub turn-nobody : (e : ℕ) → e ≡ nth xs (writeQueue f) → entries ≤ e → Served f o xs blocks buffers (record { moved = false; file = x }) (atHead serveWriter (b .wq) b)
+  pub turn-nobody : (e : ℕ) → e ≡ nth (ms .segment) (writeQueue f) → entries ≤ e → Served f o ms (record { moved = false; file = x }) (atHead serveWriter (b .wq) b)
   unfolding atHead
   turn-nobody e q h =
-      writer-or M (λ (l : List ℕ). Served f o xs blocks buffers (record { moved = false; file = x }) (atHead serveWriter l b))
-      (λ _ _. still-served f o xs blocks buffers x b M) (λ r k. absurd (omega arith))
+      writer-or M (λ (l : List ℕ). Served f o ms (record { moved = false; file = x }) (atHead serveWriter l b))
+      (λ _ _. still-served f o ms x b M) (λ r k. absurd (omega arith))
 
-  module _ (r : Writer xs f b) where
+  module _ (r : Writer (ms .segment) f b) where
     -- no room
-    pub turn-full : fitsRing (x .ring) (countSide xs f 2) ≡ false → Served f o xs blocks buffers (record { moved = false; file = x }) (atHead serveWriter (b .wq) b)
+    pub turn-full : fitsRing (x .ring) (countSide (ms .segment) f 2) ≡ false → Served f o ms (record { moved = false; file = x }) (atHead serveWriter (b .wq) b)
     turn-full h =
-        subst (Served f o xs blocks buffers (record { moved = false; file = x }))
+        subst (Served f o ms (record { moved = false; file = x }))
         (sym (writes-none b (r .place) (r .rest) (r .acc) (r .opens) (r .offered) (r .first) (r .asks) (sym (fits-is M) ∙ h)))
-        (still-served f o xs blocks buffers x b M)
+        (still-served f o ms x b M)
 
     -- what a put of its data asks
-    module _ (e : ℕ) (m : Entry) (at : e ≡ nth xs (writeQueue f)) (em : m ≡ entryAt xs e) where
-      pub data-ready : ((length blocks ≡ blocksBytes) × (f < files)) × Ready (x .words) (x .ring) (code.shareAt f blocks) (length (dataOf m buffers))
-      data-ready = hand-ready M (fine-stored (M .good)) (recOf 0 0 (dataOf m buffers)) (omega (arith, ap length (writer-data M r e m at em), writer-short M r))
+    module _ (e : ℕ) (m : Entry) (at : e ≡ nth (ms .segment) (writeQueue f)) (em : m ≡ entryAt (ms .segment) e) where
+      pub data-ready : ((length (ms .blocks) ≡ blocksBytes) × (f < files)) × Ready (x .words) (x .ring) (code.shareAt f (ms .blocks)) (length (dataOf m (ms .buffers)))
+      data-ready = hand-ready M (fine-stored (M .good)) (recOf 0 0 (dataOf m (ms .buffers))) (omega (arith, ap length (writer-data M r e m at em), writer-short M r))
 
       -- it is served
-      module _ (row : PlaceRow) (er : row ≡ placeAt xs (m .place)) (fit : fitsRing (x .ring) (countSide xs f 2) ≡ true) where
+      module _ (row : PlaceRow) (er : row ≡ placeAt (ms .segment) (m .place)) (fit : fitsRing (x .ring) (countSide (ms .segment) f 2) ≡ true) where
         abbrev d : Rec
         d = dataRec (r .acc) (r .offered .bytes)
 
@@ -83,26 +84,26 @@ module _ {f : ℕ} {o : Start} {xs blocks buffers : List ℕ} {x : hand.File} {b
         fine-put : Fine B
         fine-put = fine-walks .serves (r .place) (r .acc) (r .offered) b (r .opens) (r .asks) fits-now (M .good)
 
-        rec-is : recOf 0 (row .id) (dataOf m buffers) ≡ d
+        rec-is : recOf 0 (row .id) (dataOf m (ms .buffers)) ≡ d
         unfolding dataRec
-        rec-is = ap₂ {C = Rec} (λ (n : ℕ) (zs : List ℕ). recOf 0 n zs) (writer-id M r m row (em ∙ ap (entryAt xs) at) er) (writer-data M r e m at em)
+        rec-is = ap₂ {C = Rec} (λ (n : ℕ) (zs : List ℕ). recOf 0 n zs) (writer-id M r m row (em ∙ ap (entryAt (ms .segment)) at) er) (writer-data M r e m at em)
 
         open-put : accAt B (r .place) ≡ some (r .acc)
         open-put = put-at (r .place) d b ∙ r .opens
 
-        pub served : (xs′ blocks′ buffers′ : List ℕ) (y : hand.File) → Keeps f (putRec (recOf 0 (row .id) (dataOf m buffers))) blocks x blocks′ y
-            → buffers′ ≡ sets buffers (bufferBytes * m .place) (zeros bufferBytes) → xs′ ≡ completed xs (writeQueue f) (m .place) (wroteWords m)
-            → Served f o xs′ blocks′ buffers′ (record { moved = true; file = y }) (atHead serveWriter (b .wq) b)
-        served xs′ blocks′ buffers′ y keeps ey ex =
-            subst (Served f o xs′ blocks′ buffers′ (record { moved = true; file = y }))
+        pub served : (ms′ : Memories) (y : hand.File) → Keeps f (putRec (recOf 0 (row .id) (dataOf m (ms .buffers)))) (ms .blocks) x (ms′ .blocks) y
+            → ms′ .buffers ≡ sets (ms .buffers) (bufferBytes * m .place) (zeros bufferBytes) → ms′ .segment ≡ completed (ms .segment) (writeQueue f) (m .place) (wroteWords m)
+            → Served f o ms′ (record { moved = true; file = y }) (atHead serveWriter (b .wq) b)
+        served ms′ y keeps ey ex =
+            subst (Served f o ms′ (record { moved = true; file = y }))
             (sym (writes-some b (r .place) (r .rest) (r .acc) (r .opens) (r .offered) (r .first) (r .asks) fits-now))
-            (onward-served f o xs′ blocks′ buffers′ y (finish (r .place) 0 q B)
-            (subst (λ (zs : List ℕ). Mid Fine f o zs blocks′ buffers′ y (finish (r .place) 0 q B)) (sym (ex ∙ entry-words))
-            (step-finish fine-knows put-mid (r .place) (r .acc) open-put true 0 (writing (r .offered)) q (r .asks) waits ends [] (r .rest) (unfold putRec say withStore in r .first) (unfold count in refl) buffers′
+            (onward-served f o ms′ y (finish (r .place) 0 q B)
+            (subst (λ (zs : List ℕ). Mid Fine f o (memories zs (ms′ .blocks) (ms′ .buffers)) y (finish (r .place) 0 q B)) (sym (ex ∙ entry-words))
+            (step-finish fine-knows put-mid (r .place) (r .acc) open-put true 0 (writing (r .offered)) q (r .asks) waits ends [] (r .rest) (unfold putRec say withStore in r .first) (unfold count in refl) (ms′ .buffers)
             (fine-walks .finishes (r .place) 0 q (r .acc) (writing (r .offered)) B open-put (r .asks) ends fine-put) (clear none-lies laid))))
           where
-            put-mid : Mid Fine f o xs blocks′ buffers y B
-            put-mid = through M (putRec d) blocks′ y (subst (λ (z : Rec). Keeps f (putRec z) blocks x blocks′ y) rec-is keeps) (fine-stored (M .good)) fine-put
+            put-mid : Mid Fine f o (memories (ms .segment) (ms′ .blocks) (ms .buffers)) y B
+            put-mid = through M (putRec d) (ms′ .blocks) y (subst (λ (z : Rec). Keeps f (putRec z) (ms .blocks) x (ms′ .blocks) y) rec-is keeps) (fine-stored (M .good)) fine-put
 
             waits : waitsAt true (writing (r .offered)) ≡ 1
             waits = unfold waitsWrite in refl
@@ -113,10 +114,10 @@ module _ {f : ℕ} {o : Start} {xs blocks buffers : List ℕ} {x : hand.File} {b
             none-lies : lies q ≡ []
             none-lies = unfold lies writeResult in refl
 
-            laid : buffers′ ≡ sets buffers (bufferBytes * placeOf f (r .place)) (zeros bufferBytes)
-            laid = ey ∙ ap (λ (n : Entry). sets buffers (bufferBytes * n .place) (zeros bufferBytes)) (writer-is M r e m at em)
+            laid : ms′ .buffers ≡ sets (ms .buffers) (bufferBytes * placeOf f (r .place)) (zeros bufferBytes)
+            laid = ey ∙ ap (λ (n : Entry). sets (ms .buffers) (bufferBytes * n .place) (zeros bufferBytes)) (writer-is M r e m at em)
 
-            entry-words : completed xs (writeQueue f) (m .place) (wroteWords m) ≡ completed xs (writeQueue f) (placeOf f (r .place)) (reqWords (placeOf f (r .place)) q)
+            entry-words : completed (ms .segment) (writeQueue f) (m .place) (wroteWords m) ≡ completed (ms .segment) (writeQueue f) (placeOf f (r .place)) (reqWords (placeOf f (r .place)) q)
             entry-words =
-                ap (λ (n : Entry). completed xs (writeQueue f) (n .place) (wroteWords n)) (writer-is M r e m at em)
-                ∙ ap (completed xs (writeQueue f) (placeOf f (r .place))) (unfold wroteWords reqWords writeResult in rw (bit-one (r .offered .words)) refl)
+                ap (λ (n : Entry). completed (ms .segment) (writeQueue f) (n .place) (wroteWords n)) (writer-is M r e m at em)
+                ∙ ap (completed (ms .segment) (writeQueue f) (placeOf f (r .place))) (unfold wroteWords reqWords writeResult in rw (bit-one (r .offered .words)) refl)

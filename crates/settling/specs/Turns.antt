@@ -1,5 +1,5 @@
 -- What a turn does, in memories and in the file in hand.
-use Prim.Native.Nat.{ℕ, zero, suc, _+_}
+use Prim.Native.Nat.{ℕ, zero, suc, _+_, _<_}
 use mathlib.Core.Path.{_≡_}
 use mathlib.Core.Bool.{cond}
 use mathlib.Core.List.{List, [], _∷_}
@@ -13,19 +13,29 @@ use Rattle.rules.specs.State.{Built}
 use Rattle.rules.specs.Count.{logOf}
 use Rattle.rules.specs.Limits.{entries}
 use Rattle.rules.specs.Settle.{Turn, settle}
+use Rattle.memory.specs.Memories.{Memories}
+use Rattle.accessors.specs.Sides.{countSide}
 use Rattle.memory.specs.Fine.{Fine}
 use Rattle.midst.specs.declared.File as hand
 use Rattle.midst.specs.Mid.{Start, Mid}
 use Rattle.settling.specs.declared.Turn as code
 
 -- in the midst of some call of file f
-abbrev pub Amid : ℕ → List ℕ → List ℕ → List ℕ → hand.File → Type 0
-Amid f xs blocks buffers x = (o : Start) × (b : Built) × Mid Fine f o xs blocks buffers x b
+abbrev pub Amid : ℕ → Memories → hand.File → Type 0
+Amid f m x = (o : Start) × (b : Built) × Mid Fine f o m x b
+
+-- w is W, the number of open writers, where a writer waits; where none does, nothing asks for it
+abbrev pub Beside : ℕ → ℕ → List ℕ → Type 0
+Beside w f xs = nth xs (writeQueue f) < entries → w ≡ countSide xs f 2
+
+-- a writer that waits is open
+abbrev pub Counts : ℕ → List ℕ → Type 0
+Counts f xs = nth xs (writeQueue f) < entries → 0 < countSide xs f 2
 
 -- the memories, and what is handed back, are those of the rules' turn m
-pub record Served (f : ℕ) (o : Start) (xs blocks buffers : List ℕ) (r : code.Turn) (m : Turn) : Type 0 where
+pub record Served (f : ℕ) (o : Start) (ms : Memories) (r : code.Turn) (m : Turn) : Type 0 where
   pub moved : r .moved ≡ m .moved
-  pub mid : Mid Fine f o xs blocks buffers (r .file) (m .file)
+  pub mid : Mid Fine f o ms (r .file) (m .file)
 
 -- an entry of the waiting request m, completed with n bytes moved: a read has them in its buffer, a write has none left there
 unfoldable pub readWords : Entry → ℕ → List ℕ
@@ -39,10 +49,10 @@ abbrev pub dataOf : Entry → List ℕ → List ℕ
 dataOf m buffers = take (m .size) (bufferAt (m .place) buffers)
 
 -- the turns so far come to the same settled file: from memories and a file in hand to others
-pub record Comes (f : ℕ) (xs blocks buffers : List ℕ) (x : hand.File) (xs′ blocks′ buffers′ : List ℕ) (x′ : hand.File) : Type 0 where
-  pub to : (o : Start) (b : Built) → Mid Fine f o xs blocks buffers x b → Built
-  pub mid : (o : Start) (b : Built) (M : Mid Fine f o xs blocks buffers x b) → Mid Fine f o xs′ blocks′ buffers′ x′ (to o b M)
-  pub same : (o : Start) (b : Built) (M : Mid Fine f o xs blocks buffers x b) → settle (to o b M) ≡ settle b
+pub record Comes (f : ℕ) (m : Memories) (x : hand.File) (m′ : Memories) (x′ : hand.File) : Type 0 where
+  pub to : (o : Start) (b : Built) → Mid Fine f o m x b → Built
+  pub mid : (o : Start) (b : Built) (M : Mid Fine f o m x b) → Mid Fine f o m′ x′ (to o b M)
+  pub same : (o : Start) (b : Built) (M : Mid Fine f o m x b) → settle (to o b M) ≡ settle b
 
 -- how many entries the list at slot p has, at most n
 unfoldable pub span : List ℕ → ℕ → ℕ → ℕ

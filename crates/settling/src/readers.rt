@@ -10,6 +10,7 @@ ghost use Rattle.rules.specs.State.{Built};
 ghost use Rattle.rules.specs.Settle.{handed, serveReader, atHead};
 ghost use Rattle.requests.specs.Moves.{completed};
 ghost use Rattle.buffers.specs.Buffer.{buffersBytes, filled};
+ghost use Rattle.memory.specs.Memories.{memories};
 ghost use Rattle.memory.specs.Fine.{Fine};
 ghost use Rattle.midst.specs.Mid.{Start, Mid};
 ghost use Rattle.settling.specs.Turns.{Amid, Served, readWords};
@@ -52,8 +53,8 @@ pub fn serve_reader(
     f: usize,
     file: File,
 ) -> Turn
-    requires { ⌜ Amid f (now segment) (now blocks) (now buffers) file ⌝ }
-    ensures { λ r. ⌜ ((o : Start) (b : Built) → Mid Fine f o (now (segment .entry)) (now (blocks .entry)) (now (buffers .entry)) file b → Served f o (now (segment .exit)) (now (blocks .entry)) (now (buffers .exit)) r (atHead serveReader (b .rq) b)) ⌝ }
+    requires { ⌜ Amid f (memories (now segment) (now blocks) (now buffers)) file ⌝ }
+    ensures { λ r. ⌜ ((o : Start) (b : Built) → Mid Fine f o (memories (now (segment .entry)) (now (blocks .entry)) (now (buffers .entry))) file b → Served f o (memories (now (segment .exit)) (now (blocks .entry)) (now (buffers .exit))) r (atHead serveReader (b .rq) b)) ⌝ }
 {
     let e = segment::get(segment, layout::READ_QUEUES + f);
     if e >= layout::ENTRIES {

@@ -14,14 +14,13 @@ ghost use Rattle.requests.specs.Moves.{completed};
 ghost use Rattle.blocks.specs.Writing.{recOf, Ready};
 ghost use Rattle.blocks.specs.Memory.{blocksBytes, shareAt};
 ghost use Rattle.buffers.specs.Buffer.{buffersBytes};
+ghost use Rattle.memory.specs.Memories.{memories};
 ghost use Rattle.memory.specs.Fine.{Fine};
 ghost use Rattle.midst.specs.Mid.{Start, Mid};
 ghost use Rattle.store.specs.Door.{Keeps};
-ghost use Rattle.settling.specs.Turns.{Amid, Served, wroteWords, dataOf};
+ghost use Rattle.settling.specs.Turns.{Amid, Beside, Served, wroteWords, dataOf};
 use crate::Turn;
-use accessors::sides::count_side;
 use kinds::record_types::DATA;
-use kinds::sides::WRITER;
 use midst::File;
 use segment::Entry;
 use segment::layout;
@@ -64,22 +63,23 @@ fn take(
     next
 }
 
-// The first waiting writer puts its record, if it fits.
+// The first waiting writer puts its record, if it fits beside so many open writers.
 pub fn serve_writer(
     segment: &mut [u8],
     blocks: &mut [u8],
     buffers: &mut [u8],
     f: usize,
     file: File,
+    writers: u16,
 ) -> Turn
-    requires { ⌜ Amid f (now segment) (now blocks) (now buffers) file ⌝ }
-    ensures { λ r. ⌜ ((o : Start) (b : Built) → Mid Fine f o (now (segment .entry)) (now (blocks .entry)) (now (buffers .entry)) file b → Served f o (now (segment .exit)) (now (blocks .exit)) (now (buffers .exit)) r (atHead serveWriter (b .wq) b)) ⌝ }
+    requires { ⌜ Amid f (memories (now segment) (now blocks) (now buffers)) file × Beside writers f (now segment) ⌝ }
+    ensures { λ r. ⌜ ((o : Start) (b : Built) → Mid Fine f o (memories (now (segment .entry)) (now (blocks .entry)) (now (buffers .entry))) file b → Served f o (memories (now (segment .exit)) (now (blocks .exit)) (now (buffers .exit))) r (atHead serveWriter (b .wq) b)) ⌝ }
 {
     let e = segment::get(segment, layout::WRITE_QUEUES + f);
     if e >= layout::ENTRIES {
         return Turn { moved: false, file };
     }
-    if !fits(file, count_side(segment, f, WRITER)) {
+    if !fits(file, writers) {
         return Turn { moved: false, file };
     }
     let m = segment::read_entry(segment, e);

@@ -2,16 +2,17 @@
 // SHEET where one is named; then the sheet of FILE is printed.
 use arguments::NO_FILE;
 use arguments::Named;
+use arguments::TEXT_BYTES;
 use arguments::refused;
 use kinds::limits::BLOCKS_BYTES;
 use kinds::limits::BUFFERS_BYTES;
-use kinds::limits::SHARE_BYTES;
 use libc::STDERR_FILENO;
 use libc::STDOUT_FILENO;
+use saving::SHEET_ROOM;
 use segment::layout::SEGMENT_BYTES;
 
 fn print_sheet(segment: &[u8], blocks: &[u8], buffers: &[u8], file: usize) {
-    let mut sheet = [0u8; 2 * SHARE_BYTES];
+    let mut sheet = [0u8; SHEET_ROOM];
     let saved = saving::save(segment, blocks, buffers, file, &mut sheet);
     if saved.status != 0 {
         refused(b"FILE is not built", saved.status);
@@ -49,7 +50,7 @@ fn main() {
     let mut segment = [0u8; SEGMENT_BYTES];
     let mut blocks = [0u8; BLOCKS_BYTES];
     let mut buffers = [0u8; BUFFERS_BYTES];
-    let mut text = [0u8; 65536];
+    let mut text = [0u8; TEXT_BYTES];
     let named = arguments::arguments(&mut text);
     if named.file == NO_FILE {
         return;

@@ -1,4 +1,4 @@
--- All 82 lists, and the whole test over them: one law for each way out.
+-- All lists, and the whole test over them: one law for each way out.
 use Prim.Native.Nat.{ℕ, _+_, _*_}
 use mathlib.Core.Path.{_≡_, _∙_}
 use mathlib.Core.Bool.{true, false}

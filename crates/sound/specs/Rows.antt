@@ -6,7 +6,7 @@ use lib.Dec.{leb, eqb}
 use Rattle.rules.specs.Limits.{places, roomWords, mostFactor, leastCapacity, shareWords}
 use Rattle.rules.specs.Geometry.{capacity, blockSize, within}
 use Rattle.rules.specs.State.{Geo}
-use Rattle.segment.specs.Layout.{fileWidth, placeWidth, fileRowAt, placeRowAt}
+use Rattle.segment.specs.Layout.{fileWidth, placeFields, placeSpare, placeWidth, fileRowAt, placeRowAt}
 use Rattle.segment.specs.Table.{nth}
 
 -- word j of file f's row, and of place i's
@@ -44,9 +44,9 @@ goodPlace s i =
     && leb (placeWord s i 6) 1
     && leb (placeWord s i 7) 1
 
--- a place of a built file: not open, or good
+-- a place of a built file: not open, or good and nothing in the words to spare
 unfoldable pub placeOk : List ℕ → ℕ → Bool
-placeOk s i = elim (eqb (sideAt s i) 0) [ true ↦ zeroWords s (placeRowAt i) placeWidth | false ↦ goodPlace s i ]
+placeOk s i = elim (eqb (sideAt s i) 0) [ true ↦ zeroWords s (placeRowAt i) placeWidth | false ↦ goodPlace s i && zeroWords s (placeRowAt i + placeFields) placeSpare ]
 
 -- the n places from place i on
 unfoldable pub placesOk : List ℕ → ℕ → ℕ → Bool

@@ -9,6 +9,7 @@ use Rattle.rules.specs.Geometry.{capacity}
 use Rattle.rules.specs.State.{Geo}
 use Rattle.segment.specs.Layout.{segmentBytes}
 use Rattle.shares.specs.Sound.{sound}
+use Rattle.memory.specs.Memories.{Memories}
 use Rattle.memory.specs.Stands.{shareAt}
 use Rattle.accessors.specs.Sides.{countSide}
 use Rattle.sound.specs.Rows.{fileWord, builtAt, geoAt, goodGeo, placesOk, unbuiltOk}
@@ -55,10 +56,10 @@ idlesZero s bufs busy f (suc n) =
 unfoldable pub listsOk : List ℕ → List ℕ → Bool
 listsOk s bufs = let w : Walked = allWalks s bufs in w .ok && allMet (w .seen) entries && idlesZero s bufs (w .busy) 0 files
 
-unfoldable pub soundly : List ℕ → List ℕ → List ℕ → Bool
-soundly s blocks bufs =
-    eqb (length s) segmentBytes
-    && eqb (length blocks) (shareBytes * files)
-    && eqb (length bufs) (places * bufferBytes * files)
-    && filesOk s blocks 0 files
-    && listsOk s bufs
+unfoldable pub soundly : Memories → Bool
+soundly m =
+    eqb (length (m .segment)) segmentBytes
+    && eqb (length (m .blocks)) (shareBytes * files)
+    && eqb (length (m .buffers)) (places * bufferBytes * files)
+    && filesOk (m .segment) (m .blocks) 0 files
+    && listsOk (m .segment) (m .buffers)

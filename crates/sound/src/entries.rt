@@ -29,17 +29,17 @@ const LEAST_REFUSAL: u16 = refusals::UNSOUND as u16;
 
 // How many words of an entry's data are zero: of a read behind its keep, of a write between its unit and its size,
 // of a completed request before its status, and behind the size of both, and of a timer between its place and its seconds.
-const READ_REST: usize = 5;
+const READ_REST: usize = layout::DATA_WORDS - layout::ENTRY_STATUS;
 
-const WRITE_MIDDLE: usize = 4;
+const WRITE_MIDDLE: usize = layout::ENTRY_SIZE - layout::ENTRY_LIMIT;
 
-const PORT_MIDDLE: usize = 3;
+const PORT_MIDDLE: usize = layout::ENTRY_STATUS - layout::ENTRY_UNIT;
 
-const SIZE_REST: usize = 2;
+const SIZE_REST: usize = layout::DATA_WORDS - layout::ENTRY_SECONDS;
 
-const TIMER_MIDDLE: usize = 6;
+const TIMER_MIDDLE: usize = layout::ENTRY_SECONDS - layout::ENTRY_UNIT;
 
-const ENTRY_SPARE: usize = 8;
+const ENTRY_SPARE: usize = layout::ENTRY_SECONDS + 1;
 
 // Whether the buffer of place i is zero from its byte n on.
 pub fn rest_zero(buffers: &[u8], i: usize, n: usize) -> bool

@@ -27,7 +27,7 @@ ghost use Rattle.sound.specs.Rows.{fileWord, geoAt, goodGeo, placesOk};
 ghost use Rattle.sound.specs.Sound.{builtOk, fileOk, filesOk};
 
 // The two words of a file's row that are not used.
-const FILE_SPARE: usize = 6;
+const FILE_SPARE: usize = layout::FILE_HELD + 1;
 
 // The row of a built file and those of its places.
 fn rows_ok(s: &[u8], f: usize) -> bool

@@ -20,6 +20,7 @@ ghost use lib.ListN.{length};
 ghost use Rattle.rules.specs.Limits.{files, places, bufferBytes};
 ghost use Rattle.segment.specs.Layout.{segmentBytes};
 ghost use Rattle.sound.specs.Sound.{listsOk, soundly};
+ghost use Rattle.memory.specs.Memories.{memories};
 
 // How many entries may be marked.
 const ENTRY_COUNT: usize = layout::ENTRIES as usize;
@@ -51,7 +52,7 @@ fn lists_ok(s: &[u8], buffers: &[u8]) -> bool
 
 // Whether the memories stand for a desk of the rules. The files first: theirs is the work that is skipped where none is built.
 pub fn sound(s: &[u8], blocks: &[u8], buffers: &[u8]) -> bool
-    ensures { λ r. ⌜ r ≡ soundly (now (s .entry)) (now (blocks .entry)) (now (buffers .entry)) ⌝ }
+    ensures { λ r. ⌜ r ≡ soundly (memories (now (s .entry)) (now (blocks .entry)) (now (buffers .entry))) ⌝ }
 {
     if s.len() != layout::SEGMENT_BYTES {
         return false;

@@ -101,11 +101,14 @@ pub fn place_ok(s: &[u8], i: usize) -> bool
     requires { ⌜ (length (now s) ≡ segmentBytes) × (i < files * places) ⌝ }
     ensures { λ r. ⌜ r ≡ placeOk (now (s .entry)) i ⌝ }
 {
+    let at = layout::PLACE_ROWS + layout::PLACE_ROW_WORDS * i;
     if place_word(s, i, layout::PLACE_SIDE) == 0 {
-        let at = layout::PLACE_ROWS + layout::PLACE_ROW_WORDS * i;
         return zero_words(s, at, layout::PLACE_ROW_WORDS);
     }
-    good_place(s, i)
+    if !good_place(s, i) {
+        return false;
+    }
+    zero_words(s, at + layout::PLACE_FIELDS, layout::PLACE_SPARE)
 }
 
 // The n places from place i on.

@@ -22,6 +22,7 @@ use Rattle.records.specs.Fetch.{Stores, ahead}
 use Rattle.records.proofs.cursor.Laws.{stands-readable}
 use Rattle.records.proofs.fetch.Finds.{fetch-none, fetch-some}
 use Rattle.blocks.specs.Memory as code
+use Rattle.memory.specs.Memories.{memories}
 use Rattle.memory.specs.Stands.{shareAt}
 use Rattle.midst.specs.declared.File as hand
 use Rattle.midst.specs.File.{inHand}
@@ -55,7 +56,7 @@ unfolding gotAt
 got-some r xs e = rw e refl
 
 module _ (f : ℕ) (typed keep : Bool) (blocks : List ℕ) (x : hand.File) (r : Fetched) (is : (s : Store) → Stores (x .words) (x .ring) (code.shareAt f blocks) s → r ≡ fetchedOf x typed keep s) where
-  module _ {o : Start} {xs buffers : List ℕ} {b : Built} (M : Mid Stored f o xs blocks buffers x b) where
+  module _ {o : Start} {xs buffers : List ℕ} {b : Built} (M : Mid Stored f o (memories xs blocks buffers) x b) where
     -- of the file that is in hand
     own : r ≡ fetchedOf (inHand b) typed keep (b .store)
     unfolding shareAt
@@ -71,7 +72,7 @@ module _ (f : ℕ) (typed keep : Bool) (blocks : List ℕ) (x : hand.File) (r : 
 
   pub fetch-keeps : (p : ℕ) → Keeps f (fetching p typed keep) blocks x blocks (r .file)
   fetch-keeps p = λ o xs buffers b M.
-      subst (λ (y : hand.File). Mid Bare f o xs blocks buffers y (fetching p typed keep b)) (sym (behind-is M p)) (mid-behind {J = Bare} M p typed keep tt)
+      subst (λ (y : hand.File). Mid Bare f o (memories xs blocks buffers) y (fetching p typed keep b)) (sym (behind-is M p)) (mid-behind {J = Bare} M p typed keep tt)
 
   pub fetch-gets : Gets f typed keep blocks x r
   unfolding shareAt

@@ -13,6 +13,7 @@ use Rattle.blocks.specs.Memory as code
 use Rattle.blocks.specs.Memory.{blocksBytes}
 use Rattle.blocks.specs.Writing.{Ready}
 use Rattle.blocks.proofs.Held.{held-ready}
+use Rattle.memory.specs.Memories.{Memories, memories}
 use Rattle.memory.specs.Stands.{shareAt}
 use Rattle.memory.specs.Fine.{Fine}
 use Rattle.midst.specs.declared.File as hand
@@ -27,9 +28,9 @@ fine-stored i = (i .room .geo, i .room .holds)
 pub owed-stored : (n : ℕ) (b : Built) → Owed n b → Stored b
 owed-stored n b i = (i .0 .0 .1 .geo, i .0 .0 .1 .holds)
 
-module _ {I : Built → Type 0} {f : ℕ} {o : Start} {xs blocks buffers : List ℕ} {x : hand.File} {b : Built} (M : Mid I f o xs blocks buffers x b) where
+module _ {I : Built → Type 0} {f : ℕ} {o : Start} {m : Memories} {x : hand.File} {b : Built} (M : Mid I f o m x b) where
   -- something else is known of the same file
-  pub mid-known : {J : Built → Type 0} → J b → Mid J f o xs blocks buffers x b
+  pub mid-known : {J : Built → Type 0} → J b → Mid J f o m x b
   mid-known j = record {
     file = M .file;
     eight = M .eight;
@@ -46,22 +47,22 @@ module _ {I : Built → Type 0} {f : ℕ} {o : Start} {xs blocks buffers : List 
 
   module _ (s : Stored b) where
     -- what fetch asks
-    pub hand-held : ((length blocks ≡ blocksBytes) × (f < files)) × Held (x .words) (x .ring) (code.shareAt f blocks)
+    pub hand-held : ((length (m .blocks) ≡ blocksBytes) × (f < files)) × Held (x .words) (x .ring) (code.shareAt f (m .blocks))
     unfolding shareAt
     hand-held = ((M .blocks-size, M .file), mid-held M (s .0) (s .1))
 
     -- what put asks, of a record with this body
-    pub hand-ready : (r : Rec) → length (r .body) ≤ 2 * b .geo .words → ((length blocks ≡ blocksBytes) × (f < files)) × Ready (x .words) (x .ring) (code.shareAt f blocks) (length (r .body))
+    pub hand-ready : (r : Rec) → length (r .body) ≤ 2 * b .geo .words → ((length (m .blocks) ≡ blocksBytes) × (f < files)) × Ready (x .words) (x .ring) (code.shareAt f (m .blocks)) (length (r .body))
     unfolding shareAt
     hand-ready r h =
         let w : x .words ≡ b .geo .words = ap (λ (y : hand.File). y .words) (M .row) in
-        ((M .blocks-size, M .file), held-ready (x .words) (x .ring) (shareAt f blocks) (mid-held M (s .0) (s .1)) r (recordWords-most (x .words) r (rw w h)))
+        ((M .blocks-size, M .file), held-ready (x .words) (x .ring) (shareAt f (m .blocks)) (mid-held M (s .0) (s .1)) r (recordWords-most (x .words) r (rw w h)))
 
     -- what purge and fits ask
     pub hand-ranged : Ranged (x .ring)
     hand-ranged = held-ranged _ _ _ (mid-held M (s .0) (s .1))
 
 -- through the door: what is known of the next file is told by the caller
-module _ {I J : Built → Type 0} {f : ℕ} {o : Start} {xs blocks buffers : List ℕ} {x : hand.File} {b : Built} (M : Mid I f o xs blocks buffers x b) where
-  pub through : (next : Built → Built) (blocks′ : List ℕ) (y : hand.File) → Keeps f next blocks x blocks′ y → Stored b → J (next b) → Mid J f o xs blocks′ buffers y (next b)
-  through next blocks′ y k s j = mid-known (k o xs buffers b (mid-known M s)) j
+module _ {I J : Built → Type 0} {f : ℕ} {o : Start} {m : Memories} {x : hand.File} {b : Built} (M : Mid I f o m x b) where
+  pub through : (next : Built → Built) (blocks′ : List ℕ) (y : hand.File) → Keeps f next (m .blocks) x blocks′ y → Stored b → J (next b) → Mid J f o (memories (m .segment) blocks′ (m .buffers)) y (next b)
+  through next blocks′ y k s j = mid-known (k o (m .segment) (m .buffers) b (mid-known M s)) j

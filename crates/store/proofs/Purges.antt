@@ -18,6 +18,7 @@ use Rattle.midst.specs.File.{inHand}
 use Rattle.midst.specs.Mid.{Mid}
 use Rattle.midst.proofs.Stores.{mid-storing}
 use Rattle.store.specs.Door.{Stored, Bare, Keeps, purgedOf, emptied}
+use Rattle.memory.specs.Memories.{memories}
 
 pub emptied-stored : (b : Built) → Stored b → Stored (emptied b)
 unfolding emptied say withStore
@@ -45,5 +46,5 @@ hand-is b (k, h) = ap (λ (r : Ring). record { words = b .geo .words; ring = r }
 pub purge-keeps : (x y : hand.File) → y ≡ purgedOf x → (f : ℕ) (blocks : List ℕ) → Keeps f emptied blocks x blocks y
 unfolding emptied say withStore purge
 purge-keeps x y e = λ f blocks o xs buffers b M.
-    subst (λ (z : hand.File). Mid Bare f o xs blocks buffers z (emptied b)) (sym (e ∙ ap purgedOf (M .row) ∙ sym (hand-is b (M .good))))
+    subst (λ (z : hand.File). Mid Bare f o (memories xs blocks buffers) z (emptied b)) (sym (e ∙ ap purgedOf (M .row) ∙ sym (hand-is b (M .good))))
     (mid-storing {J = Bare} M (emptied b) blocks (record { accs = refl; reads = refl; writes = refl }) tt (allots f (o .alloc) b (M .allots)) (purges-same f (b .past) (o .alloc)) (M .share) refl (λ g n. refl))

@@ -9,6 +9,7 @@ use Rattle.rules.specs.Store.{fetch}
 use Rattle.rules.specs.Settle.{handed}
 use Rattle.shares.specs.Back.{recAt}
 use Rattle.blocks.specs.Memory as code
+use Rattle.memory.specs.Memories.{Memories}
 use Rattle.memory.specs.Fine.{Fine}
 use Rattle.midst.specs.declared.File as hand
 use Rattle.midst.specs.Mid.{Start, Mid}
@@ -22,23 +23,23 @@ use Rattle.store.proofs.Fetches.{got-none, got-some}
 pub handed-same : (t u : Bool) (k l : ℕ) (own share : List ℕ) (at : ℕ) → t ≡ u → k ≡ l → own ≡ share → handed t k (recAt own at) ≡ handed u l (recAt share at)
 handed-same t u k l own share at e h q = ap₂ {C = List ℕ} (λ (w : Bool) (m : ℕ). handed w m (recAt own at)) e h ∙ ap (λ (zs : List ℕ). handed u l (recAt zs at)) q
 
-module _ {f : ℕ} {o : Start} {xs blocks buffers : List ℕ} {x : hand.File} {b : Built} (M : Mid Fine f o xs blocks buffers x b) (t u : Bool) (z : Fetched)
-    (p : ℕ) (keeps : Keeps f (fetching p t u) blocks x blocks (z .file)) (gets : Gets f t u blocks x z) (typed keep : Bool) (is-typed : t ≡ typed) (is-kept : u ≡ keep) where
+module _ {f : ℕ} {o : Start} {m : Memories} {x : hand.File} {b : Built} (M : Mid Fine f o m x b) (t u : Bool) (z : Fetched)
+    (p : ℕ) (keeps : Keeps f (fetching p t u) (m .blocks) x (m .blocks) (z .file)) (gets : Gets f t u (m .blocks) x z) (typed keep : Bool) (is-typed : t ≡ typed) (is-kept : u ≡ keep) where
   pub fetched-fine : Fine (fetching p typed keep b)
   fetched-fine = fine-walks .fetches p typed keep b (M .good)
 
-  pub fetched-mid : Mid Fine f o xs blocks buffers (z .file) (fetching p typed keep b)
+  pub fetched-mid : Mid Fine f o m (z .file) (fetching p typed keep b)
   fetched-mid =
-      through M (fetching p typed keep) blocks (z .file)
-      (subst (λ (w : Bool). Keeps f (fetching p w keep) blocks x blocks (z .file)) is-typed (subst (λ (w : Bool). Keeps f (fetching p t w) blocks x blocks (z .file)) is-kept keeps))
+      through M (fetching p typed keep) (m .blocks) (z .file)
+      (subst (λ (w : Bool). Keeps f (fetching p w keep) (m .blocks) x (m .blocks) (z .file)) is-typed (subst (λ (w : Bool). Keeps f (fetching p t w) (m .blocks) x (m .blocks) (z .file)) is-kept keeps))
       (fine-stored (M .good)) fetched-fine
 
-  got-is : fetch (b .geo) typed keep (b .store) .got ≡ gotAt z (code.shareAt f blocks)
+  got-is : fetch (b .geo) typed keep (b .store) .got ≡ gotAt z (code.shareAt f (m .blocks))
   got-is =
-      sym (ap₂ {C = Option Rec} (λ (v w : Bool). fetch (b .geo) v w (b .store) .got) is-typed is-kept) ∙ gets o xs buffers b (mid-known M (fine-stored (M .good)))
+      sym (ap₂ {C = Option Rec} (λ (v w : Bool). fetch (b .geo) v w (b .store) .got) is-typed is-kept) ∙ gets o (m .segment) (m .buffers) b (mid-known M (fine-stored (M .good)))
 
   pub fetched-none : z .got ≡ false → fetch (b .geo) typed keep (b .store) .got ≡ none
   fetched-none n = got-is ∙ got-none z _ n
 
-  pub fetched-some : z .got ≡ true → fetch (b .geo) typed keep (b .store) .got ≡ some (recAt (code.shareAt f blocks) (z .at))
+  pub fetched-some : z .got ≡ true → fetch (b .geo) typed keep (b .store) .got ≡ some (recAt (code.shareAt f (m .blocks)) (z .at))
   fetched-some n = got-is ∙ got-some z _ n

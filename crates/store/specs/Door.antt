@@ -21,6 +21,7 @@ use Rattle.blocks.specs.Memory.{shareAt}
 use Rattle.midst.specs.declared.File as hand
 use Rattle.midst.specs.Mid.{Start, Mid}
 use Rattle.store.specs.declared.Fetched.{Fetched}
+use Rattle.memory.specs.Memories.{memories}
 
 -- what the door asks of the file in hand; of the next it leaves to its caller what is known
 abbrev pub Stored : Built → Type 0
@@ -31,7 +32,7 @@ Bare b = Unit {0}
 
 -- in the midst of every call of file f: where the file in hand x stood for b, y stands for the next file
 abbrev pub Keeps : ℕ → (Built → Built) → List ℕ → hand.File → List ℕ → hand.File → Type 0
-Keeps f next blocks x blocks′ y = (o : Start) (xs buffers : List ℕ) (b : Built) → Mid Stored f o xs blocks buffers x b → Mid Bare f o xs blocks′ buffers y (next b)
+Keeps f next blocks x blocks′ y = (o : Start) (xs buffers : List ℕ) (b : Built) → Mid Stored f o (memories xs blocks buffers) x b → Mid Bare f o (memories xs blocks′ buffers) y (next b)
 
 -- a record put
 abbrev pub putIn : hand.File → hand.File
@@ -66,7 +67,7 @@ gotAt r xs = elim (r .got) [ true ↦ some (recAt xs (r .at)) | false ↦ none ]
 -- it is the one that the rules' read gets
 abbrev pub Gets : ℕ → Bool → Bool → List ℕ → hand.File → Fetched → Type 0
 Gets f typed keep blocks x r =
-    (o : Start) (xs buffers : List ℕ) (b : Built) → Mid Stored f o xs blocks buffers x b → fetch (b .geo) typed keep (b .store) .got ≡ gotAt r (shareAt f blocks)
+    (o : Start) (xs buffers : List ℕ) (b : Built) → Mid Stored f o (memories xs blocks buffers) x b → fetch (b .geo) typed keep (b .store) .got ≡ gotAt r (shareAt f blocks)
 
 -- all records gone
 abbrev pub purgedOf : hand.File → hand.File

@@ -6,7 +6,7 @@ ghost use mathlib.Core.List.{List};
 ghost use Prim.Native.Nat.{ℕ, _*_, _≤_, _<_};
 ghost use lib.ListN.{length};
 ghost use lib.Seq.{sets};
-ghost use Rattle.rules.specs.Limits.{files, shareBytes};
+ghost use Rattle.rules.specs.Limits.{files, places, shareBytes};
 ghost use Rattle.rules.specs.State.{Store};
 ghost use Rattle.rules.specs.Requests.{putRec};
 ghost use Rattle.ring.specs.Ring.{Ranged};
@@ -100,7 +100,7 @@ pub fn purge(file: File) -> File
 
 // "a data record fits exactly when used + W + 1 ≤ C: one place is kept for each close record."
 pub fn fits(file: File, writers: u16) -> bool
-    requires { ⌜ Ranged (file .ring) × (writers ≤ 8) ⌝ }
+    requires { ⌜ Ranged (file .ring) × (writers ≤ places) ⌝ }
     ensures { λ r. ⌜ r ≡ fitsRing (file .ring) writers ⌝ }
 {
     let ring = file.ring;

@@ -6,9 +6,10 @@ use lib.Dec.{eqb}
 use lib.ListN.{length}
 use Rattle.rules.specs.Limits.{files, places, shareBytes, bufferBytes}
 use Rattle.segment.specs.Layout.{segmentBytes}
-use Rattle.memory.specs.Fresh.{freshSegment, freshBlocks, freshBuffers}
+use Rattle.memory.specs.Memories.{Memories, memories}
+use Rattle.memory.specs.Fresh.{freshMemories}
 use Rattle.fresh.specs.Made.{Made, unmade, made}
-use Rattle.promises.specs.Promise.{Memories, fresh, status, sized, freshMemories, Promise}
+use Rattle.promises.specs.Promise.{fresh, status, sized, Promise}
 
 -- three tests, one behind the other, are one
 three : (a b c : Bool) (u f : Made) → elim a [ false ↦ u | true ↦ elim b [ false ↦ u | true ↦ elim c [ false ↦ u | true ↦ f ] ] ] ≡ cond (a && (b && c)) f u
@@ -18,19 +19,19 @@ three true false c u f = refl
 three false b c u f = refl
 
 abbrev freshly : Made
-freshly = record { status = 0; segment = freshSegment; blocks = freshBlocks; buffers = freshBuffers }
+freshly = record { status = 0; memories = freshMemories }
 
 by-test : (a : Bool) (m m′ : Memories) (st : ℕ)
-    → record { status = st; segment = m′ .segment; blocks = m′ .blocks; buffers = m′ .buffers } ≡ cond a freshly (unmade (m .segment) (m .blocks) (m .buffers))
+    → record { status = st; memories = m′ } ≡ cond a freshly (unmade m)
     → (status st ≡ status (cond a 0 29)) × (m′ ≡ cond a freshMemories m)
-unfolding unmade freshMemories
-by-test true m m′ st e = (ap (λ (q : Made). status (q .status)) e, ap (λ (q : Made). record { segment = q .segment; blocks = q .blocks; buffers = q .buffers }) e)
-by-test false m m′ st e = (ap (λ (q : Made). status (q .status)) e, ap (λ (q : Made). record { segment = q .segment; blocks = q .blocks; buffers = q .buffers }) e)
+unfolding unmade
+by-test true m m′ st e = (ap (λ (q : Made). status (q .status)) e, ap (λ (q : Made). q .memories) e)
+by-test false m m′ st e = (ap (λ (q : Made). status (q .status)) e, ap (λ (q : Made). q .memories) e)
 
 pub made-fresh : (m m′ : Memories) (st : ℕ)
-    → record { status = st; segment = m′ .segment; blocks = m′ .blocks; buffers = m′ .buffers } ≡ made (m .segment) (m .blocks) (m .buffers) → Promise m fresh (status st) m′
+    → record { status = st; memories = m′ } ≡ made m → Promise m fresh (status st) m′
 unfolding Promise sized made
 made-fresh m m′ st e =
     by-test (sized m) m m′ st
     (e ∙ three (eqb (length (m .segment)) segmentBytes) (eqb (length (m .blocks)) (shareBytes * files)) (eqb (length (m .buffers)) (places * bufferBytes * files))
-    (unmade (m .segment) (m .blocks) (m .buffers)) freshly)
+    (unmade m) freshly)

@@ -3,6 +3,7 @@ use kinds::limits::RECORD_ROOM;
 use kinds::refusals;
 ghost use Rattle.promises.specs.Promise.{Promise};
 ghost use Rattle.promises.specs.Promise as host;
+ghost use Rattle.memory.specs.Memories.{memories};
 
 // One event: the answer's length; 0 where a lent memory has the wrong length or unsound content, and then nothing is written.
 #[no_mangle]
@@ -13,7 +14,7 @@ pub extern "C" fn tendrilhook_event(
     answer: &mut [u8],
     frame: &[u8],
 ) -> usize
-    ensures { λ r. ⌜ Promise (record { segment = now (segment .entry); blocks = now (blocks .entry); buffers = now (buffers .entry) }) (host.event (now (answer .entry)) (now («frame» .entry))) (host.answer r (now (answer .exit))) (record { segment = now (segment .exit); blocks = now (blocks .exit); buffers = now (buffers .exit) }) ⌝ }
+    ensures { λ r. ⌜ Promise (memories (now (segment .entry)) (now (blocks .entry)) (now (buffers .entry))) (host.event (now (answer .entry)) (now («frame» .entry))) (host.answer r (now (answer .exit))) (memories (now (segment .exit)) (now (blocks .exit)) (now (buffers .exit))) ⌝ }
 {
     desk::event(segment, blocks, buffers, answer, frame)
 }
@@ -21,7 +22,7 @@ pub extern "C" fn tendrilhook_event(
 // A fresh desk: its status, 0, or 29 where a length is wrong, and then nothing is written.
 #[no_mangle]
 pub extern "C" fn tendrilhook_fresh(segment: &mut [u8], blocks: &mut [u8], buffers: &mut [u8]) -> u8
-    ensures { λ r. ⌜ Promise (record { segment = now (segment .entry); blocks = now (blocks .entry); buffers = now (buffers .entry) }) host.fresh (host.status r) (record { segment = now (segment .exit); blocks = now (blocks .exit); buffers = now (buffers .exit) }) ⌝ }
+    ensures { λ r. ⌜ Promise (memories (now (segment .entry)) (now (blocks .entry)) (now (buffers .entry))) host.fresh (host.status r) (memories (now (segment .exit)) (now (blocks .exit)) (now (buffers .exit))) ⌝ }
 {
     fresh::fresh(segment, blocks, buffers)
 }
@@ -37,7 +38,7 @@ pub extern "C" fn tendrilhook_look<'a>(
     record: &mut [u8],
     length: &mut usize,
 ) -> u8
-    ensures { λ r. ⌜ Promise (record { segment = now (segment .entry); blocks = now (blocks .entry); buffers = now (buffers .entry) }) (host.look file reader (now («record» .entry))) (host.written r (now (length .exit)) (now («record» .exit))) (record { segment = now (segment .entry); blocks = now (blocks .entry); buffers = now (buffers .entry) }) ⌝ }
+    ensures { λ r. ⌜ Promise (memories (now (segment .entry)) (now (blocks .entry)) (now (buffers .entry))) (host.look file reader (now («record» .entry))) (host.written r (now (length .exit)) (now («record» .exit))) (memories (now (segment .entry)) (now (blocks .entry)) (now (buffers .entry))) ⌝ }
 {
     if record.len() != RECORD_ROOM {
         *length = 0;
@@ -60,7 +61,7 @@ pub extern "C" fn tendrilhook_save(
     output: &mut [u8],
     length: &mut usize,
 ) -> u8
-    ensures { λ r. ⌜ Promise (record { segment = now (segment .entry); blocks = now (blocks .entry); buffers = now (buffers .entry) }) (host.save file (now (output .entry))) (host.written r (now (length .exit)) (now (output .exit))) (record { segment = now (segment .entry); blocks = now (blocks .entry); buffers = now (buffers .entry) }) ⌝ }
+    ensures { λ r. ⌜ Promise (memories (now (segment .entry)) (now (blocks .entry)) (now (buffers .entry))) (host.save file (now (output .entry))) (host.written r (now (length .exit)) (now (output .exit))) (memories (now (segment .entry)) (now (blocks .entry)) (now (buffers .entry))) ⌝ }
 {
     let saved = saving::save(segment, blocks, buffers, file, output);
     *length = saved.length;
@@ -76,7 +77,7 @@ pub extern "C" fn tendrilhook_load(
     file: usize,
     text: &[u8],
 ) -> u8
-    ensures { λ r. ⌜ Promise (record { segment = now (segment .entry); blocks = now (blocks .entry); buffers = now (buffers .entry) }) (host.load file (now («text» .entry))) (host.status r) (record { segment = now (segment .exit); blocks = now (blocks .exit); buffers = now (buffers .exit) }) ⌝ }
+    ensures { λ r. ⌜ Promise (memories (now (segment .entry)) (now (blocks .entry)) (now (buffers .entry))) (host.load file (now («text» .entry))) (host.status r) (memories (now (segment .exit)) (now (blocks .exit)) (now (buffers .exit))) ⌝ }
 {
     loading::load(segment, blocks, buffers, file, text)
 }

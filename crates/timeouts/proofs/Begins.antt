@@ -9,6 +9,7 @@ use Rattle.rules.specs.Allocation.{Alloc}
 use Rattle.laws.specs.Runs.{OnFile}
 use Rattle.laws.specs.Queues.{Agree}
 use Rattle.laws.proofs.Happenings.{matches-now}
+use Rattle.memory.specs.Memories.{memories}
 use Rattle.memory.specs.Image.{rowsOf}
 use Rattle.memory.specs.Stands.{FileBytes}
 use Rattle.memory.specs.Fine.{Fine, StandsFor}
@@ -31,7 +32,7 @@ unfolding FileBytes OnFile
 bytes-buffers unbuilt share buffers h = tt
 bytes-buffers (built b) share buffers h = h .1
 
-pub stage-begin : {xs blocks ys : List ℕ} {d : Desk} {s : Alloc} → StandsFor xs blocks ys d s → Stage xs ys d s
+pub stage-begin : {xs blocks ys : List ℕ} {d : Desk} {s : Alloc} → StandsFor (memories xs blocks ys) d s → Stage xs ys d s
 stage-begin {xs} {blocks} {ys} {d} {s} S = record {
   segment = record {
     rows = rowsOf d;

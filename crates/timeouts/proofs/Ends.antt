@@ -23,6 +23,7 @@ use Rattle.laws.proofs.Sieve.{here-due}
 use Rattle.laws.proofs.EightFiles.{file-time}
 use Rattle.segment.specs.Layout.{listCount, dataWords, rowCount, timerList}
 use Rattle.ports.specs.Lists.{Boxes}
+use Rattle.memory.specs.Memories.{memories}
 use Rattle.memory.specs.Image.{accOf, placeAcc, timerWords, fileWords, placeWords, rowOf, listOf, portWords, boxOf, listsOf, boxesOf}
 use Rattle.laws.specs.Outstanding.{reqOf}
 use Rattle.memory.specs.Stands.{Segment, FileBytes, Stands}
@@ -50,7 +51,7 @@ unfolding FileBytes OnFile failFile fileTime hushed lapse lessen withTimers time
 time-bytes n l unbuilt share old new e h k = tt
 time-bytes n l (built b) share old new e h k = (h .0 ∙ sym (ap (λ s. s .share) (store-same (due n (b .timers)) b)), rw e at k)
 
-module _ {n : ℕ} {xs₀ blocks ys₀ : List ℕ} {d : Desk} {s : Alloc} {xs ys : List ℕ} (S : StandsFor xs₀ blocks ys₀ d s) (Q : Quiet n ys₀ d s xs ys) where
+module _ {n : ℕ} {xs₀ blocks ys₀ : List ℕ} {d : Desk} {s : Alloc} {xs ys : List ℕ} (S : StandsFor (memories xs₀ blocks ys₀) d s) (Q : Quiet n ys₀ d s xs ys) where
   -- the allocation behind the due ones, and behind the rest
   abbrev t : Alloc
   t = endAll (due n (s .clock)) s
@@ -114,16 +115,16 @@ module _ {n : ℕ} {xs₀ blocks ys₀ : List ℕ} {d : Desk} {s : Alloc} {xs ys
       (λ l h. box l h (ℕ-discrete l timerList))
       (λ i h. B .same i h (λ z. omega arith) ∙ same-row i h)
     where
-      ms : List (List (List ℕ))
-      ms = boxesOf (Q .desk) t
+      m : List (List (List ℕ))
+      m = boxesOf (Q .desk) t
 
-      box : (l : ℕ) → l < listCount → Dec (l ≡ timerList) → getD (set ms timerList (map timerWords (map (minus n) (t .clock)))) l [] ≡ boxOf then u l
+      box : (l : ℕ) → l < listCount → Dec (l ≡ timerList) → getD (set m timerList (map timerWords (map (minus n) (t .clock)))) l [] ≡ boxOf then u l
       box l h (yes z) =
-          rw z (getD-set-same ms timerList _ [] (omega (arith, B .boxes .sized)) ∙ sym (boxOf-timers then u ∙ ap (map timerWords) (clock-clock _ t)))
-      box l h (no z) = getD-set-other ms timerList l _ [] z ∙ getD-boxesOf (Q .desk) t l h ∙ same-box l h z
+          rw z (getD-set-same m timerList _ [] (omega (arith, B .boxes .sized)) ∙ sym (boxOf-timers then u ∙ ap (map timerWords) (clock-clock _ t)))
+      box l h (no z) = getD-set-other m timerList l _ [] z ∙ getD-boxesOf (Q .desk) t l h ∙ same-box l h z
 
   -- zs is the segment behind the walk
-  pub time-stands : (zs : List ℕ) → zs ≡ lessAll xs timerList n entries → Bytes zs → Bytes ys → Stands zs blocks ys then (allocTime n s)
+  pub time-stands : (zs : List ℕ) → zs ≡ lessAll xs timerList n entries → Bytes zs → Bytes ys → Stands (memories zs blocks ys) then (allocTime n s)
   unfolding allocTime
   time-stands zs e bx by = record {
     segment = rw e (end-segment (rw e at bx));

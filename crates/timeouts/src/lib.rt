@@ -11,6 +11,7 @@ ghost use Rattle.rules.specs.Allocation.{Alloc, allocTime};
 ghost use Rattle.segment.specs.Layout.{timerList, segmentBytes, deskPlaces};
 ghost use Rattle.buffers.specs.Buffer.{buffersBytes};
 ghost use Rattle.requests.specs.Moves.{entryOf};
+ghost use Rattle.memory.specs.Memories.{memories};
 ghost use Rattle.memory.specs.Stands.{buffersAt, Stands};
 ghost use Rattle.memory.specs.Fine.{StandsFor};
 ghost use Rattle.timeouts.specs.Late.{waitsIn, late, lateBuffers, less, lessAll};
@@ -123,9 +124,9 @@ fn lessen(segment: &mut [u8], seconds: u16)
 
 // So many seconds pass.
 pub fn pass_time(segment: &mut [u8], buffers: &mut [u8], seconds: u16)
-    requires { ⌜ ((d : Desk) × (s : Alloc) × (blocks : List ℕ) × StandsFor (now segment) blocks (now buffers) d s) ⌝ }
-    ensures stands { λ _. ⌜ ((d : Desk) (s : Alloc) (blocks : List ℕ) → StandsFor (now (segment .entry)) blocks (now (buffers .entry)) d s → Stands (now (segment .exit)) blocks (now (buffers .exit)) (deskTime seconds d) (allocTime seconds s)) ⌝ }
-    ensures others { λ _. ⌜ ((d : Desk) (s : Alloc) (blocks : List ℕ) → StandsFor (now (segment .entry)) blocks (now (buffers .entry)) d s → (g : ℕ) → g < files → fileOf d g ≡ unbuilt → buffersAt g (now (buffers .exit)) ≡ buffersAt g (now (buffers .entry))) ⌝ }
+    requires { ⌜ ((d : Desk) × (s : Alloc) × (blocks : List ℕ) × StandsFor (memories (now segment) blocks (now buffers)) d s) ⌝ }
+    ensures stands { λ _. ⌜ ((d : Desk) (s : Alloc) (blocks : List ℕ) → StandsFor (memories (now (segment .entry)) blocks (now (buffers .entry))) d s → Stands (memories (now (segment .exit)) blocks (now (buffers .exit))) (deskTime seconds d) (allocTime seconds s)) ⌝ }
+    ensures others { λ _. ⌜ ((d : Desk) (s : Alloc) (blocks : List ℕ) → StandsFor (memories (now (segment .entry)) blocks (now (buffers .entry))) d s → (g : ℕ) → g < files → fileOf d g ≡ unbuilt → buffersAt g (now (buffers .exit)) ≡ buffersAt g (now (buffers .entry))) ⌝ }
 {
     run_due(segment, buffers, seconds);
     lessen(segment, seconds);

@@ -13,20 +13,21 @@ use Rattle.rules.specs.Allocation.{Alloc}
 use Rattle.segment.specs.Layout.{segmentBytes}
 use Rattle.blocks.specs.Memory.{blocksBytes}
 use Rattle.buffers.specs.Buffer.{buffersBytes}
+use Rattle.memory.specs.Memories.{Memories}
 use Rattle.memory.specs.Fine.{StandsFor}
 use Rattle.midst.proofs.Begins.{mid-begin}
 use Rattle.midst.proofs.Changes.{mid-below}
 
-pub record Fit (xs blocks buffers : List ℕ) (f p : ℕ) : Type 0 where
+pub record Fit (m : Memories) (f p : ℕ) : Type 0 where
   pub file : f < files
   pub place : p < places
-  pub segment : length xs ≡ segmentBytes
-  pub blocks-size : length blocks ≡ blocksBytes
-  pub buffers-size : length buffers ≡ buffersBytes
+  pub segment : length (m .segment) ≡ segmentBytes
+  pub blocks-size : length (m .blocks) ≡ blocksBytes
+  pub buffers-size : length (m .buffers) ≡ buffersBytes
 
 -- of an open place of a file that is built
-pub fit : {xs blocks buffers : List ℕ} {d : Desk} {s : Alloc} → StandsFor xs blocks buffers d s → (f p : ℕ) → f < files → (b : Built) → fileOf d f ≡ built b → (a : Acc) → accAt b p ≡ some a
-    → Fit xs blocks buffers f p
+pub fit : {m : Memories} {d : Desk} {s : Alloc} → StandsFor m d s → (f p : ℕ) → f < files → (b : Built) → fileOf d f ≡ built b → (a : Acc) → accAt b p ≡ some a
+    → Fit m f p
 fit S f p h b is a at = record {
   file = h;
   place = mid-below (mid-begin S f b h is) p a at;

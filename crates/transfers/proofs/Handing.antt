@@ -1,11 +1,11 @@
 -- What a read comes to when it acts: it is handed a record, or it waits, or it ends.
-use Prim.Native.Nat.{ℕ, _≤_, _<_}
+use Prim.Native.Nat.{ℕ, _+_, _≤_, _<_}
 use mathlib.Core.Path.{_≡_, refl, sym, ap, ap₂, _∙_, subst}
 use mathlib.Core.Bool.{Bool, true, false}
 use mathlib.Core.List.{List, []}
 use mathlib.Core.Option.{Option, none, some}
 use native.Mathlib.Omega.{arith}
-use lib.Dec.{eqb}
+use lib.Dec.{ltb, eqb}
 use lib.ListN.{length}
 use lib.Seq.{sets}
 use Rattle.occurrences.specs.Count.{bit}
@@ -34,13 +34,15 @@ use Rattle.segment.specs.Fields.{fileAt, placeAt}
 use Rattle.requests.specs.Moves.{queued, waiting}
 use Rattle.blocks.specs.Memory as code
 use Rattle.blocks.specs.Memory.{blocksBytes}
+use Rattle.ring.specs.Ring.{geo, ringOf}
 use Rattle.ring.specs.Held.{Held}
 use Rattle.shares.specs.Back.{recAt}
 use Rattle.accessors.specs.Sides.{countSide}
+use Rattle.memory.specs.Memories.{Memories, memories}
 use Rattle.memory.specs.Image.{reqWords}
 use Rattle.memory.specs.Fine.{Fine, StandsFor}
 use Rattle.midst.specs.declared.File as hand
-use Rattle.midst.specs.File.{fileOfRow}
+use Rattle.midst.specs.File.{fileOfRow, RowStands}
 use Rattle.midst.specs.Mid.{Start, Mid, start}
 use Rattle.midst.specs.Outcome.{refusalOf}
 use Rattle.midst.specs.Accepted.{Accepted, ReadKnown}
@@ -53,11 +55,13 @@ use Rattle.store.specs.declared.Fetched.{Fetched}
 use Rattle.store.specs.Door.{Keeps, fetching, Gets}
 use Rattle.store.proofs.Hands.{fine-stored, hand-held}
 use Rattle.store.proofs.Readers.{handed-same, fetched-mid, fetched-none, fetched-some}
+use Rattle.settling.specs.Turns.{Counts}
 use Rattle.settling.proofs.FirstReader.{bit-one}
+use Rattle.settling.proofs.Beside.{mid-counts}
 use Rattle.transfers.specs.Rows.{begunSegment, mayWaitRow, readEntry}
 use Rattle.transfers.specs.Acts.{Hands}
 use Rattle.transfers.proofs.Fits.{Fit, fit}
-use Rattle.transfers.proofs.Begun.{begin-mid, begun-mid, at-begun, row-timeout, row-keep, row-typed, row-waits, begun-writers}
+use Rattle.transfers.proofs.Begun.{begin-mid, begun-mid, begun-rowed, at-begun, row-side, row-timeout, row-keep, row-typed, row-waits, begun-writers}
 
 pick-none : (o : Option Rec) (x : Out) (g : Rec → Out) → o ≡ none → elim o [ some r ↦ g r | none ↦ x ] ≡ x
 pick-none o x g e = rw e refl
@@ -72,7 +76,7 @@ pub record Seen (f p : ℕ) (xs blocks : List ℕ) (x : hand.File) (row : PlaceR
   pub keeps : (q : ℕ) → Keeps f (fetching q (eqb (row .typed) 1) (eqb (row .keep) 1)) blocks x blocks (z .file)
   pub gets : Gets f (eqb (row .typed) 1) (eqb (row .keep) 1) blocks x z
 
-module _ {xs blocks buffers : List ℕ} {d : Desk} {s : Alloc} (S : StandsFor xs blocks buffers d s) (f p n : ℕ) (A : refusalOf (answered d (on f (calls.read p n)) .reply) ≡ 0) where
+module _ {ms : Memories} {d : Desk} {s : Alloc} (S : StandsFor ms d s) (f p n : ℕ) (A : refusalOf (answered d (on f (calls.read p n)) .reply) ≡ 0) where
   abbrev known : Accepted (ReadKnown p n) d f (calls.read p n)
   known = accepted-read d f p n A
 
@@ -83,7 +87,7 @@ module _ {xs blocks buffers : List ℕ} {d : Desk} {s : Alloc} (S : StandsFor xs
   a = known .known .a
 
   abbrev o : Start
-  o = start d s blocks buffers
+  o = start d s ms
 
   abbrev F : Found
   F = fetch (b .geo) (a .typed) (a .keep) (b .store)
@@ -91,13 +95,17 @@ module _ {xs blocks buffers : List ℕ} {d : Desk} {s : Alloc} (S : StandsFor xs
   read-limit : countBytes n ≤ bufferBytes
   read-limit = readable-bytes n (known .known .count)
 
-  pub read-held : (x : hand.File) → x ≡ fileOfRow (fileAt xs f) → ((length blocks ≡ blocksBytes) × (f < files)) × Held (x .words) (x .ring) (code.shareAt f blocks)
+  pub read-held : (x : hand.File) → x ≡ fileOfRow (fileAt (ms .segment) f) → ((length (ms .blocks) ≡ blocksBytes) × (f < files)) × Held (x .words) (x .ring) (code.shareAt f (ms .blocks))
   read-held x took =
       let M = begin-mid S f p (known .file) b (known .stands) a (known .known .at) x took in
       hand-held M (fine-stored (M .good))
 
+  -- it is a reader's
+  pub read-side : placeAt (ms .segment) (placeOf f p) .side ≡ 1
+  read-side = row-side S f p (known .file) b (known .stands) a (known .known .at) _ refl ∙ ap (λ (t : Bool). 1 + bit t) (known .known .side)
+
   -- the code has begun, and has seen what it needs
-  module _ {x : hand.File} {row : PlaceRow} {z : Fetched} (v : Seen f p xs blocks x row z) (xs₁ : List ℕ) (began : xs₁ ≡ begunSegment xs (placeOf f p)) where
+  module _ {x : hand.File} {row : PlaceRow} {z : Fetched} (v : Seen f p (ms .segment) (ms .blocks) x row z) (xs₁ : List ℕ) (began : xs₁ ≡ begunSegment (ms .segment) (placeOf f p)) where
     abbrev b₁ : Built
     b₁ = alterAcc p begun b
 
@@ -105,8 +113,11 @@ module _ {xs blocks buffers : List ℕ} {d : Desk} {s : Alloc} (S : StandsFor xs
     abbrev c : Built
     c = behind p F b₁
 
-    N : Mid Fine f o xs₁ blocks buffers x b₁
+    N : Mid Fine f o (memories xs₁ (ms .blocks) (ms .buffers)) x b₁
     N = begun-mid S f p (known .file) b (known .stands) a (known .known .at) row (v .place) x (v .file) xs₁ began
+
+    pub read-counts : Counts f xs₁
+    read-counts = mid-counts N (N .good .queues) (N .good .sides)
 
     opens : accAt (behind p F b₁) p ≡ some (begun a)
     opens = behind-at p F b₁ ∙ at-begun S f p (known .file) b (known .stands) a (known .known .at)
@@ -120,23 +131,32 @@ module _ {xs blocks buffers : List ℕ} {d : Desk} {s : Alloc} (S : StandsFor xs
     is-kept : eqb (row .keep) 1 ≡ a .keep
     is-kept = ap (λ (k : ℕ). eqb k 1) keep-is ∙ bit-one (a .keep)
 
-    B : Mid Fine f o xs₁ blocks buffers (z .file) (behind p F b₁)
+    B : Mid Fine f o (memories xs₁ (ms .blocks) (ms .buffers)) (z .file) (behind p F b₁)
     unfolding alterAcc withAccs
     B = fetched-mid N _ _ z p (v .keeps p) (v .gets) (a .typed) (a .keep) typed-is is-kept
 
+    pub read-rowed : RowStands xs₁ f (z .file)
+    unfolding behind say withStore alterAcc withAccs
+    read-rowed =
+        begun-rowed S f p (known .file) b (known .stands) a (known .known .at) row (v .place) x (v .file) xs₁ began (z .file)
+        (ap (λ (y : hand.File). y .words) same) (ap (λ (y : hand.File). y .ring .factor) same) (ap (λ (y : hand.File). y .ring .blocks) same)
+      where
+        same : _≡_ {A = hand.File} (z .file) (record { words = x .words; ring = ringOf (geo (x .words) (x .ring)) (F .store) })
+        same = B .row ∙ ap (λ (y : hand.File). record { words = y .words; ring = ringOf (geo (y .words) (y .ring)) (F .store) }) (sym (N .row))
+
     -- a record
-    module _ (got : z .got ≡ true) (own : List ℕ) (share : own ≡ code.shareAt f blocks) where
+    module _ (got : z .got ≡ true) (own : List ℕ) (share : own ≡ code.shareAt f (ms .blocks)) where
       abbrev r : Rec
-      r = recAt (code.shareAt f blocks) (z .at)
+      r = recAt (code.shareAt f (ms .blocks)) (z .at)
 
       abbrev D : List ℕ
       D = handed (a .typed) (countBytes n) r
 
-      module _ (limit : ℕ) (counted : limit ≡ countBytes n) where
-        bytes-are : handed (eqb (row .typed) 1) limit (recAt own (z .at)) ≡ D
-        bytes-are = handed-same _ _ _ _ own _ (z .at) typed-is counted share
+      module _ (typ : ℕ) (read : typ ≡ row .typed) (limit : ℕ) (counted : limit ≡ countBytes n) where
+        bytes-are : handed (eqb typ 1) limit (recAt own (z .at)) ≡ D
+        bytes-are = handed-same _ _ _ _ own _ (z .at) (ap (λ (k : ℕ). eqb k 1) read ∙ typed-is) counted share
 
-        pub read-short : length (handed (eqb (row .typed) 1) limit (recAt own (z .at))) ≤ bufferBytes
+        pub read-short : length (handed (eqb typ 1) limit (recAt own (z .at))) ≤ bufferBytes
         read-short = omega (arith, ap length bytes-are, length-handed (a .typed) (countBytes n) r, read-limit)
 
         handed-out : ask (fileOf d f) (calls.read p n) ≡ leaves (answers (Read (logOf (inWords n) (length D))) D) (settle (behind p F b₁))
@@ -144,10 +164,10 @@ module _ {xs blocks buffers : List ℕ} {d : Desk} {s : Alloc} (S : StandsFor xs
         handed-out = known .known .out ∙ pick-some (F .got) _ _ r (fetched-some N _ _ z p (v .keeps p) (v .gets) (a .typed) (a .keep) typed-is is-kept got)
 
         pub read-gives : (memory memory′ : List ℕ) (size log : ℕ) (t : Bool)
-            → size ≡ length (handed (eqb (row .typed) 1) limit (recAt own (z .at)))
-            → memory′ ≡ sets memory answerHead (handed (eqb (row .typed) 1) limit (recAt own (z .at)))
+            → size ≡ length (handed (eqb typ 1) limit (recAt own (z .at)))
+            → memory′ ≡ sets memory answerHead (handed (eqb typ 1) limit (recAt own (z .at)))
             → log ≡ logOf t size → t ≡ inWords n
-            → Hands f o (ask (fileOf d f) (calls.read p n)) xs₁ blocks buffers memory memory′ (z .file) (Read log) size
+            → Hands f o (ask (fileOf d f) (calls.read p n)) (memories xs₁ (ms .blocks) (ms .buffers)) memory memory′ (z .file) (Read log) size
         unfolding answerBytes
         read-gives memory memory′ size log t es em el et = record {
           bytes = D;
@@ -198,15 +218,15 @@ module _ {xs blocks buffers : List ℕ} {d : Desk} {s : Alloc} (S : StandsFor xs
         unfolding readOn status answering behind say withStore alterAcc withAccs
         wait-out m = known .known .out ∙ pick-none (F .got) _ _ nothing ∙ pick-true (mayWait (writers b) a) _ _ m
 
-        pub read-waits : true ≡ mayWaitRow (countSide xs₁ f 2) row → (memory xs₂ : List ℕ)
+        pub read-waits : true ≡ mayWaitRow (ltb 0 (countSide xs₁ f 2)) row → (memory xs₂ : List ℕ)
             → xs₂ ≡ waiting xs₁ (readQueue f) (readEntry (placeOf f p) t limit (row .keep)) (placeOf f p) (row .timeout)
-            → Hands f o (ask (fileOf d f) (calls.read p n)) xs₂ blocks buffers memory memory (z .file) (Status 3 1) 0
+            → Hands f o (ask (fileOf d f) (calls.read p n)) (memories xs₂ (ms .blocks) (ms .buffers)) memory memory (z .file) (Status 3 1) 0
         read-waits m memory xs₂ e = record {
           bytes = [];
           acts = record {
             acted = wait false p (a .timeout) (reading wanted) c;
             mid =
-                subst (λ (ys : List ℕ). Mid Fine f o ys blocks buffers (z .file) (wait false p (a .timeout) (reading wanted) c))
+                subst (λ (ys : List ℕ). Mid Fine f o (memories ys (ms .blocks) (ms .buffers)) (z .file) (wait false p (a .timeout) (reading wanted) c))
                 (sym (e ∙ ap₂ {C = List ℕ} (λ (k : List ℕ) (i : ℕ). waiting xs₁ (readQueue f) k (placeOf f p) i) entry-is
                 (row-timeout S f p (known .file) b (known .stands) a (known .known .at) row (v .place))))
                 (step-wait-read fine-knows B p (begun a) opens (stands-rest S f) (a .timeout) still wanted fine-wait);
@@ -222,8 +242,8 @@ module _ {xs blocks buffers : List ℕ} {d : Desk} {s : Alloc} (S : StandsFor xs
       ends-out m = known .known .out ∙ pick-none (F .got) _ _ nothing ∙ pick-false (mayWait (writers b) a) _ _ m
 
       -- it ends
-      pub read-ends : false ≡ mayWaitRow (countSide xs₁ f 2) row → (memory : List ℕ)
-          → Hands f o (ask (fileOf d f) (calls.read p n)) xs₁ blocks buffers memory memory (z .file) (Status 3 2) 0
+      pub read-ends : false ≡ mayWaitRow (ltb 0 (countSide xs₁ f 2)) row → (memory : List ℕ)
+          → Hands f o (ask (fileOf d f) (calls.read p n)) (memories xs₁ (ms .blocks) (ms .buffers)) memory memory (z .file) (Status 3 2) 0
       read-ends m memory = record {
         bytes = [];
         acts = record {
@@ -237,6 +257,6 @@ module _ {xs blocks buffers : List ℕ} {d : Desk} {s : Alloc} (S : StandsFor xs
       }
 
 -- what the code asks
-pub read-fit : {xs blocks buffers : List ℕ} {d : Desk} {s : Alloc} → StandsFor xs blocks buffers d s → (f p n : ℕ)
-    → refusalOf (answered d (on f (calls.read p n)) .reply) ≡ 0 → Fit xs blocks buffers f p
+pub read-fit : {m : Memories} {d : Desk} {s : Alloc} → StandsFor m d s → (f p n : ℕ)
+    → refusalOf (answered d (on f (calls.read p n)) .reply) ≡ 0 → Fit m f p
 read-fit {d = d} S f p n A = let k = accepted-read d f p n A in fit S f p (k .file) (k .b) (k .stands) (k .known .a) (k .known .at)

@@ -25,6 +25,7 @@ use Rattle.segment.specs.Fields.{entryOf, entryAt}
 use Rattle.ports.specs.Lists.{Chain}
 use Rattle.buffers.specs.Buffer.{bufferAt, filled}
 use Rattle.buffers.proofs.Filled.{buffer-some}
+use Rattle.memory.specs.Memories.{Memories}
 use Rattle.memory.specs.Image.{accOf, reqWords, listOf, portWords, boxOf}
 use Rattle.memory.specs.Stands as stands
 use Rattle.memory.specs.Fine.{StandsFor}
@@ -54,7 +55,7 @@ abbrev pub Shows : List ℕ → List ℕ → ℕ → ℕ → Built → Req → T
 Shows xs buffers f p b q =
     ((entries ≤ nth xs (replyPort (placeOf f p))) × (collect p q b ≡ status 6 1 b)) ⊎ ((nth xs (replyPort (placeOf f p)) < entries) × Completed xs buffers f p b q)
 
-module _ {xs blocks buffers : List ℕ} {d : Desk} {s : Alloc} (S : StandsFor xs blocks buffers d s) (f p : ℕ) (hf : f < files) (b : Built) (is : fileOf d f ≡ built b) (a : Acc)
+module _ {ms : Memories} {d : Desk} {s : Alloc} (S : StandsFor ms d s) (f p : ℕ) (hf : f < files) (b : Built) (is : fileOf d f ≡ built b) (a : Acc)
     (at : accAt b p ≡ some a) where
   abbrev i : ℕ
   i = placeOf f p
@@ -72,45 +73,45 @@ module _ {xs blocks buffers : List ℕ} {d : Desk} {s : Alloc} (S : StandsFor xs
   port-box =
       boxOf-port d s i (place-under f p hf open-place) ∙ ap (λ (o : Option Acc). portWords i (reqOf o)) (placeAcc-of d f p open-place ∙ ap (λ (y : File). accOf y p) is ∙ at)
 
-  port-chain : Chain xs (replyPort i) (portOf (a .req) i s)
+  port-chain : Chain (ms .segment) (replyPort i) (portOf (a .req) i s)
   port-chain = rw port-list at (S .stands .segment .chains (replyPort i) (omega (arith, place-under f p hf open-place)))
 
-  port-data : map (dataOf xs) (portOf (a .req) i s) ≡ portWords i (a .req)
-  port-data = ap (map (dataOf xs)) (sym port-list) ∙ S .stands .segment .boxes (replyPort i) (omega (arith, place-under f p hf open-place)) ∙ port-box
+  port-data : map (dataOf (ms .segment)) (portOf (a .req) i s) ≡ portWords i (a .req)
+  port-data = ap (map (dataOf (ms .segment))) (sym port-list) ∙ S .stands .segment .boxes (replyPort i) (omega (arith, place-under f p hf open-place)) ∙ port-box
 
   -- what lies in its buffer
-  buffer-lies : bufferAt i buffers ≡ filled (lies (a .req))
+  buffer-lies : bufferAt i (ms .buffers) ≡ filled (lies (a .req))
   unfolding stands.bufferAt accAt placeOf
   buffer-lies =
       let M = mid-begin S f b hf is in
-      bufferAt-is f buffers (b .accs) (M .allots .matches .agrees .eight)
+      bufferAt-is f (ms .buffers) (b .accs) (M .allots .matches .agrees .eight)
       (λ y k. length-buffer (b .geo .words) (getD (b .accs) y none) (M .good .room .geo .words-high) (M .good .bounds y)) (M .buffer) p open-place
       ∙ ap buffer at ∙ buffer-some a
 
-  pub taken : (v : List ℕ) → lies (a .req) ≡ v → take (length v) (bufferAt i buffers) ≡ v
+  pub taken : (v : List ℕ) → lies (a .req) ≡ v → take (length v) (bufferAt i (ms .buffers)) ≡ v
   unfolding filled
   taken v e = ap (take (length v)) (buffer-lies ∙ ap filled e) ∙ take-append-seam v (zeros (bufferBytes - length v))
 
   -- a completed request, whose port is not empty
   module _ (ended : uncollected (a .req) ≡ 1) where
-    pub port-full : nth xs (replyPort i) < entries
+    pub port-full : nth (ms .segment) (replyPort i) < entries
     port-full = step-free-entry fine-knows (mid-begin S f b hf is) p a at ended
 
-    pub port-entry : entryAt xs (nth xs (replyPort i)) ≡ entryOf (reqWords i (a .req))
+    pub port-entry : entryAt (ms .segment) (nth (ms .segment) (replyPort i)) ≡ entryOf (reqWords i (a .req))
     unfolding Chain entryAt
     port-entry =
         let k = port-one i (a .req) s ended in
-        let c : Chain xs (replyPort i) (ownEntry (heldAt s i) ∷ []) = rw (k .0) at port-chain in
-        let m : map (dataOf xs) (ownEntry (heldAt s i) ∷ []) ≡ reqWords i (a .req) ∷ [] = ap (map (dataOf xs)) (sym (k .0)) ∙ port-data ∙ k .1 in
-        ap (λ (e : ℕ). entryOf (dataOf xs e)) (c .0) ∙ ap (λ (l : List (List ℕ)). entryOf (getD l 0 [])) m
+        let c : Chain (ms .segment) (replyPort i) (ownEntry (heldAt s i) ∷ []) = rw (k .0) at port-chain in
+        let m : map (dataOf (ms .segment)) (ownEntry (heldAt s i) ∷ []) ≡ reqWords i (a .req) ∷ [] = ap (map (dataOf (ms .segment))) (sym (k .0)) ∙ port-data ∙ k .1 in
+        ap (λ (e : ℕ). entryOf (dataOf (ms .segment) e)) (c .0) ∙ ap (λ (l : List (List ℕ)). entryOf (getD l 0 [])) m
 
-  port-none : (q : Req) → a .req ≡ q → portOf q i s ≡ [] → entries ≤ nth xs (replyPort i)
+  port-none : (q : Req) → a .req ≡ q → portOf q i s ≡ [] → entries ≤ nth (ms .segment) (replyPort i)
   unfolding Chain
   port-none q e k =
-      let c : Chain xs (replyPort i) [] = rw (ap (λ (r : Req). portOf r i s) e ∙ k) at port-chain in
+      let c : Chain (ms .segment) (replyPort i) [] = rw (ap (λ (r : Req). portOf r i s) e ∙ k) at port-chain in
       omega (arith, c)
 
-  pub shows : (q : Req) → a .req ≡ q → (q ≡ idle → ⊥) → Shows xs buffers f p b q
+  pub shows : (q : Req) → a .req ≡ q → (q ≡ idle → ⊥) → Shows (ms .segment) (ms .buffers) f p b q
   unfolding collect portOf reqWords entryOf uncollected lies Bounded
   shows idle e n = absurd (n refl)
   shows (reading q) e n = inl (port-none (reading q) e refl, refl)

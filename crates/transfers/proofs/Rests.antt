@@ -8,6 +8,7 @@ use Rattle.rules.specs.Settle.{settle}
 use Rattle.rules.specs.Reply.{Reply, Out, answers, leaves}
 use Rattle.rules.specs.Desk.{Desk}
 use Rattle.rules.specs.Allocation.{Alloc}
+use Rattle.memory.specs.Memories.{Memories}
 use Rattle.memory.specs.Stands.{Bodies}
 use Rattle.memory.specs.Fine.{Fine}
 use Rattle.midst.specs.declared.File as hand
@@ -16,20 +17,20 @@ use Rattle.midst.specs.Outcome.{Outcome, Done, Gave}
 use Rattle.transfers.specs.Acts.{Acts, Hands}
 
 -- from the act to the settled file
-module _ {f : ℕ} {d : Desk} {s : Alloc} {x : Out} {blocks buffers xs₁ blocks₁ buffers₁ xs′ blocks′ buffers′ : List ℕ} {file : hand.File} {a : Answer}
-    (settles : (o : Start) (b : Built) → Mid Fine f o xs₁ blocks₁ buffers₁ file b → Bodies (o .blocks) (o .buffers) (o .desk) → (r : Reply)
-    → Outcome f (o .desk) (o .alloc) (leaves r (settle b)) (o .blocks) (o .buffers) xs′ blocks′ buffers′)
-    (B : Bodies blocks buffers d) where
-  outcome-of : {bytes : List ℕ} → Acts f (start d s blocks buffers) x xs₁ blocks₁ buffers₁ file a bytes → Outcome f d s x blocks buffers xs′ blocks′ buffers′
+module _ {f : ℕ} {d : Desk} {s : Alloc} {x : Out} {m m₁ m′ : Memories} {file : hand.File} {a : Answer}
+    (settles : (o : Start) (b : Built) → Mid Fine f o m₁ file b → Bodies (o .memories) (o .desk) → (r : Reply)
+    → Outcome f (o .desk) (o .alloc) (leaves r (settle b)) (o .memories) m′)
+    (B : Bodies m d) where
+  outcome-of : {bytes : List ℕ} → Acts f (start d s m) x m₁ file a bytes → Outcome f d s x m m′
   outcome-of {bytes} A =
-      subst (λ (y : Out). Outcome f d s y blocks buffers xs′ blocks′ buffers′) (sym (A .out)) (settles (start d s blocks buffers) (A .acted) (A .mid) B (answers a bytes))
+      subst (λ (y : Out). Outcome f d s y m m′) (sym (A .out)) (settles (start d s m) (A .acted) (A .mid) B (answers a bytes))
 
-  pub done-of : Acts f (start d s blocks buffers) x xs₁ blocks₁ buffers₁ file a [] → Done f d s x blocks buffers xs′ blocks′ buffers′ a
+  pub done-of : Acts f (start d s m) x m₁ file a [] → Done f d s x m m′ a
   unfolding leaves
   done-of A = record { outcome = outcome-of A; reply = ap (λ (y : Out). y .reply) (A .out) }
 
-  pub gave-of : {memory memory′ : List ℕ} {n : ℕ} → Hands f (start d s blocks buffers) x xs₁ blocks₁ buffers₁ memory memory′ file a n
-      → Gave f d s x blocks buffers memory xs′ blocks′ buffers′ memory′ a n
+  pub gave-of : {memory memory′ : List ℕ} {n : ℕ} → Hands f (start d s m) x m₁ memory memory′ file a n
+      → Gave f d s x m memory m′ memory′ a n
   unfolding leaves
   gave-of H = record {
     outcome = outcome-of (H .acts);

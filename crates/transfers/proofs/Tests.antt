@@ -1,20 +1,18 @@
 -- The tests of a read or write, as the code comes to them.
-use Prim.Native.Nat.{ℕ, zero, suc, _+_, _*_, _≤_, _<_}
+use Prim.Native.Nat.{ℕ, _+_, _≤_, _<_}
 use mathlib.Core.Path.{_≡_, refl, sym, ap, _∙_}
 use mathlib.Core.Bool.{Bool, true, false, cond, _||_}
 use mathlib.Core.List.{List}
 use native.Mathlib.Omega.{arith}
 use borrow.Author.Tests.{lt-ltb, le-ltb, le-leb, leb-true, eq-eqb, ne-eqb}
 use lib.Dec.{ltb, eqb}
-use Rattle.occurrences.proofs.Counts.{bit-le}
-use Rattle.rules.specs.Limits.{places, entries}
+use Rattle.rules.specs.Limits.{entries}
 use Rattle.segment.specs.declared.PlaceRow.{PlaceRow}
 use Rattle.segment.specs.Layout.{writeQueue}
 use Rattle.segment.specs.Table.{nth}
-use Rattle.segment.specs.Fields.{placeAt}
 use Rattle.rules.specs.Geometry.{capacity}
 use Rattle.ring.specs.declared.Ring.{Ring}
-use Rattle.accessors.specs.Sides.{countSide, sidesFrom}
+use Rattle.accessors.specs.Sides.{countSide}
 use Rattle.ring.specs.Ring.{used}
 use Rattle.store.specs.Door.{fitsRing}
 use Rattle.transfers.specs.Rows.{mayWaitRow, admits}
@@ -28,28 +26,19 @@ any-second s t u e h = rw (e, h) refl
 any-third : (s t u : Bool) → s ≡ false → t ≡ false → u ≡ s || t || u
 any-third s t u e h = rw (e, h) refl
 
--- n is how many of the other side are open
-module _ (n k : ℕ) (r : PlaceRow) (is : n ≡ k) where
-  pub may-others : 0 < n → true ≡ mayWaitRow k r
+-- whether the other side has an accessor
+module _ (others : Bool) (r : PlaceRow) where
+  pub may-others : others ≡ true → true ≡ mayWaitRow others r
   unfolding mayWaitRow
-  may-others h = any-first (ltb 0 k) _ _ (ap (λ (m : ℕ). ltb 0 m) (sym is) ∙ lt-ltb 0 n h)
+  may-others h = any-first others _ _ h
 
-  pub may-extended : n ≤ 0 → r .extended ≡ 1 → true ≡ mayWaitRow k r
+  pub may-extended : others ≡ false → r .extended ≡ 1 → true ≡ mayWaitRow others r
   unfolding mayWaitRow
-  may-extended h e = any-second (ltb 0 k) (eqb (r .extended) 1) _ (ap (λ (m : ℕ). ltb 0 m) (sym is) ∙ le-ltb 0 n h) (eq-eqb (r .extended) 1 e)
+  may-extended h e = any-second others (eqb (r .extended) 1) _ h (eq-eqb (r .extended) 1 e)
 
-  pub may-first : n ≤ 0 → (r .extended ≡ 1 → ⊥) → eqb (r .first) 1 ≡ mayWaitRow k r
+  pub may-first : others ≡ false → (r .extended ≡ 1 → ⊥) → eqb (r .first) 1 ≡ mayWaitRow others r
   unfolding mayWaitRow
-  may-first h e = any-third (ltb 0 k) (eqb (r .extended) 1) _ (ap (λ (m : ℕ). ltb 0 m) (sym is) ∙ le-ltb 0 n h) (ne-eqb (r .extended) 1 e)
-
--- as many as there are places
-sides-most : (xs : List ℕ) (side i n : ℕ) → sidesFrom xs side i n ≤ n
-unfolding sidesFrom
-sides-most xs side i zero = omega arith
-sides-most xs side i (suc n) = omega (arith, bit-le (eqb (placeAt xs i .side) side), sides-most xs side (suc i) n)
-
-pub count-most : (xs : List ℕ) (f side : ℕ) → countSide xs f side ≤ places
-count-most xs f side = sides-most xs side (places * f) places
+  may-first h e = any-third others (eqb (r .extended) 1) _ h (ne-eqb (r .extended) 1 e)
 
 -- what fits beside m writers fits beside fewer
 fits-fewer : (r : Ring) (n m : ℕ) → n ≤ m → fitsRing r m ≡ true → fitsRing r n ≡ true

@@ -31,8 +31,8 @@ unfoldable pub begunSegment : List ℕ → ℕ → List ℕ
 begunSegment xs i = fill xs (placeRowAt i) (placeWords (begunRow (placeAt xs i)))
 
 -- "waits if the other side has an accessor, or extended wait (45) is on, or it is this accessor's first read or write"
-unfoldable pub mayWaitRow : ℕ → PlaceRow → Bool
-mayWaitRow others r = ltb 0 others || eqb (r .extended) 1 || eqb (r .first) 1
+unfoldable pub mayWaitRow : Bool → PlaceRow → Bool
+mayWaitRow others r = others || eqb (r .extended) 1 || eqb (r .first) 1
 
 -- a write that fits and has no writers waiting ahead
 unfoldable pub admits : List ℕ → ℕ → Ring → Bool

@@ -8,14 +8,12 @@ ghost use Rattle.words.specs.Word.{zeros};
 ghost use Rattle.segment.specs.Layout.{segmentBytes, replyPort, deskPlaces};
 ghost use Rattle.segment.specs.Table.{nth};
 ghost use Rattle.rules.specs.Limits.{entries, bufferBytes, answerRoom};
-ghost use Rattle.rules.specs.Calls.{ask};
 ghost use Rattle.rules.specs.Calls as calls;
-ghost use Rattle.rules.specs.Desk.{Desk, on, fileOf, answered};
-ghost use Rattle.rules.specs.Allocation.{Alloc};
 ghost use Rattle.requests.specs.Moves.{collected};
 ghost use Rattle.buffers.specs.Buffer.{buffersBytes};
-ghost use Rattle.memory.specs.Fine.{StandsFor};
-ghost use Rattle.midst.specs.Outcome.{refusalOf, Sound, Gave, Accepted};
+ghost use Rattle.memory.specs.Memories.{memories};
+ghost use Rattle.midst.specs.Outcome.{Sound, Accepted};
+ghost use Rattle.transfers.specs.Acts.{CollectActs};
 use crate::Given;
 use kinds::Answer;
 use kinds::limits::ANSWER_HEAD;
@@ -42,9 +40,9 @@ pub fn collect(
     f: usize,
     acc: usize,
 ) -> Given
-    requires { ⌜ ((blocks : List ℕ) × Sound (now segment) blocks (now buffers) × Accepted f (calls.collect acc) (now segment) blocks (now buffers)) ⌝ }
+    requires { ⌜ ((blocks : List ℕ) × Sound (memories (now segment) blocks (now buffers)) × Accepted f (calls.collect acc) (memories (now segment) blocks (now buffers))) ⌝ }
     requires { ⌜ length (now answer) ≡ answerRoom ⌝ }
-    ensures { λ r. ⌜ ((blocks : List ℕ) (d : Desk) (s : Alloc) → StandsFor (now (segment .entry)) blocks (now (buffers .entry)) d s → refusalOf (answered d (on f (calls.collect acc)) .reply) ≡ 0 → Gave f d s (ask (fileOf d f) (calls.collect acc)) blocks (now (buffers .entry)) (now (answer .entry)) (now (segment .exit)) blocks (now (buffers .exit)) (now (answer .exit)) (r .answer) (r .size)) ⌝ }
+    ensures { λ r. ⌜ CollectActs f (calls.collect acc) (now (segment .entry)) (now (buffers .entry)) (now (answer .entry)) (now (segment .exit)) (now (buffers .exit)) (now (answer .exit)) (r .answer) (r .size) ⌝ }
 {
     let place = PLACES * f + acc;
     let e = segment::get(segment, layout::REPLY_PORTS + place);

@@ -1,8 +1,6 @@
 // What an accepted read or write does to its accessor's row, and how it begins to wait.
 ghost use mathlib.Core.Path.{_≡_};
-ghost use mathlib.Core.Bool.{cond};
 ghost use Prim.Native.Nat.{_*_, _≤_, _<_};
-ghost use lib.Dec.{eqb};
 ghost use lib.ListN.{length};
 ghost use lib.Seq.{sets};
 ghost use Rattle.occurrences.specs.Count.{bit};
@@ -12,37 +10,35 @@ ghost use Rattle.segment.specs.Table.{nth};
 ghost use Rattle.rules.specs.Limits.{entries, bufferBytes};
 ghost use Rattle.requests.specs.Moves.{queued, waiting};
 ghost use Rattle.buffers.specs.Buffer.{buffersBytes, filled};
-ghost use Rattle.accessors.specs.Sides.{countSide};
 ghost use Rattle.transfers.specs.Rows.{mayWaitRow, readEntry, writeEntry, begunSegment};
-use accessors::sides::count_side;
-use kinds::sides::WRITER;
 use segment::Entry;
 use segment::PlaceRow;
 use segment::layout;
 
-// "The setting is spent by that read, whatever its outcome"; a write leaves it.
-fn kept(side: u16, keep: u16) -> u16
-    ensures { λ r. ⌜ r ≡ cond (eqb side 2) keep 0 ⌝ }
-{
-    if side == WRITER { keep } else { 0 }
-}
-
-// An accepted read or write: this was the accessor's first. Two words of its row change.
-pub fn begin(segment: &mut [u8], place: usize, row: PlaceRow)
-    requires { ⌜ (length (now segment) ≡ segmentBytes) × (place < deskPlaces) × (row ≡ placeAt (now segment) place) ⌝ }
+// An accepted read: this was the accessor's first, and control 47 "is spent by that read, whatever its outcome".
+pub fn begin_read(segment: &mut [u8], place: usize)
+    requires { ⌜ (length (now segment) ≡ segmentBytes) × (place < deskPlaces) × (placeAt (now segment) place .side ≡ 1) ⌝ }
     ensures { λ _. ⌜ now (segment .exit) ≡ begunSegment (now (segment .entry)) place ⌝ }
 {
     let at = layout::PLACE_ROWS + layout::PLACE_ROW_WORDS * place;
-    segment::put(segment, at + layout::PLACE_KEEP, kept(row.side, row.keep));
+    segment::put(segment, at + layout::PLACE_KEEP, 0);
     segment::put(segment, at + layout::PLACE_FIRST, 0);
 }
 
-// "waits if the other side has an accessor, or extended wait (45) is on, or it is this accessor's first read or write".
-pub fn may_wait(segment: &[u8], f: usize, other: u16, row: PlaceRow) -> bool
-    requires { ⌜ (length (now segment) ≡ segmentBytes) × (f < 8) ⌝ }
-    ensures { λ r. ⌜ r ≡ mayWaitRow (countSide (now (segment .entry)) f other) row ⌝ }
+// An accepted write: this was the accessor's first. It leaves control 47.
+pub fn begin_write(segment: &mut [u8], place: usize)
+    requires { ⌜ (length (now segment) ≡ segmentBytes) × (place < deskPlaces) × (placeAt (now segment) place .side ≡ 2) ⌝ }
+    ensures { λ _. ⌜ now (segment .exit) ≡ begunSegment (now (segment .entry)) place ⌝ }
 {
-    if count_side(segment, f, other) > 0 {
+    let row = layout::PLACE_ROWS + layout::PLACE_ROW_WORDS * place;
+    segment::put(segment, row + layout::PLACE_FIRST, 0);
+}
+
+// "waits if the other side has an accessor, or extended wait (45) is on, or it is this accessor's first read or write".
+pub fn may_wait(others: bool, row: PlaceRow) -> bool
+    ensures { λ r. ⌜ r ≡ mayWaitRow others row ⌝ }
+{
+    if others {
         return true;
     }
     if row.extended == 1 {

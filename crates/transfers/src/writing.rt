@@ -1,22 +1,18 @@
 // A write: its record is put, or it waits, or it ends.
 ghost use mathlib.Core.Path.{_≡_};
-ghost use mathlib.Core.List.{[]};
+ghost use mathlib.Core.Bool.{false};
 ghost use Prim.Native.Nat.{_<_};
 ghost use lib.ListN.{length};
 ghost use Rattle.segment.specs.Layout.{segmentBytes};
 ghost use Rattle.rules.specs.Count.{countBytes};
 ghost use Rattle.kinds.specs.declared.Answer.the-variants.{Status};
-ghost use Rattle.rules.specs.Calls.{ask};
 ghost use Rattle.rules.specs.Calls as calls;
-ghost use Rattle.rules.specs.Desk.{Desk, fileOf};
-ghost use Rattle.rules.specs.Allocation.{Alloc};
 ghost use Rattle.ring.specs.Ring.{Ranged};
-ghost use Rattle.memory.specs.Fine.{StandsFor};
-ghost use Rattle.midst.specs.Outcome.{Sound, Accepted, Done};
+ghost use Rattle.memory.specs.Memories.{memories};
+ghost use Rattle.midst.specs.Outcome.{Sound, Accepted, Does};
+ghost use Rattle.accessors.specs.Sides.{countSide};
 ghost use Rattle.transfers.specs.Rows.{admits};
-ghost use Rattle.transfers.specs.Acts.{Acts};
-ghost use Rattle.midst.specs.Mid.{start};
-use crate::waiting::begin;
+use crate::waiting::begin_write;
 use crate::waiting::may_wait;
 use crate::waiting::wait_write;
 use accessors::sides::count_side;
@@ -30,81 +26,56 @@ use kinds::statuses;
 use midst::File;
 use midst::take_file;
 use segment::layout;
-use settling::rest;
+use settling::quick_rest;
+use settling::settle_back;
 use store::fits;
 use store::put;
 use transfer_counts::in_words;
 use transfer_counts::log_of;
 
-// The answer is fixed, and the file in hand is about to settle.
-pub struct Acted {
-    pub answer: Answer,
-    pub file: File,
+// Whether a write is taken at once; where it is not, how many writers are open.
+pub struct Taken {
+    pub done: bool,
+    pub writers: u16,
 }
 
-// Whether a write is taken at once: it fits and has no writers waiting ahead.
-fn taken_now(segment: &[u8], f: usize, file: File) -> bool
+// A write is taken at once if it fits and has no writers waiting ahead.
+fn taken_now(segment: &[u8], f: usize, file: File) -> Taken
     requires { ⌜ (length (now segment) ≡ segmentBytes) × (f < 8) × Ranged (file .ring) ⌝ }
-    ensures { λ r. ⌜ r ≡ admits (now (segment .entry)) f (file .ring) ⌝ }
+    ensures done { λ r. ⌜ r .done ≡ admits (now (segment .entry)) f (file .ring) ⌝ }
+    ensures writers { λ r. ⌜ (r .done ≡ false → r .writers ≡ countSide (now (segment .entry)) f 2) ⌝ }
 {
     if segment::get(segment, layout::WRITE_QUEUES + f) < layout::ENTRIES {
-        return false;
+        return Taken {
+            done: false,
+            writers: count_side(segment, f, WRITER),
+        };
     }
     // beside as many writers as a file has places: they need no counting
     if fits(file, PLACES as u16) {
-        return true;
+        return Taken {
+            done: true,
+            writers: 0,
+        };
     }
-    fits(file, count_side(segment, f, WRITER))
+    let writers = count_side(segment, f, WRITER);
+    Taken {
+        done: fits(file, writers),
+        writers,
+    }
 }
 
 // A write that is not taken: it waits, or it ends.
-fn untaken(status: u8, file: File) -> Acted
-    ensures { λ r. ⌜ r ≡ record { answer = Status 4 status; file = file } ⌝ }
+fn untaken(status: u8) -> Answer
+    ensures { λ r. ⌜ r ≡ Status 4 status ⌝ }
 {
-    Acted {
-        answer: Answer::Status {
-            operation: operations::WRITE,
-            status,
-        },
-        file,
+    Answer::Status {
+        operation: operations::WRITE,
+        status,
     }
 }
 
-// "first act, which fixes their answer".
-fn act(
-    segment: &mut [u8],
-    blocks: &mut [u8],
-    buffers: &mut [u8],
-    f: usize,
-    acc: usize,
-    count: u16,
-    data: &[u8],
-) -> Acted
-    requires { ⌜ Sound (now segment) (now blocks) (now buffers) × Accepted f (calls.write acc count (now «data»)) (now segment) (now blocks) (now buffers) ⌝ }
-    requires { ⌜ length (now «data») ≡ countBytes count ⌝ }
-    ensures { λ r. ⌜ ((d : Desk) (s : Alloc) → StandsFor (now (segment .entry)) (now (blocks .entry)) (now (buffers .entry)) d s → Acts f (start d s (now (blocks .entry)) (now (buffers .entry))) (ask (fileOf d f) (calls.write acc count (now («data» .entry)))) (now (segment .exit)) (now (blocks .exit)) (now (buffers .exit)) (r .file) (r .answer) []) ⌝ }
-{
-    let place = PLACES * f + acc;
-    let row = segment::read_place(segment, place);
-    let file = take_file(segment, f);
-    let words = in_words(count);
-    let at_once = taken_now(segment, f, file);
-    begin(segment, place, row);
-    if at_once {
-        let next = put(blocks, f, file, DATA, row.id, data);
-        let log = log_of(words, data.len() as u16);
-        return Acted {
-            answer: Answer::Written { log },
-            file: next,
-        };
-    }
-    if may_wait(segment, f, READER, row) {
-        wait_write(segment, buffers, f, place, row.timeout, words, data);
-        return untaken(statuses::WAITING, file);
-    }
-    untaken(statuses::END_OF_FILE, file)
-}
-
+// It acts, "which fixes" its answer, and the file settles. A write that is taken asks no more of its accessor's row than the ID.
 pub fn write(
     segment: &mut [u8],
     blocks: &mut [u8],
@@ -114,11 +85,29 @@ pub fn write(
     count: u16,
     data: &[u8],
 ) -> Answer
-    requires { ⌜ Sound (now segment) (now blocks) (now buffers) × Accepted f (calls.write acc count (now «data»)) (now segment) (now blocks) (now buffers) ⌝ }
+    requires { ⌜ Sound (memories (now segment) (now blocks) (now buffers)) × Accepted f (calls.write acc count (now «data»)) (memories (now segment) (now blocks) (now buffers)) ⌝ }
     requires { ⌜ length (now «data») ≡ countBytes count ⌝ }
-    ensures { λ r. ⌜ ((d : Desk) (s : Alloc) → StandsFor (now (segment .entry)) (now (blocks .entry)) (now (buffers .entry)) d s → Done f d s (ask (fileOf d f) (calls.write acc count (now («data» .entry)))) (now (blocks .entry)) (now (buffers .entry)) (now (segment .exit)) (now (blocks .exit)) (now (buffers .exit)) r) ⌝ }
+    ensures { λ r. ⌜ Does f (calls.write acc count (now («data» .entry))) (memories (now (segment .entry)) (now (blocks .entry)) (now (buffers .entry))) (memories (now (segment .exit)) (now (blocks .exit)) (now (buffers .exit))) r ⌝ }
 {
-    let acted = act(segment, blocks, buffers, f, acc, count, data);
-    rest(segment, blocks, buffers, f, acted.file);
-    acted.answer
+    let place = PLACES * f + acc;
+    let file = take_file(segment, f);
+    let words = in_words(count);
+    let taken = taken_now(segment, f, file);
+    if taken.done {
+        let id = segment::place_id(segment, place);
+        begin_write(segment, place);
+        let next = put(blocks, f, file, DATA, id, data);
+        quick_rest(segment, blocks, buffers, f, next);
+        let log = log_of(words, data.len() as u16);
+        return Answer::Written { log };
+    }
+    let row = segment::read_place(segment, place);
+    begin_write(segment, place);
+    if may_wait(0 < count_side(segment, f, READER), row) {
+        wait_write(segment, buffers, f, place, row.timeout, words, data);
+        settle_back(segment, blocks, buffers, f, file, taken.writers);
+        return untaken(statuses::WAITING);
+    }
+    settle_back(segment, blocks, buffers, f, file, taken.writers);
+    untaken(statuses::END_OF_FILE)
 }

@@ -1,13 +1,14 @@
 -- Laws of a part of a memory: one that was lent and is back, and the parts beside it.
 use Prim.Native.Nat.{ℕ, suc, _+_, _-_, _*_, _≤_, _<_}
-use mathlib.Core.Path.{_≡_, sym, _∙_}
+use mathlib.Core.Path.{_≡_, refl, sym, ap, ap₂, _∙_}
 use mathlib.Core.List.{List, _++_, append-assoc}
 use mathlib.Core.Logic.{_⊎_, inl, inr}
 use native.Mathlib.Omega.{arith}
 use native.Mathlib.Nat.{mul-suc, mul-le-mul-left}
-use lib.ListN.{length, getD, take, drop, length-take, length-drop}
-use lib.Seq.{sets, sets-eq, length-sets, length-take-le, take-all, drop-drop, getD-take, getD-drop, ext-getD}
+use lib.ListN.{length, getD, take, drop, length-take, length-drop, take-append-drop}
+use lib.Seq.{sets, sets-eq, length-sets, length-take-le, take-all, take-add, drop-drop, getD-take, getD-drop, ext-getD}
 use Rattle.words.specs.Word.{part}
+use Rattle.words.proofs.Runs.{sets-sets, sets-at}
 use Rattle.words.proofs.Stands.{getD-sets, same, part-read}
 
 -- the part from a on, k bytes long, comes back as ys
@@ -44,6 +45,26 @@ sets-again xs ys zs a e h =
     sym (take-all m (drop (a + length zs) (sets xs a ys)) (omega (arith, length-drop (a + length zs) (sets xs a ys), length-sets xs a ys)))
     ∙ back ∙ take-all m (drop (a + length zs) xs) (omega (arith, length-drop (a + length zs) xs)) in
     sets-eq zs (sets xs a ys) a (omega (arith, length-sets xs a ys)) ∙ rw (front, all) (sym (sets-eq zs xs a h))
+
+-- from k on all of `ds` is stored, where its first i bytes, more than k, were stored before
+pub sets-over : (xs ds : List ℕ) (at i k : ℕ) → k ≤ i → i ≤ length ds → at + length ds ≤ length xs → sets (sets xs at (take i ds)) (at + k) (drop k ds) ≡ sets xs at ds
+sets-over xs ds at i k h hi hx =
+    let ms : List ℕ = take (i - k) (drop k ds) in
+    let rest : List ℕ = drop (i - k) (drop k ds) in
+    let ys : List ℕ = sets xs at (take k ds) in
+    let n : length (take k ds) ≡ k = length-take-le k ds (omega arith) in
+    let m : length ms ≡ i - k = length-take-le (i - k) (drop k ds) (rw length-drop (omega arith)) in
+    let whole : i ≡ k + (i - k) = omega arith in
+    let put : sets xs at (take i ds) ≡ sets ys (at + k) ms =
+    ap (λ (j : ℕ). sets xs at (take j ds)) whole ∙ ap (λ (l : List ℕ). sets xs at l) (take-add k (i - k) ds)
+    ∙ sym (sets-at (take k ds) ms xs at (at + k) (ap (λ (j : ℕ). at + j) n)) in
+    let behind : drop k ds ≡ ms ++ rest = sym (take-append-drop (i - k) (drop k ds)) in
+    let room : at + k + length ms ≤ length ys = omega (arith, length-sets xs at (take k ds)) in
+    ap₂ {C = List ℕ} (λ (l r : List ℕ). sets l (at + k) r) put behind
+    ∙ sym (sets-sets ms rest (sets ys (at + k) ms) (at + k))
+    ∙ ap (λ (l : List ℕ). sets l (at + k + length ms) rest) (sets-again ys ms ms (at + k) refl room)
+    ∙ sets-sets ms rest ys (at + k) ∙ ap (λ (l : List ℕ). sets ys (at + k) l) (sym behind)
+    ∙ sets-at (take k ds) (drop k ds) xs at (at + k) (ap (λ (j : ℕ). at + j) n) ∙ ap (λ (l : List ℕ). sets xs at l) (take-append-drop k ds)
 
 -- Of the m parts of a memory, k bytes each.
 

@@ -32,16 +32,13 @@ sets-more xs ds at i h =
     let n : length (take i ds) ≡ i = length-take-le i ds (omega arith) in
     rw (add-one, take-suc ds i 0) (sets-at (take i ds) (getD ds i 0 ∷ []) xs at (at + i) (ap (λ (k : ℕ). at + k) n))
 
--- a run in the first of two lists
 -- n more, a part of `ds` as it is lent
-pub length-run : (ds : List ℕ) (i n m : ℕ) → m ≡ n → i + n ≤ length ds → length (take m (drop i ds)) ≡ n
-length-run ds i n m e h = rw e (length-take-le n (drop i ds) (rw length-drop (omega arith)))
-
 pub sets-run : (xs ds : List ℕ) (at i n m : ℕ) → m ≡ n → i + n ≤ length ds → sets (sets xs at (take i ds)) (at + i) (take m (drop i ds)) ≡ sets xs at (take (i + n) ds)
 sets-run xs ds at i n m e h =
     let k : length (take i ds) ≡ i = length-take-le i ds (omega arith) in
     rw (e, take-add i n ds) (sets-at (take i ds) (take n (drop i ds)) xs at (at + i) (ap (λ (k : ℕ). at + k) k))
 
+-- a run in the first of two lists
 pub sets-left : (vs xs ys : List ℕ) (i : ℕ) → i + length vs ≤ length xs → sets (xs ++ ys) i vs ≡ sets xs i vs ++ ys
 sets-left [] xs ys i h = refl
 sets-left (v ∷ vs) xs ys i h =

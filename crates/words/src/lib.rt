@@ -46,8 +46,12 @@ fn store(s: &mut [u8], at: usize, from: &[u8])
     }
 }
 
-// The bytes that are copied at once.
+// The bytes that are copied at once, where there are so many.
 const RUN: usize = 16;
+
+const HALF: usize = RUN / 2;
+
+const QUARTER: usize = HALF / 2;
 
 // So many bytes by way of a local, which no memory overlaps: LLVM then makes one load and one store of them, where it has to go byte by byte from memory to memory.
 fn store_run(s: &mut [u8], at: usize, from: &[u8])
@@ -59,19 +63,74 @@ fn store_run(s: &mut [u8], at: usize, from: &[u8])
     store(s, at, &run);
 }
 
-// All of `from` is stored from a place on.
+// Half of a run, in the same way.
+fn store_half(s: &mut [u8], at: usize, from: &[u8])
+    requires { ⌜ (length (now from) ≡ 8) × (at + 8 ≤ length (now s)) ⌝ }
+    ensures { λ _. ⌜ now (s .exit) ≡ sets (now (s .entry)) at (now (from .entry)) ⌝ }
+{
+    let mut run = [0u8; HALF];
+    store(&mut run, 0, from);
+    store(s, at, &run);
+}
+
+// And a quarter.
+fn store_quarter(s: &mut [u8], at: usize, from: &[u8])
+    requires { ⌜ (length (now from) ≡ 4) × (at + 4 ≤ length (now s)) ⌝ }
+    ensures { λ _. ⌜ now (s .exit) ≡ sets (now (s .entry)) at (now (from .entry)) ⌝ }
+{
+    let mut run = [0u8; QUARTER];
+    store(&mut run, 0, from);
+    store(s, at, &run);
+}
+
+// Fewer bytes than a half: two quarters, the second over some of the first, or, of three at most, byte by byte.
+fn store_few(s: &mut [u8], at: usize, from: &[u8])
+    requires { ⌜ (at + length (now from) ≤ length (now s)) × (length (now from) ≤ 8) ⌝ }
+    ensures { λ _. ⌜ now (s .exit) ≡ sets (now (s .entry)) at (now (from .entry)) ⌝ }
+{
+    let n = from.len();
+    if n < QUARTER {
+        store(s, at, from);
+        return;
+    }
+    let last = n - QUARTER;
+    store_quarter(s, at, &from[0..QUARTER]);
+    store_quarter(s, at + last, &from[last..]);
+}
+
+// Fewer bytes than a run: two halves, the second over some of the first.
+fn store_short(s: &mut [u8], at: usize, from: &[u8])
+    requires { ⌜ (at + length (now from) ≤ length (now s)) × (length (now from) ≤ 16) ⌝ }
+    ensures { λ _. ⌜ now (s .exit) ≡ sets (now (s .entry)) at (now (from .entry)) ⌝ }
+{
+    let n = from.len();
+    if n < HALF {
+        store_few(s, at, from);
+        return;
+    }
+    let last = n - HALF;
+    store_half(s, at, &from[0..HALF]);
+    store_half(s, at + last, &from[last..]);
+}
+
+// All of `from` is stored from a place on. The last run is the last of `from`, over some of the bytes before it: none is left to go alone.
 pub fn copy(s: &mut [u8], at: usize, from: &[u8])
     requires { ⌜ at + length (now from) ≤ length (now s) ⌝ }
     ensures { λ _. ⌜ now (s .exit) ≡ sets (now (s .entry)) at (now (from .entry)) ⌝ }
 {
     let n = from.len();
+    if n < RUN {
+        store_short(s, at, from);
+        return;
+    }
+    let last = n - RUN;
     let mut i = 0;
-    while n - i >= RUN {
+    while i < last {
         let e = i + RUN;
         store_run(s, at + i, &from[i..e]);
         i = e;
     }
-    store(s, at + i, &from[i..]);
+    store_run(s, at + last, &from[last..]);
 }
 
 // Whether n bytes from a place on are zero: one `or` of them all, with no way out, for LLVM to take many bytes at a time.

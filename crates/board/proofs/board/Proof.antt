@@ -17,7 +17,7 @@ returns : tie.Need-returns
 returns c =
     let test : tie.After-sound = search in
     let one : tie.Then1 = search in
-    (rw (c .refused .ensures .0, c .refused .ensures .1) (board-unsound _ _ _ _ (sym (test .sound .ensures) ∙ not-true _ (one .if1 .taken))), omega (arith, c .refused .ensures .1))
+    (rw (c .refused .ensures .0, c .refused .ensures .1) (board-unsound _ _ (sym (test .sound .ensures) ∙ not-true _ (one .if1 .taken))), omega (arith, c .refused .ensures .1))
 
 refused-requires-2 : tie.Need-refused-requires-2
 refused-requires-2 c κs = search needs
@@ -27,7 +27,7 @@ returns-2 c =
     let test : tie.After-sound = search in
     let one : tie.Else1 = search in
     let two : tie.Then2 = search in
-    (rw (c .refused2 .ensures .0, c .refused2 .ensures .1) (board-short _ _ _ _ (sym (test .sound .ensures) ∙ not-false _ (one .if1 .left)) (two .if2 .taken)), omega (arith, c .refused2 .ensures .1))
+    (rw (c .refused2 .ensures .0, c .refused2 .ensures .1) (board-short _ _ (sym (test .sound .ensures) ∙ not-false _ (one .if1 .left)) (two .if2 .taken)), omega (arith, c .refused2 .ensures .1))
 
 put-files-requires : tie.Need-put-files-requires
 unfolding Bytes
@@ -38,7 +38,7 @@ put-files-requires c κs =
     let known : tie.After-shared-slice-known = search in
     let known2 : tie.After-shared-slice-known2 = search in
     let known3 : tie.After-shared-slice-known3 = search in
-    (board-stood _ _ _ (sym (test .sound .ensures) ∙ not-false _ (one .if1 .left)) (λ i. known .shared-slice-known .given i .fits) (λ i. known2 .shared-slice-known2 .given i .fits) (λ i. known3 .shared-slice-known3 .given i .fits), two .if2 .left)
+    (board-stood _ (sym (test .sound .ensures) ∙ not-false _ (one .if1 .left)) (λ i. known .shared-slice-known .given i .fits) (λ i. known2 .shared-slice-known2 .given i .fits) (λ i. known3 .shared-slice-known3 .given i .fits), two .if2 .left)
 
 put-nothing-requires : tie.Need-put-nothing-requires
 put-nothing-requires c κs = search needs
@@ -59,8 +59,8 @@ returns-3 c =
     let known2 : tie.After-shared-slice-known2 = search in
     let known3 : tie.After-shared-slice-known3 = search in
     let t = sym (test .sound .ensures) ∙ not-false _ (one .if1 .left) in (
-      board-shown _ _ _ _ t (two .if2 .left) _ _ _ _ (files .put-files .ensures) (end .put-nothing .ensures),
-      board-low _ _ _ _ t (λ i. known .shared-slice-known .given i .fits) (λ i. known2 .shared-slice-known2 .given i .fits) (λ i. known3 .shared-slice-known3 .given i .fits) (two .if2 .left) _ _ _ _ (files .put-files .ensures) (end .put-nothing .ensures),
+      board-shown _ _ t (two .if2 .left) _ _ _ _ (files .put-files .ensures) (end .put-nothing .ensures),
+      board-low _ _ t (λ i. known .shared-slice-known .given i .fits) (λ i. known2 .shared-slice-known2 .given i .fits) (λ i. known3 .shared-slice-known3 .given i .fits) (two .if2 .left) _ _ _ _ (files .put-files .ensures) (end .put-nothing .ensures),
     )
 
 pub board-spec : {M : Type 1} → statement M

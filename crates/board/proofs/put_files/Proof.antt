@@ -5,13 +5,14 @@ use native.Mathlib.Omega.{arith}
 use Rattle.rules.specs.Limits.{files}
 use Rattle.rules.specs.Desk.{Desk}
 use Rattle.rules.specs.Allocation.{Alloc}
+use Rattle.memory.specs.Memories.{memories}
 use Rattle.memory.specs.Fine.{StandsFor}
 use Rattle.board.proofs.Turns.{Filed, filed-none, filed-on, filed-all}
 use Rattle.board.proofs.put_files.Statement.{statement}
 use Rattle.board.proofs.put_files.Tie as tie
 
 abbrev Inv-loop : tie.InvT-loop
-Inv-loop segment blocks out₀ end₀ f₀ out end f = (f ≤ files) × ((buffers : List ℕ) (d : Desk) (s : Alloc) → StandsFor segment blocks buffers d s → Filed d out₀ f out end)
+Inv-loop segment blocks out₀ end₀ f₀ out end f = (f ≤ files) × ((buffers : List ℕ) (d : Desk) (s : Alloc) → StandsFor (memories segment blocks buffers) d s → Filed d out₀ f out end)
 
 abbrev μ-loop : tie.MeasureT-loop
 μ-loop segment blocks out₀ end₀ f₀ out end f = files - f

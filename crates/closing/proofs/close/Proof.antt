@@ -1,13 +1,13 @@
 -- `close` meets its contract: an answer to each need, in the order of the code.
 use mathlib.Core.Path.{_∙_}
 use native.Mathlib.Omega.{arith}
-use Rattle.closing.proofs.Clears.{close-size, close-found, clears, close-done}
+use Rattle.closing.proofs.Clears.{close-size, clears, close-done}
 use Rattle.closing.proofs.close.Statement.{statement}
 use Rattle.closing.proofs.close.Tie as tie
 
 -- The way back from one place to another.
-abbrev after-cancel-from-after-rest : tie.After-rest → tie.After-cancel
-after-cancel-from-after-rest c = c .before .before .before .before .before .before .before .before .before .before .before .before .before .before .before
+abbrev after-remove-from-after-rest : tie.After-rest → tie.After-remove
+after-remove-from-after-rest c = c .before .before .before .before .before .before .before .before .before .before .before .before .before .before .before
 
 mul-place-side : tie.Need-mul-place-side
 mul-place-side c =
@@ -36,42 +36,41 @@ take-file-requires c κs =
     let size = close-size S _ _ (start .pre .1 d s S) in
     (size .0, size .2)
 
-cancel-requires : tie.Need-cancel-requires
-cancel-requires c κs =
-    let here : tie.After-place-side = search in let place-side = here .place-side in
+remove-requires : tie.Need-remove-requires
+remove-requires c κs =
     let start : tie.Start = search in
     let (d, s, S) = start .pre .0 in
-    (close-size S _ _ (start .pre .1 d s S), close-found S _ _ (start .pre .1 d s S) _ (place-side .ensures))
+    close-size S _ _ (start .pre .1 d s S)
 
 leave-requires : tie.Need-leave-requires
 leave-requires c κs =
-    let here : tie.After-cancel = search in let cancel = here .cancel in
+    let here : tie.After-remove = search in let remove = here .remove in
     let here : tie.After-take-file = search in let take-file = here .take-file in
     let here : tie.After-place-side = search in let place-side = here .place-side in
     let start : tie.Start = search in
     let (d, s, S) = start .pre .0 in
     let C = clears S _ _ (start .pre .1 d s S) _ (place-side .ensures) _ (take-file .ensures) _ _
-    (cancel .ensures .0) (cancel .ensures .1) in
+    (remove .ensures .1 .0) (remove .ensures .1 .1) in
     (_, _, C .file, C .acc, C .mid, C .at, C .still)
 
 rest-requires : tie.Need-rest-requires
 rest-requires c κs =
     let here : tie.After-leave = search in let leave = here .leave in
-    let here : tie.After-cancel = search in let cancel = here .cancel in
+    let here : tie.After-remove = search in let remove = here .remove in
     let here : tie.After-take-file = search in let take-file = here .take-file in
     let here : tie.After-place-side = search in let place-side = here .place-side in
     let start : tie.Start = search in
     let (d, s, S) = start .pre .0 in
     let C = clears S _ _ (start .pre .1 d s S) _ (place-side .ensures) _ (take-file .ensures) _ _
-    (cancel .ensures .0) (cancel .ensures .1) in
+    (remove .ensures .1 .0) (remove .ensures .1 .1) in
     (_, _, leave .ensures _ _ (C .file) (C .acc) (C .mid) (C .at) (C .still))
 
 same-length : tie.Need-same-length
 same-length c =
     let here : tie.After-rest = search in let rest = here .rest in
     let here : tie.After-leave = search in let leave = here .leave in
-    let here : tie.After-cancel = search in let cancel = here .cancel in
-    rest .kept .0 ∙ (leave .kept .0 ∙ cancel .kept .0)
+    let here : tie.After-remove = search in let remove = here .remove in
+    rest .kept .0 ∙ (leave .kept .0 ∙ remove .kept .0)
 
 same-length-2 : tie.Need-same-length-2
 same-length-2 c =
@@ -82,20 +81,20 @@ same-length-2 c =
 same-length-3 : tie.Need-same-length-3
 same-length-3 c =
     let here : tie.After-rest = search in let rest = here .rest in
-    let here = after-cancel-from-after-rest here in let cancel = here .cancel in
-    rest .kept .1 .1 .0 ∙ cancel .kept .1 .0
+    let here = after-remove-from-after-rest here in let remove = here .remove in
+    rest .kept .1 .1 .0 ∙ remove .kept .1 .0
 
 returns : tie.Need-returns
 returns c =
     let here : tie.After-rest = search in let rest = here .rest in
     let here : tie.After-leave = search in let leave = here .leave in
-    let here : tie.After-cancel = search in let cancel = here .cancel in
+    let here : tie.After-remove = search in let remove = here .remove in
     let here : tie.After-take-file = search in let take-file = here .take-file in
     let here : tie.After-place-side = search in let place-side = here .place-side in
     let start : tie.Start = search in
     λ d s S.
     let C = clears S _ _ (start .pre .1 d s S) _ (place-side .ensures) _ (take-file .ensures) _ _
-    (cancel .ensures .0) (cancel .ensures .1) in
+    (remove .ensures .1 .0) (remove .ensures .1 .1) in
     close-done C
     (rest .ensures _ _ (leave .ensures _ _ (C .file) (C .acc) (C .mid) (C .at) (C .still)) (S .stands .bodies) _)
 
@@ -107,7 +106,7 @@ close-spec =
     add-place-side
     place-side-requires
     take-file-requires
-    cancel-requires
+    remove-requires
     leave-requires
     rest-requires
     same-length

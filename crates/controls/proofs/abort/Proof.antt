@@ -1,7 +1,7 @@
 -- `abort` meets its contract: an answer to each need, in the order of the code.
 use Rattle.words.specs.Word.{Bytes}
 use mathlib.Core.Path.{sym, _∙_}
-use Rattle.controls.proofs.Aborts.{taken-sized, abort-removable, abort-waits, abort-completed}
+use Rattle.controls.proofs.Aborts.{taken-sized, abort-waits, abort-completed}
 use native.Mathlib.Omega.{arith}
 use borrow.Author.Needs.{needs}
 use Rattle.controls.proofs.abort.Statement.{statement}
@@ -21,21 +21,11 @@ place-side-requires c κs =
     let sized = taken-sized _ _ _ _ _ (start .pre .1) in
     (sized .segment, omega (arith, sized .file, sized .place))
 
-waits-requires : tie.Need-waits-requires
-waits-requires c κs =
-    let start : tie.Start = search in
-    let sized = taken-sized _ _ _ _ _ (start .pre .1) in
-    (sized .segment, (sized .file, sized .place))
-
 remove-requires : tie.Need-remove-requires
 remove-requires c κs =
-    let here : tie.After-place-side = search in let place-side = here .place-side in
     let start : tie.Start = search in
-    let z = taken-sized _ _ _ _ _ (start .pre .1) in (
-      (z .segment, z .buffers-size, z .file, z .place),
-      abort-removable _ _ _ _ _ (start .pre .1) _ (place-side .ensures)
-          (sym (c .before .before .before .waits .ensures) ∙ c .before .before .if1 .taken),
-    )
+    let z = taken-sized _ _ _ _ _ (start .pre .1) in
+    (z .segment, z .buffers-size, z .file, z .place)
 
 same-length : tie.Need-same-length
 same-length c = search needs
@@ -48,21 +38,26 @@ unfolding Bytes
 returns c =
     let here : tie.After-remove = search in let remove = here .remove in
     let here : tie.Then1 = search in let if1 = here .if1 in
-    let here : tie.After-waits = search in let waits = here .waits in
     let here : tie.After-place-side = search in let place-side = here .place-side in
+    let segment : tie.After-slice-known3 = search in
+    let buffers : tie.After-slice-known4 = search in
     λ v blocks d s S r.
-    abort-waits S _ _ v r _ (place-side .ensures) (sym (waits .ensures) ∙ if1 .taken) _ _ (remove .ensures .0)
-    (remove .ensures .1) (λ i. c .before .before .slice-known3 .given i .fits)
-    (λ i. c .slice-known4 .given i .fits)
+    abort-waits S _ _ v r _ (place-side .ensures) _ _ (remove .ensures .1 .0) (remove .ensures .1 .1) (sym (remove .ensures .0) ∙ if1 .taken)
+    (λ i. segment .slice-known3 .given i .fits) (λ i. buffers .slice-known4 .given i .fits)
 
 same-length-3 : tie.Need-same-length-3
 same-length-3 c = search needs
 
+same-length-4 : tie.Need-same-length-4
+same-length-4 c = search needs
+
 returns-2 : tie.Need-returns-2
 returns-2 c =
+    let here : tie.After-remove = search in let remove = here .remove in
+    let here : tie.After-place-side = search in let place-side = here .place-side in
+    let not : tie.Else1 = search in
     λ v blocks d s S r.
-    abort-completed S _ _ v r _ (c .before .before .before .place-side .ensures)
-    (sym (c .before .waits .ensures) ∙ c .if1 .left)
+    abort-completed S _ _ v r _ (place-side .ensures) _ _ (remove .ensures .1 .0) (remove .ensures .1 .1) (sym (remove .ensures .0) ∙ not .if1 .left)
 
 pub abort-spec : {M : Type 1} → statement M
 abort-spec =
@@ -71,10 +66,10 @@ abort-spec =
     mul-place-side
     add-place-side
     place-side-requires
-    waits-requires
     remove-requires
     same-length
     same-length-2
     returns
     same-length-3
+    same-length-4
     returns-2)

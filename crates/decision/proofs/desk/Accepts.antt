@@ -11,6 +11,7 @@ use Rattle.rules.specs.Allocation.{Alloc}
 use Rattle.rules.proofs.Split.{by-cases}
 use Rattle.segment.specs.Layout.{segmentBytes}
 use Rattle.segment.specs.Table.{dataOf}
+use Rattle.memory.specs.Memories.{memories}
 use Rattle.memory.specs.Stands.{Segment, shareAt, buffersAt, FileBytes}
 use Rattle.words.specs.Word.{Bytes}
 use Rattle.memory.specs.Fine.{StandsFor}
@@ -48,7 +49,7 @@ module _ (s blocks bufs : List ℕ) (bs : Bytes s) (bb : Bytes blocks) (bf : Byt
       (λ t. subst (λ (x : File). FileBytes x (shareAt f blocks) (buffersAt f bufs)) (sym (file-built s blocks bufs ls ok U f h t)) (bodies s blocks bufs ls bb eb ef ok U f h t busy m idle))
       (λ t. subst (λ (x : File). FileBytes x (shareAt f blocks) (buffersAt f bufs)) (sym (file-blank s blocks bufs ls ok U f h t)) tt)
 
-  pub accepts : (d : Desk) × (a : Alloc) × StandsFor s blocks bufs d a
+  pub accepts : (d : Desk) × (a : Alloc) × StandsFor (memories s blocks bufs) d a
   accepts = (
     d,
     a,

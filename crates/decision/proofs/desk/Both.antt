@@ -1,5 +1,5 @@
 -- Memories pass the test exactly where they stand for a desk.
-use Prim.Native.Nat.{ℕ, _*_}
+use Prim.Native.Nat.{_*_}
 use mathlib.Core.Bool.{true}
 use mathlib.Core.Path.{_≡_}
 use mathlib.Core.List.{List}
@@ -10,6 +10,7 @@ use Rattle.rules.specs.Desk.{Desk, Call, freshDesk, after}
 use Rattle.rules.specs.Allocation.{Alloc, freshAlloc, allocAfter}
 use Rattle.rules.proofs.Split.{and-true, true-and}
 use Rattle.segment.specs.Layout.{segmentBytes}
+use Rattle.memory.specs.Memories.{Memories}
 use Rattle.memory.specs.Image.{listsOf}
 use Rattle.memory.specs.Stands.{Stands}
 use Rattle.words.specs.Word.{Bytes}
@@ -21,8 +22,8 @@ use Rattle.decision.proofs.lists.Decides.{decides-yes, decides-no}
 use Rattle.decision.proofs.desk.DeskPasses.{passes}
 use Rattle.decision.proofs.desk.Accepts.{accepts}
 
-module _ (s blocks bufs : List ℕ) where
-  pub sound-stands : Bytes s → Bytes blocks → Bytes bufs → soundly s blocks bufs ≡ true → (d : Desk) × (a : Alloc) × StandsFor s blocks bufs d a
+module _ (m : Memories) where
+  pub sound-stands : Bytes (m .segment) → Bytes (m .blocks) → Bytes (m .buffers) → soundly m ≡ true → (d : Desk) × (a : Alloc) × StandsFor m d a
   unfolding soundly listsOk
   sound-stands bs bb bf h =
       let (r₁, w) = and-true _ _ h in
@@ -31,23 +32,23 @@ module _ (s blocks bufs : List ℕ) where
       let (es, eb) = and-true _ _ r₃ in
       let (w₁, idle) = and-true _ _ w in
       let (good, met) = and-true _ _ w₁ in
-      let (ls, U, m) = decides-yes s bufs good met in
-      accepts s blocks bufs bs bb bf ls (eqb-true (length s) segmentBytes es) (eqb-true (length blocks) (shareBytes * files) eb)
-      (eqb-true (length bufs) (places * bufferBytes * files) ef) ok U (allWalks s bufs .busy) idle m
+      let (ls, U, k) = decides-yes (m .segment) (m .buffers) good met in
+      accepts (m .segment) (m .blocks) (m .buffers) bs bb bf ls (eqb-true (length (m .segment)) segmentBytes es) (eqb-true (length (m .blocks)) (shareBytes * files) eb)
+      (eqb-true (length (m .buffers)) (places * bufferBytes * files) ef) ok U (allWalks (m .segment) (m .buffers) .busy) idle k
 
-  pub stands-sound : (d : Desk) (a : Alloc) → StandsFor s blocks bufs d a → soundly s blocks bufs ≡ true
+  pub stands-sound : (d : Desk) (a : Alloc) → StandsFor m d a → soundly m ≡ true
   unfolding soundly listsOk
   stands-sound d a S =
-      let (es, eb, ef, ok, U, idle) = passes s blocks bufs d a S in
-      let (good, met, m) = decides-no s bufs (listsOf d a) U in
-      true-and _ _ (true-and _ _ (true-and _ _ (true-and _ _ (eq-eqb (length s) segmentBytes es) (eq-eqb (length blocks) (shareBytes * files) eb))
-      (eq-eqb (length bufs) (places * bufferBytes * files) ef)) ok)
-      (true-and _ _ (true-and _ _ good met) (idle (allWalks s bufs .busy) m))
+      let (es, eb, ef, ok, U, idle) = passes (m .segment) (m .blocks) (m .buffers) d a S in
+      let (good, met, k) = decides-no (m .segment) (m .buffers) (listsOf d a) U in
+      true-and _ _ (true-and _ _ (true-and _ _ (true-and _ _ (eq-eqb (length (m .segment)) segmentBytes es) (eq-eqb (length (m .blocks)) (shareBytes * files) eb))
+      (eq-eqb (length (m .buffers)) (places * bufferBytes * files) ef)) ok)
+      (true-and _ _ (true-and _ _ good met) (idle (allWalks (m .segment) (m .buffers) .busy) k))
 
-  pub soundly-is : Bytes s → Bytes blocks → Bytes bufs
-      → (soundly s blocks bufs ≡ true → (d : Desk) × (a : Alloc) × StandsFor s blocks bufs d a) × ((d : Desk) × (a : Alloc) × StandsFor s blocks bufs d a → soundly s blocks bufs ≡ true)
+  pub soundly-is : Bytes (m .segment) → Bytes (m .blocks) → Bytes (m .buffers)
+      → (soundly m ≡ true → (d : Desk) × (a : Alloc) × StandsFor m d a) × ((d : Desk) × (a : Alloc) × StandsFor m d a → soundly m ≡ true)
   soundly-is bs bb bf = (sound-stands bs bb bf, λ t. stands-sound (t .0) (t .1) (t .2))
 
   -- so a sound desk never refuses itself: whatever calls were made, the memories that show it pass
-  pub reached-sound : (cs : List Call) → Stands s blocks bufs (after freshDesk cs) (allocAfter freshDesk cs freshAlloc) → soundly s blocks bufs ≡ true
-  reached-sound cs S = stands-sound (after freshDesk cs) (allocAfter freshDesk cs freshAlloc) (reached cs s blocks bufs S)
+  pub reached-sound : (cs : List Call) → Stands m (after freshDesk cs) (allocAfter freshDesk cs freshAlloc) → soundly m ≡ true
+  reached-sound cs S = stands-sound (after freshDesk cs) (allocAfter freshDesk cs freshAlloc) (reached cs m S)

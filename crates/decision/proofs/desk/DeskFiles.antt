@@ -23,6 +23,7 @@ use Rattle.shares.proofs.Sound.{holds-sound}
 use Rattle.laws.specs.Runs.{OnFile}
 use Rattle.laws.specs.Changes.{GoodGeo}
 use Rattle.laws.specs.Entries.{accsOf}
+use Rattle.memory.specs.Memories.{memories}
 use Rattle.memory.specs.Image.{accOf, placeAcc, fileWords, placeWords}
 use Rattle.memory.specs.Stands.{shareAt, buffersAt, FileBytes}
 use Rattle.memory.specs.Fine.{Fine, StandsFor}
@@ -130,7 +131,7 @@ files-ok s blocks f (suc n) h =
     pick-true (fileOk s blocks f) _ _ (ap (fileOk s blocks) e ∙ h 0 (omega arith))
     ∙ files-ok s blocks (suc f) n (λ g k. let d : suc f + g ≡ f + suc g = omega arith in ap (fileOk s blocks) d ∙ h (suc g) (omega arith))
 
-module _ (s blocks bufs : List ℕ) (d : Desk) (a : Alloc) (S : StandsFor s blocks bufs d a) where
+module _ (s blocks bufs : List ℕ) (d : Desk) (a : Alloc) (S : StandsFor (memories s blocks bufs) d a) where
   pub file-row : (f : ℕ) → f < files → Filed s f (fileOf d f)
   unfolding fileWord
   file-row f h j k = sym (row-at s (fileRowAt f) fileWidth j k) ∙ ap (λ (l : List ℕ). getD l j 0) (segment-file (S .stands .segment) f h)

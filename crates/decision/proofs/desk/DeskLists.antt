@@ -46,7 +46,7 @@ module _ (s : List ℕ) (g : Timer → ℕ) where
   unfolding Timed Each InOrder placesOf Sorted countT count
   timed-pass lo [] o w q = (tt, tt, refl)
   timed-pass lo (t ∷ ts) o w q =
-      timed-cons lo t ts (o .0) (timer-entry s (g t) t (low (decLt (t .place) 64)) (cc)) (timed-pass (t .left) ts (o .1) (λ i h. omega (arith, w i h)) (cc))
+      timed-cons lo t ts (o .0) (timer-entry s (g t) t (low (decLt (t .place) deskPlaces)) (cc)) (timed-pass (t .left) ts (o .1) (λ i h. omega (arith, w i h)) (cc))
     where
       low : Dec (t .place < deskPlaces) → t .place < files * places
       low (yes h) = h

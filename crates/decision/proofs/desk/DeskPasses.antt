@@ -26,12 +26,14 @@ use Rattle.laws.specs.Counts.{countT}
 use Rattle.laws.specs.Entries.{accsOf, timersOf}
 use Rattle.laws.specs.Timers.{Sorted}
 use Rattle.laws.proofs.Sieve.{sorted-sieves}
+use Rattle.memory.specs.Memories.{memories}
 use Rattle.memory.specs.Image.{accOf, placeAcc, listsOf}
 use Rattle.memory.specs.Covers.{Once}
 use Rattle.memory.specs.Fine.{Fine, StandsFor}
 use Rattle.memory.proofs.Image.{placeAcc-at, listOf-free, listOf-read, listOf-write, listOf-port, listOf-timers, boxOf-free, boxOf-read, boxOf-write, boxOf-port, boxOf-timers}
 use Rattle.memory.proofs.Boxes.{getD-listsOf, segment-boxes}
-use Rattle.memory.proofs.Held.{out-most, sieve-at}
+use Rattle.laws.proofs.Outstanding.{outstanding-most}
+use Rattle.memory.proofs.Held.{sieve-at}
 use Rattle.memory.proofs.Once.{agreed-once, acc-at}
 use Rattle.sound.specs.Rows.{builtAt}
 use Rattle.sound.specs.Walks.{placeIn, restZero}
@@ -68,7 +70,7 @@ idles-zero s bufs busy f (suc n) h =
     e : f + 0 ≡ f
     e = omega arith
 
-module _ (s blocks bufs : List ℕ) (d : Desk) (a : Alloc) (S : StandsFor s blocks bufs d a) where
+module _ (s blocks bufs : List ℕ) (d : Desk) (a : Alloc) (S : StandsFor (memories s blocks bufs) d a) where
   abbrev ls : List (List ℕ)
   ls = listsOf d a
 
@@ -169,7 +171,7 @@ module _ (s blocks bufs : List ℕ) (d : Desk) (a : Alloc) (S : StandsFor s bloc
     ports = each-place (λ i. Each (PortEntry s bufs i) (getD ls (replyPort i) [])) port-at;
     timers = timers-all .0;
     order = timers-all .1;
-    single = each-place (λ i. waitingAt s ls i + completedAt ls i ≤ 1) (λ f p h k. omega (arith, waiting-is f p h k, completed-is f p h k, out-most (reqOf (accOf (fileOf d f) p))));
+    single = each-place (λ i. waitingAt s ls i + completedAt ls i ≤ 1) (λ f p h k. omega (arith, waiting-is f p h k, completed-is f p h k, outstanding-most (reqOf (accOf (fileOf d f) p))));
     timed = each-place (λ i. timersAt s ls i ≤ waitingAt s ls i) (λ f p h k. omega (arith, waiting-is f p h k, timed-is f p h k));
   }
 

@@ -12,10 +12,11 @@ use Rattle.occurrences.specs.Count.{bit}
 use Rattle.occurrences.proofs.Counts.{bit-le}
 use Rattle.rules.specs.State.{Acc}
 use Rattle.rules.proofs.Split.{true-and, true-or, pick-true, pick-false}
-use Rattle.segment.specs.Layout.{placeRowAt, placeWidth}
-use Rattle.segment.specs.Table.{row}
+use Rattle.segment.specs.Layout.{placeFields, placeSpare, placeRowAt, placeWidth}
+use Rattle.segment.specs.Table.{nth, row}
 use Rattle.laws.specs.Sides.{Sided}
 use Rattle.memory.specs.Image.{placeWords}
+use Rattle.memory.proofs.Image.{spare-zero}
 use Rattle.sound.specs.Rows.{placeWord, sideAt, goodPlace, placeOk, placesOk}
 use Rattle.decision.proofs.desk.Words.{none-at, row-is, words-zero}
 
@@ -54,10 +55,16 @@ module _ (s : List ℕ) (i : ℕ) where
   unfolding placeOk goodPlace
   some-ok a S r =
       pick-false (eqb (sideAt s i) 0) _ _ (ne-eqb (sideAt s i) 0 (λ e. omega (arith, some-side a r)))
-      ∙ true-and _ _ (true-and _ _ (true-and _ _ (true-and _ _ side (flag 4 (a .extended) (unfold placeWords in r 4 (omega arith))))
+      ∙ true-and _ _ (true-and _ _ (true-and _ _ (true-and _ _ (true-and _ _ side (flag 4 (a .extended) (unfold placeWords in r 4 (omega arith))))
       (flag 5 (a .typed) (unfold placeWords in r 5 (omega arith)))) (flag 6 (a .keep) (unfold placeWords in r 6 (omega arith))))
-      (flag 7 (a .first) (unfold placeWords in r 7 (omega arith)))
+      (flag 7 (a .first) (unfold placeWords in r 7 (omega arith)))) (words-zero s (placeRowAt i + placeFields) placeSpare spare)
     where
+      spare : (j : ℕ) → j < placeSpare → nth s (placeRowAt i + placeFields + j) ≡ 0
+      spare j h =
+          let e : placeRowAt i + placeFields + j ≡ placeRowAt i + (placeFields + j) = omega arith in
+          let w : nth s (placeRowAt i + (placeFields + j)) ≡ getD (placeWords (some a)) (placeFields + j) 0 = unfold placeWord in r (placeFields + j) (omega arith) in
+          ap (nth s) e ∙ w ∙ spare-zero (some a) j h
+
       side : (eqb (sideAt s i) 1 && eqb (placeWord s i 1) 0 || eqb (sideAt s i) 2 && leb 1 (placeWord s i 1)) ≡ true
       side = side-ok (a .writer) (a .ident) (some-side a r) (unfold placeWords in r 1 (omega arith)) (S .reader) (S .writer)
 

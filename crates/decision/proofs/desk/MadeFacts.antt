@@ -10,13 +10,13 @@ use lib.Dec.{leb, eqb}
 use Rattle.rules.specs.Limits.{files, places}
 use Rattle.rules.specs.Geometry.{capacity}
 use Rattle.rules.proofs.Split.{by-cases, and-true, or-true, pass-true, pick-true, pick-false}
-use Rattle.segment.specs.Layout.{fileWidth, placeWidth, fileRowAt, placeRowAt}
+use Rattle.segment.specs.Layout.{fileWidth, placeFields, placeSpare, placeWidth, fileRowAt, placeRowAt}
 use Rattle.segment.specs.Table.{nth}
 use Rattle.shares.specs.Sound.{sound}
 use Rattle.laws.specs.Changes.{GoodGeo}
 use Rattle.memory.specs.Stands.{shareAt}
 use Rattle.accessors.specs.Sides.{countSide}
-use Rattle.sound.specs.Rows.{fileWord, placeWord, builtAt, geoAt, sideAt, goodPlace, placeOk, placesOk, unbuiltOk}
+use Rattle.sound.specs.Rows.{fileWord, placeWord, zeroWords, builtAt, geoAt, sideAt, goodPlace, placeOk, placesOk, unbuiltOk}
 use Rattle.sound.specs.Sound.{builtOk, fileOk, filesOk}
 use Rattle.sound.proofs.Geometries.{geo-good}
 use Rattle.decision.proofs.desk.Words.{zero-words}
@@ -86,11 +86,13 @@ pub record OpenRow (s : List ℕ) (i : ℕ) : Type 0 where
   pub typed : placeWord s i 5 ≤ 1
   pub keep : placeWord s i 6 ≤ 1
   pub first : placeWord s i 7 ≤ 1
+  pub spare : (j : ℕ) → j < placeSpare → nth s (placeRowAt i + placeFields + j) ≡ 0
 
-open-row : (s : List ℕ) (i : ℕ) → goodPlace s i ≡ true → OpenRow s i
+open-row : (s : List ℕ) (i : ℕ) → (goodPlace s i && zeroWords s (placeRowAt i + placeFields) placeSpare) ≡ true → OpenRow s i
 unfolding goodPlace
 open-row s i h =
-    let (r₁, first) = and-true _ _ h in
+    let (r₀, spare) = and-true _ _ h in
+    let (r₁, first) = and-true _ _ r₀ in
     let (r₂, keep) = and-true _ _ r₁ in
     let (r₃, typed) = and-true _ _ r₂ in
     let (side, extended) = and-true _ _ r₃ in
@@ -100,6 +102,7 @@ open-row s i h =
       typed = leb-true (placeWord s i 5) 1 typed;
       keep = leb-true (placeWord s i 6) 1 keep;
       first = leb-true (placeWord s i 7) 1 first;
+      spare = zero-words s (placeRowAt i + placeFields) placeSpare spare;
     }
   where
     sides : (eqb (sideAt s i) 1 && eqb (placeWord s i 1) 0 ≡ true) ⊎ (eqb (sideAt s i) 2 && leb 1 (placeWord s i 1) ≡ true)

@@ -140,7 +140,7 @@ module _ (s blocks bufs : List ℕ) (ls : List (List ℕ)) (size : length bufs �
           let u : placeIn s e ≡ places * f + placeIn s e % places = omega (arith, r .file) in
           omega (arith, ap (sideAt s) u, r .side, blank-at s blocks ok f h t .closed (placeIn s e % places) (omega arith) 0 (omega arith))
 
-  -- the 82 lists
+  -- all lists
   abbrev d : Desk
   d = deskFor s blocks bufs ls
 

@@ -1,8 +1,8 @@
 -- The rows of the desk that memories say are those of the memories.
 use Prim.Native.Nat.{ℕ, zero, suc, _+_, _*_, _/_, _≤_, _<_}
 use mathlib.Core.Bool.{true, false}
-use mathlib.Core.Path.{_≡_, refl, sym, ap, _∙_}
-use mathlib.Core.List.{List, [], _∷_}
+use mathlib.Core.Path.{_≡_, refl, sym, ap, ap₂, _∙_}
+use mathlib.Core.List.{List, [], _∷_, _++_}
 use mathlib.Core.Logic.{_⊎_, inl, inr}
 use mathlib.Core.Option.{none, some}
 use native.Mathlib.Omega.{arith}
@@ -17,8 +17,9 @@ use Rattle.rules.specs.State.{Built, unbuilt, built}
 use Rattle.rules.specs.Store.{used}
 use Rattle.rules.specs.Requests.{writers}
 use Rattle.rules.proofs.Split.{by-cases, pick-false}
-use Rattle.segment.specs.Layout.{fileWidth, placeWidth, fileRowAt, placeRowAt, rowCount, fileRow, placeRow, rowAt, rowWidth}
+use Rattle.segment.specs.Layout.{fileWidth, placeFields, placeSpare, placeWidth, fileRowAt, placeRowAt, rowCount, fileRow, placeRow, rowAt, rowWidth}
 use Rattle.segment.proofs.Apart.{words-file, words-place}
+use Rattle.segment.proofs.Rows.{row-join}
 use Rattle.segment.specs.Table.{row}
 use Rattle.shares.specs.Groups.{All}
 use Rattle.shares.specs.Laid.{GoodRec}
@@ -120,8 +121,11 @@ module _ (s blocks bufs : List ℕ) (ls : List (List ℕ)) (bytes : Bytes blocks
     some-row : (sideAt s i ≡ 0 → ⊥) → OpenRow s i → row s (placeRowAt i) placeWidth ≡ placeWords (accFor s bufs ls i)
     unfolding placeWords openFor placeWord sideAt
     some-row n o =
-        row-eight s (placeRowAt i) _ _ _ _ _ _ _ _ (side-word o) refl refl refl (sym (bit-word (placeWord s i 4) (o .extended))) (sym (bit-word (placeWord s i 5) (o .typed)))
-        (sym (bit-word (placeWord s i 6) (o .keep))) (sym (bit-word (placeWord s i 7) (o .first)))
+        row-join s (placeRowAt i) placeFields placeSpare
+        ∙ ap₂ {C = List ℕ} _++_
+        (row-eight s (placeRowAt i) _ _ _ _ _ _ _ _ (side-word o) refl refl refl (sym (bit-word (placeWord s i 4) (o .extended))) (sym (bit-word (placeWord s i 5) (o .typed)))
+        (sym (bit-word (placeWord s i 6) (o .keep))) (sym (bit-word (placeWord s i 7) (o .first))))
+        (row-is s (placeRowAt i + placeFields) placeSpare (replicate placeSpare 0) (length-replicate {A = ℕ} placeSpare 0) (λ j k. o .spare j k ∙ sym (none-at placeSpare j)))
         ∙ sym (ap placeWords (acc-some n))
 
     place-row : row s (placeRowAt i) placeWidth ≡ placeWords (accFor s bufs ls i)

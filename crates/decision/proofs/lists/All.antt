@@ -1,4 +1,4 @@
--- The walk of all 82 lists goes well exactly where its five stages do, each with the marks that those before it left.
+-- The walk of all lists goes well exactly where its five stages do, each with the marks that those before it left.
 use Prim.Native.Nat.{ℕ, _*_}
 use mathlib.Core.Bool.{true}
 use mathlib.Core.Path.{_≡_, refl, sym, ap, _∙_}

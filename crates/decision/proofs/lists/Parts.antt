@@ -1,4 +1,4 @@
--- The 82 lists by their parts: the free list, the read queues, the write queues, the reply ports, the timer list.
+-- All lists by their parts: the free list, the read queues, the write queues, the reply ports, the timer list.
 use Prim.Native.Nat.{ℕ, suc, _+_, _*_, _<_}
 use mathlib.Core.Path.{_≡_, refl, sym, ap, _∙_}
 use mathlib.Core.List.{List, [], _∷_, _++_, append-nil, append-assoc}
@@ -62,7 +62,7 @@ module _ (p : Parts) where
   unfolding whole
   past-queues k =
       behind (p .free ∷ p .reads) (p .writes ++ (p .ports ++ p .timers ∷ [])) writeQueues (files + k) (replyPort k) (ap suc (p .readSize)) (omega arith)
-      ∙ behind (p .writes) (p .ports ++ p .timers ∷ []) 8 k (8 + k) (p .writeSize) refl
+      ∙ behind (p .writes) (p .ports ++ p .timers ∷ []) files k (files + k) (p .writeSize) refl
 
   pub at-port : (i : ℕ) → i < files * places → getD (whole p) (replyPort i) [] ≡ getD (p .ports) i []
   at-port i h = past-queues i ∙ within (p .ports) (p .timers ∷ []) (files * places) i (p .portSize) h
@@ -85,7 +85,7 @@ flat-whole p =
       append-nil (p .timers),
     )
 
--- any 82 lists have these parts
+-- as many lists, whatever is in them, have these parts
 split-at : (n m : ℕ) (ls : List (List ℕ)) → length ls ≡ n + m → (xs : List (List ℕ)) × (ys : List (List ℕ)) × (length xs ≡ n) × (length ys ≡ m) × (xs ++ ys ≡ ls)
 split-at n m ls l = (take n ls, drop n ls, length-take-le n ls (omega arith), length-drop n ls ∙ omega arith, take-append-drop n ls)
 
@@ -98,8 +98,8 @@ parts-of fr rs ws ps ts ls ls1 ls2 ls3 l1 l2 l3 e1 e2 e3 e4 =
 pub split : (ls : List (List ℕ)) → length ls ≡ listCount → (p : Parts) × (whole p ≡ ls)
 split [] l = absurd (omega arith)
 split (fr ∷ ls) l =
-    let (rs, ls1, l1, m1, e1) = split-at 8 73 ls (omega arith) in
-    let (ws, ls2, l2, m2, e2) = split-at 8 65 ls1 m1 in
+    let (rs, ls1, l1, m1, e1) = split-at files (files + (deskPlaces + 1)) ls (omega arith) in
+    let (ws, ls2, l2, m2, e2) = split-at files (deskPlaces + 1) ls1 m1 in
     let (ps, ls3, l3, m3, e3) = split-at deskPlaces 1 ls2 m2 in
     let (ts, e4) = single ls3 m3 in parts-of fr rs ws ps ts ls ls1 ls2 ls3 l1 l2 l3 e1 e2 e3 e4
   where

@@ -50,7 +50,7 @@ refuse-requires c κs =
       (
         _,
         _,
-        (sound-stands _ _ _ (λ i. slice-known .given i .fits) (λ i. slice-known2 .given i .fits)
+        (sound-stands _ (λ i. slice-known .given i .fits) (λ i. slice-known2 .given i .fits)
             (λ i. slice-known3 .given i .fits) (sym (sound .ensures) ∙ not-false _ (if2 .left))),
       ),
       omega (arith, if1 .left),
@@ -96,7 +96,7 @@ judge-requires c κs =
     let here : tie.After-slice-known = search in let slice-known = here .slice-known in (
       _,
       _,
-      (sound-stands _ _ _ (λ i. slice-known .given i .fits) (λ i. slice-known2 .given i .fits)
+      (sound-stands _ (λ i. slice-known .given i .fits) (λ i. slice-known2 .given i .fits)
           (λ i. slice-known3 .given i .fits) (sym (sound .ensures) ∙ not-false _ (if2 .left))),
     )
 
@@ -158,7 +158,7 @@ serve-requires c κs =
     let here : tie.After-slice-known2 = search in let slice-known2 = here .slice-known2 in
     let here : tie.After-slice-known = search in let slice-known = here .slice-known in (
       (
-        (sound-stands _ _ _ (λ i. slice-known .given i .fits) (λ i. slice-known2 .given i .fits)
+        (sound-stands _ (λ i. slice-known .given i .fits) (λ i. slice-known2 .given i .fits)
             (λ i. slice-known3 .given i .fits) (sym (sound .ensures) ∙ not-false _ (if2 .left))),
         if1 .left,
         (sym (decode .ensures) ∙ said .given .1),

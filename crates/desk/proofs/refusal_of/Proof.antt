@@ -25,7 +25,7 @@ number-of-requires c κs =
     let here : tie.After-shared-slice-known3 = search in let known3 = here .shared-slice-known3 in
     let here : tie.After-shared-slice-known2 = search in let known2 = here .shared-slice-known2 in
     let here : tie.After-shared-slice-known = search in let known = here .shared-slice-known in
-    (_, _, sound-stands _ _ _ (λ i. known .given i .fits) (λ i. known2 .given i .fits) (λ i. known3 .given i .fits) (sym (sound .ensures) ∙ not-false _ (if1 .left)))
+    (_, _, sound-stands _ (λ i. known .given i .fits) (λ i. known2 .given i .fits) (λ i. known3 .given i .fits) (sym (sound .ensures) ∙ not-false _ (if1 .left)))
 
 returns-2 : tie.Need-returns-2
 returns-2 c =

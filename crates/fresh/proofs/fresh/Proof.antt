@@ -7,15 +7,15 @@ use Rattle.fresh.proofs.fresh.Tie as tie
 
 returns : tie.Need-returns
 unfolding unmade
-returns c = no-segment _ _ _ (c .if1 .taken)
+returns c = no-segment _ (c .if1 .taken)
 
 returns-2 : tie.Need-returns-2
 unfolding unmade
-returns-2 c = no-blocks _ _ _ (c .before .if1 .left) (c .if2 .taken)
+returns-2 c = no-blocks _ (c .before .if1 .left) (c .if2 .taken)
 
 returns-3 : tie.Need-returns-3
 unfolding unmade
-returns-3 c = no-buffers _ _ _ (c .before .before .if1 .left) (c .before .if2 .left) (c .if3 .taken)
+returns-3 c = no-buffers _ (c .before .before .if1 .left) (c .before .if2 .left) (c .if3 .taken)
 
 fresh-segment-requires : tie.Need-fresh-segment-requires
 fresh-segment-requires c κs = search needs
@@ -42,7 +42,7 @@ returns-4 c =
     let here : tie.Else3 = search in let if3 = here .if3 in
     let here : tie.Else2 = search in let if2 = here .if2 in
     let here : tie.Else1 = search in let if1 = here .if1 in
-    makes _ _ _ _ _ _ (if1 .left) (if2 .left) (if3 .left) (fresh-segment .ensures) (zero .ensures)
+    makes _ (if1 .left) (if2 .left) _ _ _ (if3 .left) (fresh-segment .ensures) (zero .ensures)
     (c .before .before .zero2 .ensures)
 
 pub fresh-spec : {M : Type 1} → statement M

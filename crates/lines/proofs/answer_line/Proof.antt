@@ -67,7 +67,7 @@ returns c =
     let here : tie.After-decode = search in let decode = here .decode in
     let fits = event .ensures .1 in (
       (omega (arith, line .ensures .0), omega (arith, line .ensures .0, fits)),
-      line-asked _ _ _ _ _ _ _ _ _ _ _ _ _ _ (event .ensures .0)
+      line-asked _ _ _ _ _ _ _ _ _ _ (event .ensures .0)
           (frame-decoded _ _ _ _ (decode .ensures .0) (decode .ensures .1 .0) (decode .ensures .1 .1))
           (line .ensures .1) (omega (arith, line .ensures .0, fits)),
     )

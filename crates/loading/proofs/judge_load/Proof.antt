@@ -10,21 +10,21 @@ sound-requires : tie.Need-sound-requires
 sound-requires c κs = search needs
 
 returns : tie.Need-returns
-returns c = judges-unsound _ _ _ _ _ (sym (c .before .sound .ensures) ∙ not-true _ (c .if1 .taken))
+returns c = judges-unsound _ _ _ (sym (c .before .sound .ensures) ∙ not-true _ (c .if1 .taken))
 
 returns-2 : tie.Need-returns-2
-returns-2 c = judges-high _ _ _ _ _ (sym (c .before .before .sound .ensures) ∙ not-false _ (c .before .if1 .left)) (c .if2 .taken)
+returns-2 c = judges-high _ _ _ (sym (c .before .before .sound .ensures) ∙ not-false _ (c .before .if1 .left)) (c .if2 .taken)
 
 words-of-requires : tie.Need-words-of-requires
 words-of-requires c κs =
     let start : tie.Start = search in
-    sound-size _ _ _ (start .args .file) (start .args .text .now)
+    sound-size _ (start .args .file) (start .args .text .now)
     (sym (c .before .before .sound .ensures) ∙ not-false _ (c .before .if1 .left))
 
 returns-3 : tie.Need-returns-3
 returns-3 c =
     let here : tie.After-sound = search in let sound = here .sound in
-    judges-built _ _ _ _ _ (sym (sound .ensures) ∙ not-false _ (c .before .before .before .if1 .left))
+    judges-built _ _ _ (sym (sound .ensures) ∙ not-false _ (c .before .before .before .if1 .left))
     (omega (arith, c .before .before .if2 .left)) _ (c .before .words-of .ensures) (c .if3 .taken)
 
 is-sheet-requires : tie.Need-is-sheet-requires
@@ -35,7 +35,7 @@ returns-4 c =
     let here : tie.Else2 = search in let if2 = here .if2 in
     let here : tie.Else1 = search in let if1 = here .if1 in
     let here : tie.After-sound = search in let sound = here .sound in
-    judges-text _ _ _ _ _ (sym (sound .ensures) ∙ not-false _ (if1 .left)) (omega (arith, if2 .left)) _
+    judges-text _ _ _ (sym (sound .ensures) ∙ not-false _ (if1 .left)) (omega (arith, if2 .left)) _
     (c .before .before .before .words-of .ensures) _ (c .before .is-sheet .ensures) (not-true _ (c .if4 .taken))
     (c .before .before .if3 .left)
 
@@ -44,7 +44,7 @@ returns-5 c =
     let here : tie.Else2 = search in let if2 = here .if2 in
     let here : tie.Else1 = search in let if1 = here .if1 in
     let here : tie.After-sound = search in let sound = here .sound in
-    judges-done _ _ _ _ _ (sym (sound .ensures) ∙ not-false _ (if1 .left)) (omega (arith, if2 .left)) _
+    judges-done _ _ _ (sym (sound .ensures) ∙ not-false _ (if1 .left)) (omega (arith, if2 .left)) _
     (c .before .before .before .words-of .ensures) _ (c .before .is-sheet .ensures) (not-false _ (c .if4 .left))
     (c .before .before .if3 .left)
 

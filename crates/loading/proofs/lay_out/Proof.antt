@@ -32,7 +32,7 @@ returns c =
     let here : tie.After-zero = search in let zero = here .zero in
     let here : tie.After-pack = search in let pack = here .pack in
     λ s e.
-    lays _ s _ _ _ _ _ _ _ (pack .ensures s e .0) (c .before .before .put-file .ensures) (pack .ensures s e .1)
+    lays _ s _ _ _ (pack .ensures s e .0) (c .before .before .put-file .ensures) (pack .ensures s e .1)
     (zero .ensures)
 
 pub lay-out-spec : {M : Type 1} → statement M

@@ -17,7 +17,7 @@ same-length-3 : tie.Need-same-length-3
 same-length-3 c = search needs
 
 returns : tie.Need-returns
-returns c = refused-load _ _ _ _ _ _ (c .before .judge-load .ensures) (c .if1 .taken)
+returns c = refused-load _ _ _ _ (c .before .judge-load .ensures) (c .if1 .taken)
 
 lay-out-requires : tie.Need-lay-out-requires
 unfolding Bytes
@@ -26,8 +26,8 @@ lay-out-requires c κs =
     let here : tie.After-slice-known3 = search in let slice-known3 = here .slice-known3 in
     let here : tie.After-slice-known2 = search in let slice-known2 = here .slice-known2 in
     let here : tie.After-slice-known = search in let slice-known = here .slice-known in
-    let j = judges-zero _ _ _ _ _ _ (c .before .before .before .if1 .left) (judge-load .ensures) in
-    done-asks _ _ _ _ _ (λ i. slice-known .given i .fits) (λ i. slice-known2 .given i .fits)
+    let j = judges-zero _ _ _ _ (c .before .before .before .if1 .left) (judge-load .ensures) in
+    done-asks _ _ _ (λ i. slice-known .given i .fits) (λ i. slice-known2 .given i .fits)
     (λ i. slice-known3 .given i .fits) j
 
 same-length-4 : tie.Need-same-length-4
@@ -46,9 +46,9 @@ returns-2 c =
     let here : tie.After-lay-out = search in let lay-out = here .lay-out in
     let here : tie.Else1 = search in let if1 = here .if1 in
     let here : tie.After-judge-load = search in let judge-load = here .judge-load in
-    let j = judges-zero _ _ _ _ _ _ (if1 .left) (judge-load .ensures) in
+    let j = judges-zero _ _ _ _ (if1 .left) (judge-load .ensures) in
     let h = lay-out .ensures in
-    done-load _ _ _ _ _ j _ _ _ h (λ i. slice-known4 .given i .fits)
+    done-load _ _ _ j _ h (λ i. slice-known4 .given i .fits)
     (λ i. c .before .before .slice-known5 .given i .fits) (λ i. c .slice-known6 .given i .fits)
 
 pub load-spec : {M : Type 1} → statement M

@@ -14,12 +14,12 @@ part-requires c κs = c .shown .ensures .0
 returns : tie.Need-returns
 unfolding Bytes
 returns c =
-    let g = given _ _ _ _ _ _ (c .before .shown .ensures .1) _ (c .part .ensures) in
+    let g = given _ _ _ _ (c .before .shown .ensures .1) _ (c .part .ensures) in
     let known = c .before .before in (
       g .0,
       (
         g .1,
-        short _ _ _ (λ i. known .before .before .shared-slice-known .given i .fits)
+        short _ (λ i. known .before .before .shared-slice-known .given i .fits)
             (λ i. known .before .shared-slice-known2 .given i .fits) (λ i. known .shared-slice-known3 .given i .fits)
             _ _ _ (g .1),
       ),

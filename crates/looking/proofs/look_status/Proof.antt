@@ -10,7 +10,7 @@ status-requires : tie.Need-status-requires
 status-requires c κs = search needs
 
 returns : tie.Need-returns
-returns c = said _ _ _ _ _ _ (c .before .shown .ensures .1) _ (c .status .ensures)
+returns c = said _ _ _ _ (c .before .shown .ensures .1) _ (c .status .ensures)
 
 pub look-status-spec : {M : Type 1} → statement M
 look-status-spec = tie.close (tie.spec shown-requires status-requires returns)

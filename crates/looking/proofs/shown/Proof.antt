@@ -13,13 +13,13 @@ sound-requires c κs = search needs
 
 returns : tie.Need-returns
 unfolding Inside
-returns c = (tt, unsound-shows _ _ _ _ _ (sym (c .before .sound .ensures) ∙ not-true _ (c .if1 .taken)))
+returns c = (tt, unsound-shows _ _ _ (sym (c .before .sound .ensures) ∙ not-true _ (c .if1 .taken)))
 
 find-requires : tie.Need-find-requires
 unfolding Bytes
 find-requires c κs =
     let here : tie.After-shared-slice-known = search in let shared-slice-known = here .shared-slice-known in
-    sound-stood _ _ _ (λ i. shared-slice-known .given i .fits)
+    sound-stood _ (λ i. shared-slice-known .given i .fits)
     (λ i. c .before .before .before .shared-slice-known2 .given i .fits)
     (λ i. c .before .before .shared-slice-known3 .given i .fits)
     (sym (c .before .sound .ensures) ∙ not-false _ (c .if1 .left))
@@ -29,10 +29,10 @@ unfolding Bytes
 returns-2 c =
     let here : tie.After-shared-slice-known2 = search in let shared-slice-known2 = here .shared-slice-known2 in
     let here : tie.After-shared-slice-known = search in let shared-slice-known = here .shared-slice-known in (
-      sound-inside _ _ _ _ _ (λ i. shared-slice-known .given i .fits) (λ i. shared-slice-known2 .given i .fits)
+      sound-inside _ _ _ (λ i. shared-slice-known .given i .fits) (λ i. shared-slice-known2 .given i .fits)
           (λ i. c .before .before .before .shared-slice-known3 .given i .fits)
           (sym (c .before .before .sound .ensures) ∙ not-false _ (c .before .if1 .left)) _ (c .find .ensures),
-      sound-shows _ _ _ _ _ (λ i. shared-slice-known .given i .fits) (λ i. shared-slice-known2 .given i .fits)
+      sound-shows _ _ _ (λ i. shared-slice-known .given i .fits) (λ i. shared-slice-known2 .given i .fits)
           (λ i. c .before .before .before .shared-slice-known3 .given i .fits)
           (sym (c .before .before .sound .ensures) ∙ not-false _ (c .before .if1 .left)) _ (c .find .ensures),
     )

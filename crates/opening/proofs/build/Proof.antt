@@ -55,7 +55,7 @@ returns c =
     let here : tie.After-clear = search in let clear = here .clear in
     let here : tie.After-data-blocks = search in let data-blocks = here .data-blocks in
     let start : tie.Start = search in
-    build-done _ _ _ _ _ (start .pre) _ _ _ _ _ (data-blocks .ensures .0) (c .capacity .ensures)
+    build-done _ _ _ _ _ (start .pre) _ _ _ (data-blocks .ensures .0) (c .capacity .ensures)
     (c .before .before .before .write-file .ensures) (clear .ensures) (zero .ensures)
     (unfold Bytes in λ i. c .before .slice-known6 .given i .fits)
     (unfold Bytes in λ i. slice-known4 .given i .fits) (unfold Bytes in λ i. slice-known5 .given i .fits)

@@ -4,8 +4,8 @@ use borrow.Author.Needs.{needs}
 use Rattle.opening.proofs.open.Statement.{statement}
 use Rattle.opening.proofs.open.Tie as tie
 
-share-of-requires : tie.Need-share-of-requires
-share-of-requires c κs = search needs
+sharing-of-requires : tie.Need-sharing-of-requires
+sharing-of-requires c κs = search needs
 
 open-reader-requires : tie.Need-open-reader-requires
 open-reader-requires c κs =
@@ -25,9 +25,9 @@ returns : tie.Need-returns
 returns c =
     let here : tie.After-open-reader = search in let open-reader = here .open-reader in
     let here : tie.Then1 = search in let if1 = here .if1 in
-    let here : tie.After-share-of = search in let share-of = here .share-of in
+    let here : tie.After-sharing-of = search in let sharing-of = here .sharing-of in
     let start : tie.Start = search in
-    reader-brings _ _ _ _ (start .pre) _ (share-of .ensures) _ _ _ _ (if1 .taken) (open-reader .ensures)
+    reader-brings _ _ _ _ (start .pre) _ (sharing-of .ensures) _ _ (if1 .taken) (open-reader .ensures)
 
 open-writer-requires : tie.Need-open-writer-requires
 open-writer-requires c κs =
@@ -47,15 +47,15 @@ returns-2 : tie.Need-returns-2
 returns-2 c =
     let here : tie.After-open-writer = search in let open-writer = here .open-writer in
     let here : tie.Else1 = search in let if1 = here .if1 in
-    let here : tie.After-share-of = search in let share-of = here .share-of in
+    let here : tie.After-sharing-of = search in let sharing-of = here .sharing-of in
     let start : tie.Start = search in
-    writer-brings _ _ _ _ (start .pre) _ (share-of .ensures) _ _ _ _ (if1 .left) (open-writer .ensures)
+    writer-brings _ _ _ _ (start .pre) _ (sharing-of .ensures) _ _ (if1 .left) (open-writer .ensures)
 
 pub open-spec : {M : Type 1} → statement M
 open-spec =
     tie.close
     (tie.spec
-    share-of-requires
+    sharing-of-requires
     open-reader-requires
     same-length
     same-length-2

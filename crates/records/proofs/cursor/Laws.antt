@@ -6,7 +6,7 @@ use native.Mathlib.Omega.{arith}
 use native.Mathlib.Numerals.{add-one}
 use lib.Dec.{leb}
 use lib.ListN.{length, take, drop}
-use borrow.Author.Tests.{le-leb, lt-leb, leb-false}
+use borrow.Author.Tests.{le-leb, lt-leb, leb-true, leb-false}
 use Rattle.words.specs.Word.{wordAt}
 use Rattle.rules.specs.Limits.{shareBytes}
 use Rattle.rules.specs.State.{Rec, Geo, Store}
@@ -15,6 +15,7 @@ use Rattle.rules.proofs.Split.{by-cases, pick-true, pick-false}
 use Rattle.shares.specs.Back.{recAt, next, ringRecs, readBack}
 use Rattle.shares.specs.Places.{skip, placeIn, headAt}
 use Rattle.shares.proofs.Image.{recordWords-least}
+use Rattle.shares.proofs.Says.{spent-empty}
 use Rattle.shares.proofs.Places.{Whole, headAt-stands, headAt-read, headAt-full}
 use Rattle.ring.specs.declared.Ring.{Ring}
 use Rattle.ring.specs.declared.layout.Span.{Span}
@@ -24,7 +25,7 @@ use Rattle.ring.proofs.Laws.{advanced-inside}
 use Rattle.ring.proofs.Held.{own, held-long, held-ranged, held-recs, held-advanced, held-rest}
 use Rattle.records.specs.declared.cursor.Cursor.{Cursor}
 use Rattle.records.specs.Reading.{Readable}
-use Rattle.records.specs.Cursor.{headPlace, heldRecs, Stands}
+use Rattle.records.specs.Cursor.{headPlace, heldRecs, Behind, Stands}
 use Rattle.records.proofs.reading.Stores.{readable-head}
 
 -- Skip.
@@ -40,6 +41,10 @@ pub skip-stop : (xs : List ℕ) (e p n : ℕ) → 0 < n → e < p + 6 → skip x
 unfolding skip
 skip-stop xs e p zero o h = absurd (omega arith)
 skip-stop xs e p (suc n) o h = pick-false (leb (p + 6) e) (skip xs e (next xs p) n) e (lt-leb (p + 6) e h)
+
+-- a record's head that stands n records on has one before it at each step
+pub skip-within : (xs : List ℕ) (e p n : ℕ) → 0 < n → skip xs e p n + 6 ≤ e → p + 6 ≤ e
+skip-within xs e p n o h = by-cases (leb (p + 6) e) (λ t. leb-true (p + 6) e t) (λ t. absurd (omega (arith, skip-stop xs e p n o (leb-false (p + 6) e t))))
 
 pub skip-end : (xs : List ℕ) (e p n : ℕ) → n ≤ 0 → skip xs e p n ≡ p
 unfolding skip
@@ -93,6 +98,15 @@ module _ (w : ℕ) (r : Ring) (xs : List ℕ) (h : Held w r xs) where
   head-inside q rest e =
       own w r xs h (λ (t : Ring) (ys : List ℕ). placeIn g ys (t .block) (t .spent) + 6 ≤ t .block * blockBytes g + blockBytes g)
       (omega (arith, headAt-stands g s q rest (h .fitted .sized) (h .holds) e .1, recordWords-least q))
+
+  -- those of its block that are spent are passed one by one
+  pub head-behind : (b : Span) → b ≡ spanOf g (r .block) → Behind xs (b .at + b .size) (b .at + 4) (r .spent)
+  unfolding placeIn
+  head-behind b e o = rw e (held-on-spent (s .recs) refl)
+    where
+      held-on-spent : (l : List Rec) → s .recs ≡ l → headPlace w r xs + 6 ≤ r .block * blockBytes g + blockBytes g
+      held-on-spent [] n = absurd (omega (arith, spent-empty g s (h .holds) n, ap (λ (t : Ring). t .spent) (h .ring)))
+      held-on-spent (q ∷ rest) n = head-inside q rest n
 
   -- all records of its block being of the full size
   pub stands-full : (b : Span) → b ≡ spanOf g (r .block) → wordAt xs (b .at + 2) ≡ 2 + wordAt xs (b .at) * (w + 3) → (p : ℕ) → p ≡ b .at + 4 + r .spent * (6 + 2 * w)

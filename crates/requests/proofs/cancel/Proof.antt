@@ -4,8 +4,8 @@ use borrow.Author.Needs.{needs}
 use Rattle.requests.proofs.cancel.Statement.{statement}
 use Rattle.requests.proofs.cancel.Tie as tie
 
-take-out-requires : tie.Need-take-out-requires
-take-out-requires c κs = search needs
+unlink-at-requires : tie.Need-unlink-at-requires
+unlink-at-requires c κs = search needs
 
 disarm-requires : tie.Need-disarm-requires
 disarm-requires c κs = search needs
@@ -20,10 +20,10 @@ returns : tie.Need-returns
 unfolding cancelled
 returns c =
     let here : tie.After-disarm = search in let disarm = here .disarm in
-    let here : tie.After-take-out = search in let take-out = here .take-out in
-    rw (c .before .before .release-entry .ensures, disarm .ensures, take-out .ensures .1, take-out .ensures .0)
+    let here : tie.After-unlink-at = search in let unlink-at = here .unlink-at in
+    rw (c .before .before .release-entry .ensures, disarm .ensures, unlink-at .ensures .1, unlink-at .ensures .0)
 
 pub cancel-spec : {M : Type 1} → statement M
 cancel-spec =
     tie.close
-    (tie.spec take-out-requires disarm-requires release-entry-requires same-length returns)
+    (tie.spec unlink-at-requires disarm-requires release-entry-requires same-length returns)

@@ -27,7 +27,7 @@ unfolding Bytes
 words-of-requires c κs =
     let here : tie.After-shared-slice-known2 = search in let shared-slice-known2 = here .shared-slice-known2 in
     let here : tie.After-shared-slice-known = search in let shared-slice-known = here .shared-slice-known in
-    let (d, s, S) = sound-stands _ _ _ (λ i. shared-slice-known .given i .fits)
+    let (d, s, S) = sound-stands _ (λ i. shared-slice-known .given i .fits)
     (λ i. shared-slice-known2 .given i .fits)
     (λ i. c .before .before .before .shared-slice-known3 .given i .fits)
     (sym (c .before .sound .ensures) ∙ not-false _ (c .if1 .left)) in
@@ -53,7 +53,7 @@ save-file-requires c κs =
     let here : tie.After-shared-slice-known3 = search in let shared-slice-known3 = here .shared-slice-known3 in
     let here : tie.After-shared-slice-known2 = search in let shared-slice-known2 = here .shared-slice-known2 in
     let here : tie.After-shared-slice-known = search in let shared-slice-known = here .shared-slice-known in
-    let (d, s, S) = sound-stands _ _ _ (λ i. shared-slice-known .given i .fits)
+    let (d, s, S) = sound-stands _ (λ i. shared-slice-known .given i .fits)
     (λ i. shared-slice-known2 .given i .fits) (λ i. shared-slice-known3 .given i .fits)
     (sym (sound .ensures) ∙ not-false _ (c .before .before .before .if1 .left)) in
     save-stands _ _ (c .before .before .words-of .ensures) (c .before .if2 .left) S

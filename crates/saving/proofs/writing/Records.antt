@@ -28,8 +28,11 @@ frame-length : (xs : List ℕ) (p : ℕ) → Readable xs p → length (recFrame 
 unfolding recFrame recAt
 frame-length xs p h = omega (arith, h .low, h .inside, length-take (wordAt xs p - 4) (drop (p + 6) xs))
 
--- the first line
-head-line : (w : ℕ) (r : Ring) → length (lineOf (headFrame (geo w r) (r .held))) ≡ 17
+-- the first line: a frame of eight bytes, two digits each, and LF
+abbrev headLine : ℕ
+headLine = 2 * 8 + 1
+
+head-line : (w : ℕ) (r : Ring) → length (lineOf (headFrame (geo w r) (r .held))) ≡ headLine
 unfolding headFrame
 head-line w r = length-line (headFrame (geo w r) (r .held))
 
@@ -41,7 +44,7 @@ lines w xs r = recLines (heldRecs w r xs)
 pub record Measured (w : ℕ) (xs : List ℕ) (r : Ring) (c : Cursor) (total : ℕ) : Type 0 where
   pub stands : Stands w xs c
   pub few : c .ring .held ≤ r .held
-  pub low : total ≤ 17 + (2 * shareBytes + 1) * (r .held - c .ring .held)
+  pub low : total ≤ headLine + (2 * shareBytes + 1) * (r .held - c .ring .held)
   pub same : total + length (lines w xs (c .ring)) ≡ length (sheetOf w r xs)
 
 -- and from `used` on the output, which was out₀, waits for the rest
@@ -59,13 +62,13 @@ module _ (w : ℕ) (r : Ring) (xs : List ℕ) (H : Held w r xs) where
   unfolding sheet
   sheet-lines = ap (λ (n : ℕ). lineOf (headFrame (geo w r) n) ++ recLines (heldRecs w r xs)) held-length
 
-  sheet-length : length (sheetOf w r xs) ≡ 17 + length (recLines (heldRecs w r xs))
+  sheet-length : length (sheetOf w r xs) ≡ headLine + length (recLines (heldRecs w r xs))
   sheet-length = ap length sheet-lines ∙ omega (arith, length-append (lineOf (headFrame (geo w r) (r .held))) (recLines (heldRecs w r xs)), head-line w r)
 
   -- The sheet: its first line, its frame h being as the code has it, then the records.
 
   module _ (h : List ℕ) (e : h ≡ headFrame (geo w r) (r .held)) (out : List ℕ) (room : length (sheetOf w r xs) ≤ length out) where
-    first-long : length (lineOf h) ≡ 17
+    first-long : length (lineOf h) ≡ headLine
     first-long = ap (λ (x : List ℕ). length (lineOf x)) e ∙ head-line w r
 
     pub first-room : 0 + (2 * length h + 1) ≤ length out
@@ -89,7 +92,7 @@ unfolding recLines
 lines-none w xs r l = ap recLines (recs-none w r xs l)
 
 module _ (w : ℕ) (xs : List ℕ) (c : Cursor) (S : Stands w xs c) where
-  pub measured-start : Measured w xs (c .ring) c 17
+  pub measured-start : Measured w xs (c .ring) c headLine
   measured-start = record { stands = S; few = omega arith; low = omega arith; same = sym (sheet-length w (c .ring) xs (S .held)) }
 
   pub written-start : (from : ℕ) (out : List ℕ) → from + length (lines w xs (c .ring)) ≤ length out → Written w xs (c .ring) from out c from out

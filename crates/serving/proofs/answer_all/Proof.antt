@@ -7,6 +7,7 @@ use Prim.Native.Nat.{_≤_}
 use lib.ListN.{length}
 use Rattle.rules.specs.Desk.{Desk}
 use Rattle.rules.specs.Allocation.{Alloc}
+use Rattle.memory.specs.Memories.{memories}
 use Rattle.memory.specs.Fine.{StandsFor}
 use Rattle.serving.specs.Going.{mostHeld, begun}
 use Rattle.serving.specs.Served.{Turned, Kept}
@@ -24,14 +25,14 @@ Inv-loop segment₀ blocks₀ buffers₀ line₀ out₀ chunk₀ aloud held₀ r
     × (length out ≡ length out₀)
     × (length chunk ≡ length chunk₀)
     × (held ≤ mostHeld)
-    × ((d : Desk) (s : Alloc) → StandsFor segment₀ blocks₀ buffers₀ d s → Turned (begun d s) segment blocks buffers line out held true)
-    × Kept segment₀ blocks₀ buffers₀ segment blocks buffers
+    × ((d : Desk) (s : Alloc) → StandsFor (memories segment₀ blocks₀ buffers₀) d s → Turned (begun d s) (memories segment blocks buffers) line out held true)
+    × Kept (memories segment₀ blocks₀ buffers₀) (memories segment blocks buffers)
 
 abbrev μ-loop : tie.MeasureT-loop
 μ-loop segment₀ blocks₀ buffers₀ line₀ out₀ chunk₀ aloud held₀ reads₀ segment blocks buffers line out chunk held reads = reads
 
 loop-holds : tie.Need-loop-holds Inv-loop μ-loop
-loop-holds c = (refl, refl, refl, refl, refl, refl, search needs, (λ d s h. turned-none d s _ _ _ _ _ h), λ _. (refl, refl, refl))
+loop-holds c = (refl, refl, refl, refl, refl, refl, search needs, (λ d s h. turned-none d s _ _ _ h), λ _. refl)
 
 answer-read-requires : tie.Need-answer-read-requires Inv-loop μ-loop
 answer-read-requires c κs = search needs
@@ -60,9 +61,9 @@ returns c =
     let here : tie.At-loop Inv-loop μ-loop = search in let loop = here .loop in (
       (λ d s h.
           let t = loop .inv .7 d s h in
-          let u = turned-on (begun d s) _ _ _ _ _ _ _ _ _ _ _ _ _ t (answer-read .ensures .1 .0 _ (t .on refl)) in
+          let u = turned-on (begun d s) _ _ _ _ _ _ _ _ _ t (answer-read .ensures .1 .0 _ (t .on refl)) in
           (u .text, u .stands)),
-      kept-on _ _ _ _ _ _ _ _ _ (loop .inv .8) (answer-read .ensures .1 .1),
+      kept-on _ _ _ (loop .inv .8) (answer-read .ensures .1 .1),
     )
 
 sub-reads : tie.Need-sub-reads Inv-loop μ-loop
@@ -84,9 +85,9 @@ loop-again c =
       omega (arith, answer-read .ensures .0),
       (λ d s h.
           let t = loop .inv .7 d s h in
-          let u = turned-on (begun d s) _ _ _ _ _ _ _ _ _ _ _ _ _ t (answer-read .ensures .1 .0 _ (t .on refl)) in
+          let u = turned-on (begun d s) _ _ _ _ _ _ _ _ _ t (answer-read .ensures .1 .0 _ (t .on refl)) in
           record { text = u .text; stands = u .stands; on = λ _. u .on (not-false _ (c .if1 .left)) }),
-      kept-on _ _ _ _ _ _ _ _ _ (loop .inv .8) (answer-read .ensures .1 .1),
+      kept-on _ _ _ (loop .inv .8) (answer-read .ensures .1 .1),
     )
 
 same-length-7 : tie.Need-same-length-7 Inv-loop μ-loop

@@ -12,6 +12,7 @@ use Rattle.serving.proofs.Steps.{piece-at, chunk-at}
 use Rattle.serving.proofs.Turns.{at-behind}
 use Rattle.serving.proofs.answer_chunk.Statement.{statement}
 use Rattle.serving.proofs.answer_chunk.Tie as tie
+use Rattle.memory.specs.Memories.{memories}
 
 abbrev Inv-loop : tie.InvT-loop
 Inv-loop segment₀ blocks₀ buffers₀ line₀ out₀ chunk before aloud held₀ at₀ segment blocks buffers line out held at =
@@ -23,9 +24,9 @@ Inv-loop segment₀ blocks₀ buffers₀ line₀ out₀ chunk before aloud held�
     × (length out ≡ length out₀)
     × (held ≤ mostHeld)
     × ((g : Going)
-    → At (written g) segment₀ blocks₀ buffers₀ line₀ out₀ before 0
-    → At (written (goes g (take at chunk))) segment blocks buffers line out held 0)
-    × Kept segment₀ blocks₀ buffers₀ segment blocks buffers
+    → At (written g) (memories segment₀ blocks₀ buffers₀) line₀ out₀ before 0
+    → At (written (goes g (take at chunk))) (memories segment blocks buffers) line out held 0)
+    × Kept (memories segment₀ blocks₀ buffers₀) (memories segment blocks buffers)
 
 abbrev μ-loop : tie.MeasureT-loop
 μ-loop segment₀ blocks₀ buffers₀ line₀ out₀ chunk before aloud held₀ at₀ segment blocks buffers line out held at = length chunk - at
@@ -86,10 +87,10 @@ returns c =
         (λ g a e. absurd (true≢false (sym e ∙ c .last .ensures .1))),
         (
           (λ g a.
-              at-behind g _ _ _ _ _ _ _ _
-              (piece-at g (start .args .chunk .now) _ _ _ _ _ (loop .at) (feed .result .taken) _ _
+              at-behind g _ _ _ _ _ _
+              (piece-at g (start .args .chunk .now) _ _ _ (loop .at) (feed .result .taken) _ _
               (feed .ensures .1 .1 .0 _ (loop .inv .7 g a)))),
-          kept-on _ _ _ _ _ _ _ _ _ (loop .inv .8) (feed .ensures .1 .1 .1),
+          kept-on _ _ _ (loop .inv .8) (feed .ensures .1 .1 .1),
         ),
       ),
     )
@@ -132,9 +133,9 @@ loop-again c =
       search needs,
       feed .ensures .0 .1,
       (λ g a.
-          piece-at g (start .args .chunk .now) _ _ _ _ _ (loop .at) (feed .result .taken) _ _
+          piece-at g (start .args .chunk .now) _ _ _ (loop .at) (feed .result .taken) _ _
           (feed .ensures .1 .1 .0 _ (loop .inv .7 g a))),
-      kept-on _ _ _ _ _ _ _ _ _ (loop .inv .8) (feed .ensures .1 .1 .1),
+      kept-on _ _ _ (loop .inv .8) (feed .ensures .1 .1 .1),
     )
 
 same-length-6 : tie.Need-same-length-6 Inv-loop μ-loop
@@ -156,8 +157,8 @@ returns-2 : tie.Need-returns-2 Inv-loop μ-loop
 returns-2 c = (
   c .before .loop .inv .6,
   (
-    (λ g a e. chunk-at g _ _ _ _ _ _ _ _ _ (c .loop-test .left) (c .before .loop .inv .7 g a)),
-    ((λ g a. at-behind g _ _ _ _ _ _ _ _ (c .before .loop .inv .7 g a)), c .before .loop .inv .8),
+    (λ g a e. chunk-at g _ _ _ _ _ _ _ (c .loop-test .left) (c .before .loop .inv .7 g a)),
+    ((λ g a. at-behind g _ _ _ _ _ _ (c .before .loop .inv .7 g a)), c .before .loop .inv .8),
   ),
 )
 

@@ -19,8 +19,8 @@ returns : tie.Need-returns
 returns c = (
   omega (arith, c .last .ensures .0),
   (
-    (λ g a. turned-last g _ _ _ _ _ _ _ (c .last .ensures .1) (failed-behind g _ _ _ _ _ _ _ a)),
-    λ _. (refl, refl, refl),
+    (λ g a. turned-last g _ _ _ _ _ (c .last .ensures .1) (failed-behind g _ _ _ _ _ a)),
+    λ _. refl,
   ),
 )
 
@@ -66,7 +66,7 @@ returns-2 c =
       omega (arith, c .last2 .ensures .0),
       (
         (λ g a.
-            turned-last g _ _ _ _ _ _ _ (c .last2 .ensures .1) (ends-behind g _ _ _ _ _ (finish .ensures .1 .0 _ a))),
+            turned-last g _ _ _ _ _ (c .last2 .ensures .1) (ends-behind g _ _ _ (finish .ensures .1 .0 _ a))),
         finish .ensures .1 .1,
       ),
     )
@@ -110,7 +110,7 @@ returns-3 c =
       answer-chunk .ensures .0,
       (
         (λ g a.
-            chunk-turned g _ _ _ _ _ _ _ _ (answer-chunk .ensures .1 .1 .0 g a) (answer-chunk .ensures .1 .0 g a)),
+            chunk-turned g _ _ _ _ _ _ (answer-chunk .ensures .1 .1 .0 g a) (answer-chunk .ensures .1 .0 g a)),
         answer-chunk .ensures .1 .1 .1,
       ),
     )

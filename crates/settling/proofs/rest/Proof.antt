@@ -12,8 +12,14 @@ add-get c = search needs
 get-requires : tie.Need-get-requires
 get-requires c κs = search needs
 
+count-side-requires : tie.Need-count-side-requires
+count-side-requires c κs = search needs
+
 settle-back-requires : tie.Need-settle-back-requires
-settle-back-requires c κs = search needs
+settle-back-requires c κs =
+    let start : tie.Start = search in
+    let counted : tie.After-count-side = search in
+    (start .pre, λ _. counted .count-side .ensures .0)
 
 same-length : tie.Need-same-length
 same-length c = search needs
@@ -34,7 +40,11 @@ get-requires-2 : tie.Need-get-requires-2
 get-requires-2 c κs = search needs
 
 settle-back-requires-2 : tie.Need-settle-back-requires-2
-settle-back-requires-2 c κs = search needs
+settle-back-requires-2 c κs =
+    let start : tie.Start = search in
+    let writes : tie.After-get = search in
+    let none : tie.Else1 = search in
+    (start .pre, λ h. absurd (omega (arith, h, writes .get .ensures, none .if1 .left)))
 
 same-length-4 : tie.Need-same-length-4
 same-length-4 c = search needs
@@ -56,13 +66,13 @@ same-length-7 c = search needs
 
 returns-3 : tie.Need-returns-3
 returns-3 c = λ o b M B r.
-    let reads : tie.After-get = search in
-    let writes : tie.After-get2 = search in
+    let writes : tie.After-get = search in
+    let reads : tie.After-get2 = search in
     let first : tie.Else1 = search in
     let second : tie.Else2 = search in
     let put = c .before .before in
     let known : tie.After-slice-known3 = search in
-    mid-out (nobody-settles (omega (arith, reads .get .ensures, first .if1 .left)) (omega (arith, writes .get2 .ensures, second .if2 .left)) M) B _
+    mid-out (nobody-settles (omega (arith, reads .get2 .ensures, second .if2 .left)) (omega (arith, writes .get .ensures, first .if1 .left)) M) B _
     (put .put-file .ensures) (unfold Bytes in λ i. c .slice-known10 .given i .fits)
     (unfold Bytes in λ i. known .before .slice-known2 .given i .fits)
     (unfold Bytes in λ i. known .slice-known3 .given i .fits) r
@@ -73,6 +83,7 @@ rest-spec =
     (tie.spec
     add-get
     get-requires
+    count-side-requires
     settle-back-requires
     same-length
     same-length-2

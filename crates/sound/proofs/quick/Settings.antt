@@ -1,4 +1,4 @@
--- A place's row, eight bytes at a time, where it is not open or its settings are all 0.
+-- A place's fields, eight bytes at a time, where it is not open or its settings are all 0, and nothing is in the words to spare.
 use Prim.Native.Nat.{ℕ, _+_, _*_, _-_, _<_}
 use mathlib.Core.Path.{_≡_, refl, sym, ap, _∙_}
 use mathlib.Core.Bool.{Bool, true, false, _&&_, _||_, and-true, true≢false}
@@ -7,7 +7,7 @@ use native.Mathlib.Omega.{arith}
 use borrow.Author.Tests.{eq-eqb, ne-eqb, eqb-true, eqb-false}
 use lib.Dec.{leb, eqb}
 use Rattle.words.specs.Word.{quiet}
-use Rattle.segment.specs.Layout.{placeWidth, placeRowAt}
+use Rattle.segment.specs.Layout.{placeFields, placeSpare, placeWidth, placeRowAt}
 use Rattle.segment.specs.Table.{nth}
 use Rattle.sound.specs.Rows.{placeWord, sideAt, zeroWords, goodPlace, placeOk}
 use Rattle.sound.proofs.Steps.{zero-bad, zero-step}
@@ -35,23 +35,36 @@ four-zero s k h =
     let q : k + 1 + 1 + 1 ≡ k + 3 = omega arith in
     (a .0, b .0, rw p at (c .0), rw q at (d .0))
 
+-- a run of zero words in two parts
+zero-join : (s : List ℕ) (k m n : ℕ) → zeroWords s k (m + n) ≡ (zeroWords s k m && zeroWords s (k + m) n)
+zero-join s k m n =
+    sym (zero-bytes s (m + n) k) ∙ quiet-join s (2 * n) (2 * m) (2 * (m + n)) (2 * k) (2 * (k + m)) (omega arith) (omega arith)
+    ∙ rw (zero-bytes s m k, zero-bytes s n (k + m))
+
+-- a row is zero where its fields are, which are two numbers
+zero-row : (s : List ℕ) (i : ℕ) → zeroWords s (placeRowAt i + placeFields) placeSpare ≡ true
+    → zeroWords s (placeRowAt i) placeWidth ≡ (quiet s (2 * placeRowAt i) 8 && quiet s (2 * placeRowAt i + 8) 8)
+zero-row s i h =
+    zero-join s (placeRowAt i) placeFields placeSpare ∙ ap (λ (t : Bool). zeroWords s (placeRowAt i) placeFields && t) h ∙ and-true (zeroWords s (placeRowAt i) placeFields)
+    ∙ sym (zero-bytes s placeFields (placeRowAt i)) ∙ quiet-join s 8 8 16 (2 * placeRowAt i) (2 * placeRowAt i + 8) refl refl
+
 -- a place that is not open
-pub closed-row : (s : List ℕ) (i a b : ℕ) → eqb a 0 ≡ quiet s (2 * placeRowAt i) 8 → a ≡ 0 → eqb b 0 ≡ quiet s (2 * placeRowAt i + 8) 8 → eqb b 0 ≡ placeOk s i
+pub closed-row : (s : List ℕ) (i a b : ℕ) → zeroWords s (placeRowAt i + placeFields) placeSpare ≡ true → eqb a 0 ≡ quiet s (2 * placeRowAt i) 8 → a ≡ 0 → eqb b 0 ≡ quiet s (2 * placeRowAt i + 8) 8 → eqb b 0 ≡ placeOk s i
 unfolding placeOk sideAt placeWord
-closed-row s i a b ea ha eb =
+closed-row s i a b h ea ha eb =
     let q : quiet s (2 * placeRowAt i) 8 ≡ true = sym ea ∙ eq-eqb a 0 ha in
-    let z : zeroWords s (placeRowAt i) placeWidth ≡ eqb b 0 = sym (zero-bytes s 8 (placeRowAt i)) ∙ quiet-join s 8 8 16 (2 * placeRowAt i) (2 * placeRowAt i + 8) refl refl ∙ rw q (sym eb) in
+    let z : zeroWords s (placeRowAt i) placeWidth ≡ eqb b 0 = zero-row s i h ∙ rw q (sym eb) in
     let f : nth s (placeRowAt i) ≡ 0 = first-zero s (placeRowAt i) 4 (omega arith) (sym (zero-bytes s 4 (placeRowAt i)) ∙ q) .0 in
     let n : placeRowAt i + 0 ≡ placeRowAt i = omega arith in
     let g : nth s (placeRowAt i + 0) ≡ 0 = rw n f in
     sym (rw (eq-eqb (nth s (placeRowAt i + 0)) 0 g, placeOk) z)
 
 -- where the settings are 0
-module _ (s : List ℕ) (i a b : ℕ) (eb : eqb b 0 ≡ quiet s (2 * placeRowAt i + 8) 8) (hb : b ≡ 0) (ea : eqb a 0 ≡ quiet s (2 * placeRowAt i) 8) where
+module _ (s : List ℕ) (i a b : ℕ) (none : zeroWords s (placeRowAt i + placeFields) placeSpare ≡ true) (eb : eqb b 0 ≡ quiet s (2 * placeRowAt i + 8) 8) (hb : b ≡ 0) (ea : eqb a 0 ≡ quiet s (2 * placeRowAt i) 8) where
   row-zero : zeroWords s (placeRowAt i) placeWidth ≡ eqb a 0
   row-zero =
       let q : quiet s (2 * placeRowAt i + 8) 8 ≡ true = sym eb ∙ eq-eqb b 0 hb in
-      sym (zero-bytes s 8 (placeRowAt i)) ∙ quiet-join s 8 8 16 (2 * placeRowAt i) (2 * placeRowAt i + 8) refl refl ∙ rw q (and-true (quiet s (2 * placeRowAt i) 8) ∙ sym ea)
+      zero-row s i none ∙ rw q (and-true (quiet s (2 * placeRowAt i) 8) ∙ sym ea)
 
   settings : (nth s (placeRowAt i + 4) ≡ 0) × (nth s (placeRowAt i + 5) ≡ 0) × (nth s (placeRowAt i + 6) ≡ 0) × (nth s (placeRowAt i + 7) ≡ 0)
   settings =
@@ -80,7 +93,9 @@ module _ (s : List ℕ) (i a b : ℕ) (eb : eqb b 0 ≡ quiet s (2 * placeRowAt 
 
     opened : eqb (sideAt s i) 0 ≡ false → placeOk s i ≡ goodPlace s i
     unfolding placeOk
-    opened h = rw (h, placeOk)
+    opened h =
+        let e : placeOk s i ≡ (goodPlace s i && zeroWords s (placeRowAt i + placeFields) placeSpare) = rw (h, placeOk) in
+        e ∙ ap (λ (t : Bool). goodPlace s i && t) none ∙ and-true (goodPlace s i)
 
     -- something stands before them: side and ID say the rest
     pub open-row : (a ≡ 0 → ⊥) → (eqb side 1 && eqb id 0 || eqb side 2 && leb 1 id) ≡ placeOk s i

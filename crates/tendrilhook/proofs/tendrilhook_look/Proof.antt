@@ -23,8 +23,8 @@ copy-requires c κs =
     let what = part .before in
     let left = what .before in
     let known = left .before .before in
-    let shows = given _ _ _ _ _ _ (what .shown .ensures .1) _ (part .part .ensures) .1 in
-    let h = short _ _ _ (λ i. known .before .before .shared-slice-known .given i .fits)
+    let shows = given _ _ _ _ (what .shown .ensures .1) _ (part .part .ensures) .1 in
+    let h = short _ (λ i. known .before .before .shared-slice-known .given i .fits)
     (λ i. known .before .shared-slice-known2 .given i .fits)
     (λ i. known .shared-slice-known3 .given i .fits) _ _ _ shows in
     omega (arith, h, left .if1 .left)
@@ -41,8 +41,8 @@ returns-2 c =
     let part = copy .before .before in
     let what = part .before in
     copied _ _ _ _ (what .before .if1 .left) _
-    (given _ _ _ _ _ _ (what .shown .ensures .1) _ (part .part .ensures) .1) _ (copy .copy .ensures) _
-    (said _ _ _ _ _ _ (what .shown .ensures .1) _ (c .status .ensures))
+    (given _ _ _ _ (what .shown .ensures .1) _ (part .part .ensures) .1) _ (copy .copy .ensures) _
+    (said _ _ _ _ (what .shown .ensures .1) _ (c .status .ensures))
 
 pub tendrilhook-look-spec : {M : Type 1} → statement M
 tendrilhook-look-spec =

@@ -2,24 +2,31 @@
 use Prim.Native.Nat.{_+_, _-_, _≤_}
 use mathlib.Core.Path.{_≡_, refl, _∙_}
 use native.Mathlib.Omega.{arith}
-use lib.ListN.{length, take}
+use lib.ListN.{length, take, drop, length-drop}
 use lib.Seq.{sets, take-all}
 use borrow.Author.Needs.{needs}
-use Rattle.words.proofs.Runs.{length-run, sets-run}
+use Rattle.words.proofs.Parts.{sets-over}
+use Rattle.words.proofs.Runs.{sets-run}
 use Rattle.words.proofs.copy.Statement.{statement}
 use Rattle.words.proofs.copy.Tie as tie
 
 abbrev Inv-loop : tie.InvT-loop
-Inv-loop s₀ at from n i₀ s i = (i ≤ length from) × (s ≡ sets s₀ at (take i from)) × (length s ≡ length s₀)
+Inv-loop s₀ at from n last i₀ s i = (i ≤ length from) × (s ≡ sets s₀ at (take i from)) × (length s ≡ length s₀)
 
 abbrev μ-loop : tie.MeasureT-loop
-μ-loop s₀ at from n i₀ s i = length from - i
+μ-loop s₀ at from n last i₀ s i = length from - i
+
+store-short-requires : tie.Need-store-short-requires Inv-loop μ-loop
+store-short-requires c κs = search needs
+
+same-length : tie.Need-same-length Inv-loop μ-loop
+same-length c = search needs
+
+returns : tie.Need-returns Inv-loop μ-loop
+returns c = search needs
 
 loop-holds : tie.Need-loop-holds Inv-loop μ-loop
 loop-holds c = (omega arith, refl, refl)
-
-sub-loop : tie.Need-sub-loop Inv-loop μ-loop
-sub-loop c = search needs
 
 add-e : tie.Need-add-e Inv-loop μ-loop
 add-e c = search needs
@@ -37,49 +44,48 @@ part-store-run-end : tie.Need-part-store-run-end Inv-loop μ-loop
 part-store-run-end c = search needs
 
 store-run-requires : tie.Need-store-run-requires Inv-loop μ-loop
-store-run-requires c κs =
-    let here = c .before .before .before .before .before .before .args in
-    let i = c .before .before .before .loop .i in
-    (length-run (here .from .now) i 16 (i + 16 - i) (omega arith) (omega arith), search needs)
+store-run-requires c κs = search needs
 
 loop-less : tie.Need-loop-less Inv-loop μ-loop
 loop-less c = search needs
 
 loop-again : tie.Need-loop-again Inv-loop μ-loop
 loop-again c =
-    let run = c .before .before .store-run in
-    let loop = c .before .before .before .before .before .before .loop in
-    let here = c .before .before .before .before .before .before .before .before .before .args in
-    (search needs, run .ensures ∙ rw (loop .inv .1) (sets-run (here .s .now) (here .from .now) (here .at) (loop .i) 16 (loop .i + 16 - loop .i) (omega arith) (omega arith)), search needs)
+    let start : tie.Start Inv-loop μ-loop = search in
+    let loop : tie.In-loop Inv-loop μ-loop = search in
+    let run : tie.After-store-run Inv-loop μ-loop = search in (
+      search needs,
+      run .store-run .ensures ∙ rw (loop .before .loop .inv .1) (sets-run (start .args .s .now) (start .args .from .now) (start .args .at) (loop .before .loop .i) 16 (loop .before .loop .i + 16 - loop .before .loop .i) (omega arith) (omega arith)),
+      search needs,
+    )
 
-add-store : tie.Need-add-store Inv-loop μ-loop
-add-store c = search needs
+add-store-run-2 : tie.Need-add-store-run-2 Inv-loop μ-loop
+add-store-run-2 c = search needs
 
-sub-store : tie.Need-sub-store Inv-loop μ-loop
-sub-store c = search needs
+sub-store-run-2 : tie.Need-sub-store-run-2 Inv-loop μ-loop
+sub-store-run-2 c = search needs
 
-part-store-start : tie.Need-part-store-start Inv-loop μ-loop
-part-store-start c = search needs
+part-store-run-start-2 : tie.Need-part-store-run-start-2 Inv-loop μ-loop
+part-store-run-start-2 c = search needs
 
-part-store-end : tie.Need-part-store-end Inv-loop μ-loop
-part-store-end c = search needs
+part-store-run-end-2 : tie.Need-part-store-run-end-2 Inv-loop μ-loop
+part-store-run-end-2 c = search needs
 
-store-requires : tie.Need-store-requires Inv-loop μ-loop
-store-requires c κs =
-    let here = c .before .before .before .before .before .before .args in
-    let i = c .before .before .before .loop .i in
-    let n = length-run (here .from .now) i (length (here .from .now) - i) _ refl (omega arith) in
-    search needs
+store-run-requires-2 : tie.Need-store-run-requires-2 Inv-loop μ-loop
+store-run-requires-2 c κs = search needs
 
-same-length : tie.Need-same-length Inv-loop μ-loop
-same-length c = search needs
+same-length-2 : tie.Need-same-length-2 Inv-loop μ-loop
+same-length-2 c = search needs
 
-returns : tie.Need-returns Inv-loop μ-loop
-returns c =
-    let loop = c .before .before .before .before .before .before .loop in
-    let here = c .before .before .before .before .before .before .before .before .before .args in
-    let n = length (here .from .now) - loop .i in
-    c .before .before .store .ensures ∙ rw (loop .inv .1) (sets-run (here .s .now) (here .from .now) (here .at) (loop .i) n n refl (omega arith) ∙ rw (take-all (loop .i + n) (here .from .now) (omega arith)))
+returns-2 : tie.Need-returns-2 Inv-loop μ-loop
+returns-2 c =
+    let start : tie.Start Inv-loop μ-loop = search in
+    let loop : tie.At-loop Inv-loop μ-loop = search in
+    let run : tie.After-store-run2 Inv-loop μ-loop = search in
+    let from = start .args .from .now in
+    let last = length from - 16 in
+    run .store-run2 .ensures
+    ∙ rw (loop .loop .inv .1, take-all (length from - last) (drop last from) (omega (arith, length-drop last from))) (sets-over (start .args .s .now) from (start .args .at) (loop .loop .i) last (omega arith) (omega arith) (omega arith))
 
 pub copy-spec : {M : Type 1} → statement M
 copy-spec =
@@ -87,8 +93,10 @@ copy-spec =
     (tie.spec
     Inv-loop
     μ-loop
+    store-short-requires
+    same-length
+    returns
     loop-holds
-    sub-loop
     add-e
     add-store-run
     sub-store-run
@@ -97,10 +105,10 @@ copy-spec =
     store-run-requires
     loop-less
     loop-again
-    add-store
-    sub-store
-    part-store-start
-    part-store-end
-    store-requires
-    same-length
-    returns)
+    add-store-run-2
+    sub-store-run-2
+    part-store-run-start-2
+    part-store-run-end-2
+    store-run-requires-2
+    same-length-2
+    returns-2)

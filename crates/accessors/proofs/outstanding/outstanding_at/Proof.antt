@@ -1,4 +1,6 @@
 -- `outstanding::outstanding_at` meets its contract: an answer to each need, in the order of the code.
+use Rattle.rules.specs.Limits.{entries}
+use Rattle.ports.proofs.Steps.{seek-stop}
 use Rattle.accessors.specs.Outstanding.{outstandingAt}
 use borrow.Author.Tests.{lt-ltb, le-ltb}
 use borrow.Author.Needs.{needs}
@@ -24,12 +26,6 @@ returns c = rw (← c .before .get .ensures, lt-ltb _ _ (c .if1 .taken))
 queue-of-requires : tie.Need-queue-of-requires
 queue-of-requires c κs = search needs
 
-cast-seek-place : tie.Need-cast-seek-place
-cast-seek-place c = search needs
-
-seek-place-requires : tie.Need-seek-place-requires
-seek-place-requires c κs = search needs
-
 get-requires-2 : tie.Need-get-requires-2
 get-requires-2 c κs = search needs
 
@@ -38,27 +34,54 @@ unfolding outstandingAt
 returns-2 c =
     let here : tie.Else1 = search in let if1 = here .if1 in
     let here : tie.After-get = search in let get = here .get in
+    let here : tie.After-queue-of = search in let queue-of = here .queue-of in
+    let here : tie.After-get2 = search in let get2 = here .get2 in
     rw (
       ← get .ensures,
       le-ltb _ _ (if1 .left),
-      ← c .before .before .before .queue-of .ensures .0,
-      ← c .before .before .seek-place .ensures .0,
-      ← c .before .get2 .ensures,
-      lt-ltb _ _ (c .if2 .taken),
+      ← queue-of .ensures .0,
+      seek-stop _ _ _ (get2 .ensures) _ entries (c .if2 .taken),
+      ← get2 .ensures,
+      le-ltb _ _ (c .if2 .taken),
     )
+
+cast-seek-place : tie.Need-cast-seek-place
+cast-seek-place c = search needs
+
+seek-place-requires : tie.Need-seek-place-requires
+seek-place-requires c κs = search needs
+
+get-requires-3 : tie.Need-get-requires-3
+get-requires-3 c κs = search needs
 
 returns-3 : tie.Need-returns-3
 unfolding outstandingAt
 returns-3 c =
     let here : tie.Else1 = search in let if1 = here .if1 in
     let here : tie.After-get = search in let get = here .get in
+    let here : tie.After-queue-of = search in let queue-of = here .queue-of in
     rw (
       ← get .ensures,
       le-ltb _ _ (if1 .left),
-      ← c .before .before .before .queue-of .ensures .0,
+      ← queue-of .ensures .0,
       ← c .before .before .seek-place .ensures .0,
-      ← c .before .get2 .ensures,
-      le-ltb _ _ (c .if2 .left),
+      ← c .before .get3 .ensures,
+      lt-ltb _ _ (c .if3 .taken),
+    )
+
+returns-4 : tie.Need-returns-4
+unfolding outstandingAt
+returns-4 c =
+    let here : tie.Else1 = search in let if1 = here .if1 in
+    let here : tie.After-get = search in let get = here .get in
+    let here : tie.After-queue-of = search in let queue-of = here .queue-of in
+    rw (
+      ← get .ensures,
+      le-ltb _ _ (if1 .left),
+      ← queue-of .ensures .0,
+      ← c .before .before .seek-place .ensures .0,
+      ← c .before .get3 .ensures,
+      le-ltb _ _ (c .if3 .left),
     )
 
 pub outstanding-at-spec : {M : Type 1} → statement M
@@ -71,8 +94,10 @@ outstanding-at-spec =
     get-requires
     returns
     queue-of-requires
-    cast-seek-place
-    seek-place-requires
     get-requires-2
     returns-2
-    returns-3)
+    cast-seek-place
+    seek-place-requires
+    get-requires-3
+    returns-3
+    returns-4)

@@ -1,10 +1,18 @@
 -- `waiting::remove` meets its contract: an answer to each need, in the order of the code.
-use native.Mathlib.Omega.{arith}
-use borrow.Author.Tests.{eq-eqb, ne-eqb}
-use Rattle.controls.specs.Removed.{emptied}
+use Rattle.controls.proofs.Removes.{completed-stays, absent-stays, found-goes}
 use borrow.Author.Needs.{needs}
 use Rattle.controls.proofs.waiting.remove.Statement.{statement}
 use Rattle.controls.proofs.waiting.remove.Tie as tie
+
+-- back from the second get to the calls before it
+abbrev get2-sought : tie.After-get2 → tie.After-seek-place
+get2-sought c = c .before .before
+
+abbrev get2-queue : tie.After-get2 → tie.After-queue-of
+get2-queue c = get2-sought c .before
+
+abbrev get2-none : tie.After-get2 → tie.Else1
+get2-none c = get2-queue c .before .before
 
 mul-place : tie.Need-mul-place
 mul-place c = search needs
@@ -12,44 +20,64 @@ mul-place c = search needs
 add-place : tie.Need-add-place
 add-place c = search needs
 
-queue-of-requires : tie.Need-queue-of-requires
-queue-of-requires c κs = search needs
+add-get : tie.Need-add-get
+add-get c = search needs
 
-cast-cancel : tie.Need-cast-cancel
-cast-cancel c = search needs
-
-cancel-requires : tie.Need-cancel-requires
-cancel-requires c κs =
-    let start : tie.Start = search in
-    (start .pre .0 .0, (omega (arith, c .queue-of .ensures .1), rw (c .queue-of .ensures .0) (start .pre .1)))
-
-clear-at-requires : tie.Need-clear-at-requires
-clear-at-requires c κs = search needs
+get-requires : tie.Need-get-requires
+get-requires c κs = search needs
 
 same-length : tie.Need-same-length
 same-length c = search needs
 
+returns : tie.Need-returns
+returns c =
+    let port : tie.After-get = search in
+    completed-stays _ _ _ _ _ _ (port .get .ensures) (c .if1 .taken)
+
+queue-of-requires : tie.Need-queue-of-requires
+queue-of-requires c κs = search needs
+
+cast-seek-place : tie.Need-cast-seek-place
+cast-seek-place c = search needs
+
+seek-place-requires : tie.Need-seek-place-requires
+seek-place-requires c κs = search needs
+
+get-requires-2 : tie.Need-get-requires-2
+get-requires-2 c κs = search needs
+
 same-length-2 : tie.Need-same-length-2
 same-length-2 c = search needs
 
-returns : tie.Need-returns
-unfolding emptied
-returns c =
-    let here : tie.Then1 = search in let if1 = here .if1 in
-    let here : tie.After-cancel = search in let cancel = here .cancel in
-    let here : tie.After-queue-of = search in let queue-of = here .queue-of in (
-      rw (cancel .ensures, queue-of .ensures .0),
-      rw (c .before .before .clear-at .ensures, eq-eqb _ _ (if1 .taken)),
-    )
+returns-2 : tie.Need-returns-2
+returns-2 c =
+    let port : tie.After-get = search in
+    let none : tie.Else1 = search in
+    let queue : tie.After-queue-of = search in
+    let sought : tie.After-seek-place = search in
+    let there : tie.After-get2 = search in
+    absent-stays _ _ _ _ _ _ (port .get .ensures) (none .if1 .left) _ _ _ (queue .queue-of .ensures .0) (sought .seek-place .ensures .0) (there .get2 .ensures) (c .if2 .taken)
+
+take-away-requires : tie.Need-take-away-requires
+take-away-requires c κs = search needs
 
 same-length-3 : tie.Need-same-length-3
 same-length-3 c = search needs
 
-returns-2 : tie.Need-returns-2
-unfolding emptied
-returns-2 c =
-    let here : tie.After-queue-of = search in let queue-of = here .queue-of in
-    (rw (c .before .before .before .cancel .ensures, queue-of .ensures .0), rw (ne-eqb _ _ (c .if1 .left)))
+same-length-4 : tie.Need-same-length-4
+same-length-4 c = search needs
+
+returns-3 : tie.Need-returns-3
+returns-3 c =
+    let taken : tie.After-take-away = search in
+    let found : tie.Else2 = search in
+    let there = found .before in
+    let sought = get2-sought there in
+    let queue = get2-queue there in
+    let none = get2-none there in
+    let port = none .before in
+    found-goes _ _ _ _ _ _ (port .get .ensures) (none .if1 .left) _ _ _ (queue .queue-of .ensures .0) (sought .seek-place .ensures .0) (there .get2 .ensures) (found .if2 .left) _ _
+    (taken .take-away .ensures .0) (taken .take-away .ensures .1)
 
 pub remove-spec : {M : Type 1} → statement M
 remove-spec =
@@ -57,12 +85,17 @@ remove-spec =
     (tie.spec
     mul-place
     add-place
-    queue-of-requires
-    cast-cancel
-    cancel-requires
-    clear-at-requires
+    add-get
+    get-requires
     same-length
-    same-length-2
     returns
+    queue-of-requires
+    cast-seek-place
+    seek-place-requires
+    get-requires-2
+    same-length-2
+    returns-2
+    take-away-requires
     same-length-3
-    returns-2)
+    same-length-4
+    returns-3)

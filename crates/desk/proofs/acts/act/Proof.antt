@@ -200,7 +200,7 @@ returns c =
     let start : tie.Start = search in
     λ d s S.
     rw (c .plain .ensures)
-    (act-build _ (start .pre .1) _ _ _ _ _ (start .pre .0 .2 ∙ ap what.Event (event .given .1)) d s S _ _ _ _ _
+    (act-build _ (start .pre .1) _ _ _ _ _ (start .pre .0 .2 ∙ ap what.Event (event .given .1)) d s S _ _ _
     (build .ensures d s S))
 
 same-length-4 : tie.Need-same-length-4
@@ -219,7 +219,7 @@ returns-2 c =
     let start : tie.Start = search in
     λ d s S.
     rw (c .plain2 .ensures)
-    (act-open _ (start .pre .1) _ _ _ _ (start .pre .0 .2 ∙ ap what.Event (event2 .given .1)) d s S _ _ _ _ _
+    (act-open _ (start .pre .1) _ _ _ _ (start .pre .0 .2 ∙ ap what.Event (event2 .given .1)) d s S _ _ _
     (open-call .ensures d s S))
 
 same-length-7 : tie.Need-same-length-7
@@ -240,7 +240,7 @@ returns-3 c =
     let here : tie.After-event3 = search in let event3 = here .event3 in
     let start : tie.Start = search in
     λ d s S.
-    act-read _ (start .pre .1) _ _ _ (start .pre .0 .2 ∙ ap what.Event (event3 .given .1)) d s S _ _ _ _ _ _ _
+    act-read _ (start .pre .1) _ _ _ (start .pre .0 .2 ∙ ap what.Event (event3 .given .1)) d s S _ _ _ _ _
     (read .ensures d s S)
 
 same-length-11 : tie.Need-same-length-11
@@ -259,7 +259,7 @@ returns-4 c =
     let start : tie.Start = search in
     λ d s S.
     rw (c .plain3 .ensures)
-    (act-write _ (start .pre .1) _ _ _ (start .pre .0 .2 ∙ ap what.Event (event4 .given .1)) d s S _ _ _ _ _
+    (act-write _ (start .pre .1) _ _ _ (start .pre .0 .2 ∙ ap what.Event (event4 .given .1)) d s S _ _ _
     (rw (rest-is (start .args .frame .now)) at (write .ensures d s S)))
 
 same-length-14 : tie.Need-same-length-14
@@ -275,7 +275,7 @@ returns-5 c =
     let start : tie.Start = search in
     λ d s S.
     rw (c .plain4 .ensures)
-    (act-control _ (start .pre .1) _ _ _ (start .pre .0 .2 ∙ ap what.Event (event5 .given .1)) d s S _ _ _ _ _
+    (act-control _ (start .pre .1) _ _ _ (start .pre .0 .2 ∙ ap what.Event (event5 .given .1)) d s S _ _ _
     (control .ensures _ d s S
     (ok-control _ (start .pre .1) _ _ _ (start .pre .0 .2 ∙ ap what.Event (event5 .given .1)) d s S)))
 
@@ -294,7 +294,7 @@ returns-6 c =
     let here : tie.After-event6 = search in let event6 = here .event6 in
     let start : tie.Start = search in
     λ d s S.
-    act-collect _ (start .pre .1) _ _ (start .pre .0 .2 ∙ ap what.Event (event6 .given .1)) d s S _ _ _ _ _ _ _
+    act-collect _ (start .pre .1) _ _ (start .pre .0 .2 ∙ ap what.Event (event6 .given .1)) d s S _ _ _ _ _
     (collect .ensures _ d s S
     (ok-collect _ (start .pre .1) _ _ (start .pre .0 .2 ∙ ap what.Event (event6 .given .1)) d s S))
 
@@ -314,7 +314,7 @@ returns-7 c =
     let start : tie.Start = search in
     λ d s S.
     rw (c .plain5 .ensures)
-    (act-close _ (start .pre .1) _ _ (start .pre .0 .2 ∙ ap what.Event (event7 .given .1)) d s S _ _ _ _ _
+    (act-close _ (start .pre .1) _ _ (start .pre .0 .2 ∙ ap what.Event (event7 .given .1)) d s S _ _ _
     (close .ensures d s S))
 
 same-length-22 : tie.Need-same-length-22

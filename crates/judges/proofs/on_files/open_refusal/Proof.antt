@@ -1,5 +1,6 @@
 -- `on_files::open_refusal` meets its contract: an answer to each need, in the order of the code.
 use mathlib.Core.Path.{sym, _∙_}
+use native.Mathlib.Omega.{arith}
 use Rattle.judges.proofs.Together as together
 use Rattle.judges.proofs.Turns.{is-nought, not-nought}
 use Rattle.refusing.proofs.Tests.{held, failed}
@@ -15,15 +16,22 @@ returns : tie.Need-returns
 unfolding openRefusal
 returns c = λ b S. rw (failed (c .before .modes-in-range .ensures) (c .if1 .taken))
 
+writers-for-requires : tie.Need-writers-for-requires
+writers-for-requires c κs = search needs
+
 forbids-requires : tie.Need-forbids-requires
-forbids-requires c κs = search needs
+forbids-requires c κs =
+    let start : tie.Start = search in
+    (start .pre .0, (start .pre .1, c .writers-for .ensures .0))
 
 returns-2 : tie.Need-returns-2
 unfolding openRefusal
 returns-2 c =
+    let in-range : tie.Else1 = search in
+    let modes : tie.After-modes-in-range = search in
     λ b S.
     rw (
-      held (c .before .before .before .modes-in-range .ensures) (c .before .before .if1 .left),
+      held (modes .modes-in-range .ensures) (in-range .if1 .left),
       sym (c .before .forbids .ensures b S) ∙ c .if2 .taken,
     )
 
@@ -57,7 +65,11 @@ returns-4 c =
     )
 
 has-room-requires : tie.Need-has-room-requires
-has-room-requires c κs = search needs
+has-room-requires c κs =
+    let start : tie.Start = search in
+    let counted : tie.After-writers-for = search in
+    let writes : tie.Else4 = search in
+    (start .pre .0, (start .pre .1, counted .writers-for .ensures .0 (omega (arith, writes .if4 .left)), counted .writers-for .ensures .1))
 
 returns-5 : tie.Need-returns-5
 unfolding openRefusal
@@ -99,6 +111,7 @@ open-refusal-spec =
     (tie.spec
     modes-in-range-requires
     returns
+    writers-for-requires
     forbids-requires
     returns-2
     count-side-requires

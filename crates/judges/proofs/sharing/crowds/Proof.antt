@@ -1,5 +1,7 @@
 -- `sharing::crowds` meets its contract: an answer to each need, in the order of the code.
+use mathlib.Core.Path.{_∙_}
 use borrow.Author.Tests.{lt-ltb, le-ltb}
+use Rattle.judges.proofs.Together as together
 use borrow.Author.Needs.{needs}
 use Rattle.judges.proofs.sharing.crowds.Statement.{statement}
 use Rattle.judges.proofs.sharing.crowds.Tie as tie
@@ -8,7 +10,10 @@ crowds-writers-requires : tie.Need-crowds-writers-requires
 crowds-writers-requires c κs = search needs
 
 returns : tie.Need-returns
-returns c = λ b S. rw (lt-ltb _ _ (c .before .if1 .taken)) (c .crowds-writers .ensures b S)
+returns c =
+    let start : tie.Start = search in
+    let then : tie.Then1 = search in
+    λ b S. rw (lt-ltb _ _ (then .if1 .taken)) (c .crowds-writers .ensures b (start .pre .1 .1 (then .if1 .taken) ∙ together.writers-are _ _ b S))
 
 crowds-readers-requires : tie.Need-crowds-readers-requires
 crowds-readers-requires c κs = search needs

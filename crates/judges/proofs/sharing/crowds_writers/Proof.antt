@@ -1,20 +1,18 @@
 -- `sharing::crowds_writers` meets its contract: an answer to each need, in the order of the code.
-use borrow.Author.Tests.{ne-eqb}
+use mathlib.Core.Path.{ap}
+use lib.Dec.{ltb}
+use borrow.Author.Tests.{eq-eqb, ne-eqb}
 use Rattle.rules.specs.Open.{crowded}
-use Rattle.judges.proofs.Together as together
-use borrow.Author.Needs.{needs}
 use Rattle.judges.proofs.sharing.crowds_writers.Statement.{statement}
 use Rattle.judges.proofs.sharing.crowds_writers.Tie as tie
 
 returns : tie.Need-returns
 unfolding crowded
-returns c = λ b S. rw (ne-eqb _ _ (c .if1 .taken))
-
-count-side-requires : tie.Need-count-side-requires
-count-side-requires c κs = search needs
+returns c = λ b W. rw (ne-eqb _ _ (c .if1 .taken))
 
 returns-2 : tie.Need-returns-2
-returns-2 c = λ b S. together.crowds-writers _ _ b S _ _ (c .before .if1 .left) (c .count-side .ensures .0)
+unfolding crowded
+returns-2 c = λ b W. rw (eq-eqb _ _ (c .if1 .left)) (ap (ltb 0) W)
 
 pub crowds-writers-spec : {M : Type 1} → statement M
-crowds-writers-spec = tie.close (tie.spec returns count-side-requires returns-2)
+crowds-writers-spec = tie.close (tie.spec returns returns-2)

@@ -7,8 +7,8 @@ use Rattle.judges.proofs.sharing.forbids.Tie as tie
 returns : tie.Need-returns
 returns c = λ b S. together.forbids-multi _ _ b S _ _ _ (c .if1 .taken)
 
-share-of-requires : tie.Need-share-of-requires
-share-of-requires c κs = search needs
+sharing-of-requires : tie.Need-sharing-of-requires
+sharing-of-requires c κs = search needs
 
 others-requires : tie.Need-others-requires
 others-requires c κs = search needs
@@ -17,7 +17,7 @@ returns-2 : tie.Need-returns-2
 returns-2 c =
     λ b S.
     together.forbids-other _ _ b S _ _ _ _ (c .before .before .before .if1 .left)
-    (c .before .before .share-of .ensures) _ (c .before .others .ensures) (c .if2 .taken)
+    (c .before .before .sharing-of .ensures) _ (c .before .others .ensures) (c .if2 .taken)
 
 crowds-requires : tie.Need-crowds-requires
 crowds-requires c κs = search needs
@@ -26,10 +26,10 @@ returns-3 : tie.Need-returns-3
 returns-3 c =
     let here : tie.Else1 = search in let if1 = here .if1 in
     λ b S.
-    together.forbids-crowd _ _ b S _ _ _ _ (if1 .left) (c .before .before .before .share-of .ensures) _
+    together.forbids-crowd _ _ b S _ _ _ _ (if1 .left) (c .before .before .before .sharing-of .ensures) _
     (c .before .before .others .ensures) _ (c .before .if2 .left) (c .crowds .ensures b S)
 
 pub forbids-spec : {M : Type 1} → statement M
 forbids-spec =
     tie.close
-    (tie.spec returns share-of-requires others-requires returns-2 crowds-requires returns-3)
+    (tie.spec returns sharing-of-requires others-requires returns-2 crowds-requires returns-3)

@@ -12,12 +12,6 @@ use Rattle.judges.proofs.sharing.has_room.Tie as tie
 used-after-requires : tie.Need-used-after-requires
 used-after-requires c κs = search needs
 
-count-side-requires : tie.Need-count-side-requires
-count-side-requires c κs = search needs
-
-cast-writers : tie.Need-cast-writers
-cast-writers c = search needs
-
 read-file-requires : tie.Need-read-file-requires
 read-file-requires c κs = search needs
 
@@ -43,20 +37,18 @@ mul-result c =
 returns : tie.Need-returns
 returns c =
     let here : tie.After-used-after = search in let used-after = here .used-after in
+    let start : tie.Start = search in
     λ b S.
     ap
-    (λ r. leb (used-after .result + c .before .before .before .count-side .result + 2) (r .factor * r .blocks))
+    (λ r. leb (used-after .result + start .args .writers + 2) (r .factor * r .blocks))
     (c .before .before .read-file .ensures)
-    ∙ together.has-room _ _ b S _ _ _ (used-after .ensures .0 b S)
-    (c .before .before .before .count-side .ensures .0)
+    ∙ together.has-room _ _ b S _ _ _ (used-after .ensures .0 b S) (start .pre .1 .1)
 
 pub has-room-spec : {M : Type 1} → statement M
 has-room-spec =
     tie.close
     (tie.spec
     used-after-requires
-    count-side-requires
-    cast-writers
     read-file-requires
     add-result
     add-result-2

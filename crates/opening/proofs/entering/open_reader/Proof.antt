@@ -49,7 +49,7 @@ returns c =
     let start : tie.Start = search in
     λ d s b S e.
     let (hf, k) = each-at (start .pre .1) d s b S e in
-    reader-done S _ hf b e _ _ _ _ _ (free-place .ensures .0)
+    reader-done S _ hf b e _ _ _ (free-place .ensures .0)
     (rest .ensures _ _
     (reader-in S _ hf b e _ _ _ _ k (free-place .ensures .0) (take-file .ensures) (enter .ensures))
     (S .stands .bodies))

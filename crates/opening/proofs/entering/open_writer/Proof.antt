@@ -75,7 +75,7 @@ returns c =
     let start : tie.Start = search in
     λ d s b S e.
     let (hf, k) = each-at (start .pre .1) d s b S e in
-    writer-done S _ hf b e _ _ (take .ensures) _ _ _ _ _ _ (free-place .ensures .0) (free-id .ensures)
+    writer-done S _ hf b e _ _ (take .ensures) _ _ _ _ (free-place .ensures .0) (free-id .ensures)
     (rest .ensures _ _
     (writer-in S _ hf b e _ _ (take .ensures) _ _ _ _ _ _ k (free-place .ensures .0) (free-id .ensures)
     (put .ensures .1 .1) (enter .ensures)) (S .stands .bodies))

@@ -1,5 +1,5 @@
 -- `cursor::first` meets its contract: an answer to each need, in the order of the code.
-use Rattle.records.proofs.cursor.Laws.{head-made, stands-full}
+use Rattle.records.proofs.cursor.Laws.{head-made, head-behind, stands-full}
 use Rattle.ring.proofs.Held.{held-long, held-ranged}
 use Prim.Native.Nat.{_+_, _*_}
 use mathlib.Core.Path.{refl, sym, _∙_}
@@ -56,20 +56,20 @@ returns c =
 add-skip : tie.Need-add-skip
 add-skip c = search needs
 
-add-skip-2 : tie.Need-add-skip-2
-add-skip-2 c = search needs
-
 skip-requires : tie.Need-skip-requires
 skip-requires c κs =
     let start : tie.Start = search in
+    let block : tie.After-block-span = search in
     let long = held-long _ _ _ (start .pre) in
-    search needs
+    let span = block .block-span in
+    (long, (span .result .at + span .result .size, search needs, head-behind _ _ _ (start .pre) _ (span .ensures .0)), search needs)
 
 returns-2 : tie.Need-returns-2
 returns-2 c =
     let start : tie.Start = search in
     let block : tie.After-block-span = search in
-    (refl, record { held = start .pre; at = head-made _ _ _ _ _ (block .block-span .ensures .0) _ (c .skip .ensures) })
+    let behind = head-behind _ _ _ (start .pre) _ (block .block-span .ensures .0) in
+    (refl, record { held = start .pre; at = head-made _ _ _ _ _ (block .block-span .ensures .0) _ (c .skip .ensures _ behind) })
 
 pub first-spec : {M : Type 1} → statement M
 first-spec =
@@ -85,6 +85,5 @@ first-spec =
     add-t11
     returns
     add-skip
-    add-skip-2
     skip-requires
     returns-2)

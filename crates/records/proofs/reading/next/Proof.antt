@@ -15,6 +15,9 @@ add-result c = search needs
 add-result-2 : tie.Need-add-result-2
 add-result-2 c = search needs
 
+mul-result : tie.Need-mul-result
+mul-result c = search needs
+
 add-result-3 : tie.Need-add-result-3
 add-result-3 c = search needs
 
@@ -23,4 +26,4 @@ returns c = (next-made _ _ _ (c .get .ensures), search needs)
 
 pub next-spec : {M : Type 1} → statement M
 next-spec =
-    tie.close (tie.spec get-requires cast-follow add-result add-result-2 add-result-3 returns)
+    tie.close (tie.spec get-requires cast-follow add-result add-result-2 mul-result add-result-3 returns)

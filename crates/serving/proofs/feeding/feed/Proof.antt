@@ -9,6 +9,7 @@ use lib.ListN.{length, take}
 use Rattle.serving.specs.Going.{mostHeld, outBytes, Going, goes, At}
 use Rattle.serving.proofs.feeding.feed.Statement.{statement}
 use Rattle.serving.proofs.feeding.feed.Tie as tie
+use Rattle.memory.specs.Memories.{memories}
 
 abbrev Inv-loop : tie.InvT-loop
 Inv-loop segment₀ blocks₀ buffers₀ line₀ out₀ chunk held at₀ i₀ segment blocks buffers line out at i =
@@ -22,9 +23,9 @@ Inv-loop segment₀ blocks₀ buffers₀ line₀ out₀ chunk held at₀ i₀ se
     × (at .used ≤ outBytes)
     × (i ≡ 0 → at .used ≡ 0)
     × ((g : Going)
-    → At g segment₀ blocks₀ buffers₀ line₀ out₀ held 0
-    → At (goes g (take i chunk)) segment blocks buffers line out (at .held) (at .used))
-    × Kept segment₀ blocks₀ buffers₀ segment blocks buffers
+    → At g (memories segment₀ blocks₀ buffers₀) line₀ out₀ held 0
+    → At (goes g (take i chunk)) (memories segment blocks buffers) line out (at .held) (at .used))
+    × Kept (memories segment₀ blocks₀ buffers₀) (memories segment blocks buffers)
 
 abbrev μ-loop : tie.MeasureT-loop
 μ-loop segment₀ blocks₀ buffers₀ line₀ out₀ chunk held at₀ i₀ segment blocks buffers line out at i = length chunk - i
@@ -84,8 +85,8 @@ loop-again c =
       feed-byte .ensures .0 .0,
       feed-byte .ensures .0 .1,
       (λ e. absurd (omega (arith, e))),
-      (λ g a. goes-at g _ _ _ _ _ _ _ _ _ (loop-test .taken) (feed-byte .ensures .1 .0 _ (loop .inv .9 g a))),
-      kept-on _ _ _ _ _ _ _ _ _ (loop .inv .10) (feed-byte .ensures .1 .1),
+      (λ g a. goes-at g _ _ _ _ _ _ _ (loop-test .taken) (feed-byte .ensures .1 .0 _ (loop .inv .9 g a))),
+      kept-on _ _ _ (loop .inv .10) (feed-byte .ensures .1 .1),
     )
 
 same-length-6 : tie.Need-same-length-6 Inv-loop μ-loop

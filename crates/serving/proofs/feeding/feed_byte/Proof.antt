@@ -41,11 +41,11 @@ returns c =
       (omega arith, omega (arith, answer-line .ensures .0 .1)),
       (
         (λ g a.
-            line-at g _ _ _ _ _ _ _ (if1 .taken)
-            (line-answered g _ _ _ _ _ _ _ _ _ _ _ (answer-line .ensures .1)
+            line-at g _ _ _ _ _ (if1 .taken)
+            (line-answered g _ _ _ _ _ _ _ (answer-line .ensures .1)
             (omega (arith, start .pre .1, start .pre .3)) (answer-line .ensures .0 .1)
-            (frame-held g _ _ _ _ _ _ _ a) (a .printed))),
-        line-kept _ _ _ _ _ _ _ _ _ _ _ (answer-line .ensures .1),
+            (frame-held g _ _ _ _ _ a) (a .printed))),
+        line-kept _ _ _ _ _ _ _ (answer-line .ensures .1),
       ),
     )
 
@@ -61,8 +61,8 @@ returns-2 c =
     let start : tie.Start = search in (
       (c .before .before .keep .ensures .1, omega (arith, start .pre .3)),
       (
-        (λ g a. byte-at g _ _ _ _ _ _ _ _ _ _ (if1 .left) (c .before .before .keep .ensures .0) a),
-        λ _. (refl, refl, refl),
+        (λ g a. byte-at g _ _ _ _ _ _ _ _ (if1 .left) (c .before .before .keep .ensures .0) a),
+        λ _. refl,
       ),
     )
 

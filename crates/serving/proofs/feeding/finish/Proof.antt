@@ -11,8 +11,8 @@ returns c =
     let start : tie.Start = search in (
       omega arith,
       (
-        (λ g a. ends-none g _ _ _ _ _ _ _ (start .pre .0) (start .pre .2) (c .if1 .taken) a),
-        λ _. (refl, refl, refl),
+        (λ g a. ends-none g _ _ _ _ _ (start .pre .0) (start .pre .2) (c .if1 .taken) a),
+        λ _. refl,
       ),
     )
 
@@ -48,10 +48,10 @@ returns-2 c =
       omega (arith, answer-line .ensures .0 .1),
       (
         (λ g a.
-            ends-line g _ _ _ _ _ _ _ _ _ _ _ _ (start .pre .0) (start .pre .2) (if1 .left) a
-            (line-answered g _ _ _ _ _ _ _ _ _ _ _ (answer-line .ensures .1) (omega (arith, start .pre .1))
-            (answer-line .ensures .0 .1) (frame-held g _ _ _ _ _ _ _ a) (a .printed))),
-        line-kept _ _ _ _ _ _ _ _ _ _ _ (answer-line .ensures .1),
+            ends-line g _ _ _ _ _ _ _ _ (start .pre .0) (start .pre .2) (if1 .left) a
+            (line-answered g _ _ _ _ _ _ _ (answer-line .ensures .1) (omega (arith, start .pre .1))
+            (answer-line .ensures .0 .1) (frame-held g _ _ _ _ _ a) (a .printed))),
+        line-kept _ _ _ _ _ _ _ (answer-line .ensures .1),
       ),
     )
 

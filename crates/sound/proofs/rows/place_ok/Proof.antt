@@ -1,18 +1,19 @@
 -- `rows::place_ok` meets its contract: an answer to each need, in the order of the code.
 use borrow.Author.Tests.{eq-eqb, ne-eqb}
 use Rattle.sound.specs.Rows.{sideAt, placeOk}
+use Rattle.sound.proofs.Steps.{held, failed}
 use borrow.Author.Needs.{needs}
 use Rattle.sound.proofs.rows.place_ok.Statement.{statement}
 use Rattle.sound.proofs.rows.place_ok.Tie as tie
-
-place-word-requires : tie.Need-place-word-requires
-place-word-requires c κs = search needs
 
 mul-at : tie.Need-mul-at
 mul-at c = search needs
 
 add-at : tie.Need-add-at
 add-at c = search needs
+
+place-word-requires : tie.Need-place-word-requires
+place-word-requires c κs = search needs
 
 zero-words-requires : tie.Need-zero-words-requires
 zero-words-requires c κs = search needs
@@ -26,16 +27,35 @@ good-place-requires c κs = search needs
 
 returns-2 : tie.Need-returns-2
 unfolding placeOk sideAt
-returns-2 c = rw (← c .before .before .place-word .ensures, ne-eqb _ _ (c .before .if1 .left), placeOk) (c .good-place .ensures)
+returns-2 c =
+    let here : tie.After-place-word = search in let place-word = here .place-word in
+    let here : tie.Else1 = search in let if1 = here .if1 in
+    rw (← place-word .ensures, ne-eqb _ _ (if1 .left), placeOk, failed (c .before .good-place .ensures) (c .if2 .taken))
+
+add-zero-words : tie.Need-add-zero-words
+add-zero-words c = search needs
+
+zero-words-requires-2 : tie.Need-zero-words-requires-2
+zero-words-requires-2 c κs = search needs
+
+returns-3 : tie.Need-returns-3
+unfolding placeOk sideAt
+returns-3 c =
+    let here : tie.After-place-word = search in let place-word = here .place-word in
+    let here : tie.Else1 = search in let if1 = here .if1 in
+    rw (← place-word .ensures, ne-eqb _ _ (if1 .left), placeOk, held (c .before .before .good-place .ensures) (c .before .if2 .left)) (c .zero-words2 .ensures)
 
 pub place-ok-spec : {M : Type 1} → statement M
 place-ok-spec =
     tie.close
     (tie.spec
-    place-word-requires
     mul-at
     add-at
+    place-word-requires
     zero-words-requires
     returns
     good-place-requires
-    returns-2)
+    returns-2
+    add-zero-words
+    zero-words-requires-2
+    returns-3)

@@ -10,9 +10,10 @@ use native.Mathlib.Omega.{arith}
 use borrow.Author.Needs.{needs}
 use Rattle.transfers.proofs.collecting.collect.Statement.{statement}
 use Rattle.transfers.proofs.collecting.collect.Tie as tie
+use Rattle.memory.specs.Memories.{memories}
 
 -- What the entry tells of numbers and lengths.
-fit : (c : tie.Start) → Fit (c .args .segment .now) (c .pre .0 .0) (c .args .buffers .now) (c .args .f) (c .args .acc)
+fit : (c : tie.Start) → Fit (memories (c .args .segment .now) (c .pre .0 .0) (c .args .buffers .now)) (c .args .f) (c .args .acc)
 fit c = collect-fit _ _ _ _ (c .pre .0)
 
 mul-place : tie.Need-mul-place
