@@ -12,8 +12,11 @@ enum { WORDS = 40, FACTOR = 10 };
 
 static const uint8_t build[] = { 1, 0, 0, WORDS, FACTOR, 0, 30, 1 }, writer[] = { 2, 0, 3, 3, 0 }, reader[] = { 2, 0, 0, 3, 0 };
 static const uint8_t written[5 + 2 * WORDS] = { 4, 0, 0, 0, WORDS }, shorter[3 + 2 * WORDS] = { 4, 0, 0, 0, WORDS - 1 };
-/* of the lengths that the record may have, 15 bytes take the most: they are copied one by one */
-static const uint8_t dearest[5 + 15] = { 4, 0, 0, 0xFF, 0xF1 }, read[] = { 3, 0, 1, 0, WORDS };
+static const uint8_t short_one[5 + 15] = { 4, 0, 0, 0xFF, 0xF1 }, read[] = { 3, 0, 1, 0, WORDS };
+/* the most records that a block may have, none of the full size: file 1 */
+enum { MOST = 16 };
+static const uint8_t build_most[] = { 1, 1, 0, 20, MOST, 0, 30, 1 }, writer_most[] = { 2, 1, 3, 3, 0 }, reader_most[] = { 2, 1, 0, 3, 0 };
+static const uint8_t written_most[5 + 37] = { 4, 1, 0, 0xFF, 0xDB }, read_most[] = { 3, 1, 1, 0, 20 };
 
 static size_t ask(const uint8_t *frame, size_t length)
 {
@@ -64,7 +67,16 @@ int main(void)
     block(shorter, sizeof shorter, 0, ", of records of 78 bytes");
     must(read, sizeof read);
     puts("a write of 15 bytes that begins a block");
-    counted(dearest, sizeof dearest);
-    block(dearest, sizeof dearest, 1, ", of records of 15 bytes");
+    counted(short_one, sizeof short_one);
+    block(short_one, sizeof short_one, 1, ", of records of 15 bytes");
+    must(build_most, sizeof build_most);
+    must(writer_most, sizeof writer_most);
+    must(reader_most, sizeof reader_most);
+    must(written_most, sizeof written_most);
+    must(read_most, sizeof read_most);
+    for (int n = 0; n <= MOST; n++) must(written_most, sizeof written_most);
+    for (int n = 0; n < MOST - 1; n++) must(read_most, sizeof read_most);
+    puts("a read behind 15 spent in its block, R 20 and B 16, of records of 37 bytes");
+    counted(read_most, sizeof read_most);
     return 0;
 }
