@@ -1,10 +1,12 @@
 -- A refused frame: the desk stays as it is, and two bytes are written.
 use Prim.Native.Nat.{ℕ}
 use mathlib.Core.Path.{_≡_, refl, sym, ap, _∙_, subst}
+use mathlib.Core.Bool.{Bool, _&&_, and-true}
 use mathlib.Core.List.{List, [], _∷_}
 use mathlib.Core.Logic.{inl, inr}
 use mathlib.Core.Option.{none, some}
 use native.Mathlib.Omega.{arith}
+use lib.Dec.{eqb}
 use lib.ListN.{getD, drop}
 use types.Run.{OneOf}
 use denote.Enum.Declared.{tagOf}
@@ -28,6 +30,7 @@ use Rattle.midst.specs.Outcome.{replyStatus, statusOf, refusalOf, Told}
 use Rattle.midst.proofs.Accepted.{accepted-code}
 use Rattle.midst.proofs.Refused.{stands-refused}
 use Rattle.midst.proofs.StandsBehind.{still-stays}
+use Rattle.judges.specs.Refused.{purgesBy}
 use Rattle.desk.specs.Acted.{Responds}
 use Rattle.desk.specs.Refusals.{operationOf, Twice, Refusal}
 use Rattle.desk.proofs.First.{first-byte}
@@ -101,3 +104,7 @@ pub not-refused : (fr : List ℕ) (e : Event) (n : ℕ) (d : Desk) → frameOf f
     → refusalOf (respond d (event fr) .reply) ≡ 0
 unfolding respond asked
 not-refused fr e n d said h z = ap (λ (y : Frame). refusalOf (answered d (frameAsks y (drop writeHead fr)) .reply)) said ∙ sym h ∙ z
+
+-- and whether the event then purges is what judging found
+pub purge-found : (xs : List ℕ) (e : Event) (n : ℕ) {t : Bool} → t ≡ (purgesBy xs e && eqb n 0) → n ≡ 0 → t ≡ purgesBy xs e
+purge-found xs e n k z = k ∙ ap (λ (m : ℕ). purgesBy xs e && eqb m 0) z ∙ and-true (purgesBy xs e)

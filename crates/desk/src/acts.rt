@@ -23,6 +23,7 @@ ghost use Rattle.rules.specs.Allocation.{Alloc};
 ghost use Rattle.memory.specs.Memories.{memories};
 ghost use Rattle.memory.specs.Fine.{StandsFor};
 ghost use Rattle.midst.specs.Outcome.{Sound, refusalOf};
+ghost use Rattle.judges.specs.Refused.{purgesBy};
 ghost use Rattle.desk.specs.Acted.{Acting};
 
 // An answer with no data behind it.
@@ -40,8 +41,9 @@ pub fn act(
     answer: &mut [u8],
     event: Event,
     frame: &[u8],
+    purges: bool,
 ) -> Given
-    requires { ⌜ Sound (memories (now segment) (now blocks) (now buffers)) × (length (now answer) ≡ answerRoom) × (frameOf (now «frame») ≡ what.Event «event») ⌝ }
+    requires { ⌜ Sound (memories (now segment) (now blocks) (now buffers)) × (length (now answer) ≡ answerRoom) × (frameOf (now «frame») ≡ what.Event «event») × (purges ≡ purgesBy (now segment) «event») ⌝ }
     requires { ⌜ ((d : Desk) (s : Alloc) → StandsFor (memories (now segment) (now blocks) (now buffers)) d s → refusalOf (rules.respond d (rules.event (now «frame»)) .reply) ≡ 0) ⌝ }
     ensures { λ r. ⌜ Acting (rules.event (now («frame» .entry))) (memories (now (segment .entry)) (now (blocks .entry)) (now (buffers .entry))) (now (answer .entry)) (memories (now (segment .exit)) (now (blocks .exit)) (now (buffers .exit))) (now (answer .exit)) (r .answer) (r .size) ⌝ }
 {
@@ -75,6 +77,7 @@ pub fn act(
             access,
             share,
             multi,
+            purges,
         )),
         Event::Read { file, acc, count } => read(
             segment,

@@ -26,12 +26,13 @@ ghost use Rattle.rules.specs.Allocation.{Alloc};
 ghost use Rattle.memory.specs.Memories.{memories};
 ghost use Rattle.memory.specs.Fine.{StandsFor};
 ghost use Rattle.midst.specs.Outcome.{Sound, refusalOf};
+ghost use Rattle.judges.specs.Refused.{purgesBy};
 ghost use Rattle.promises.specs.Promise.{Promise};
 ghost use Rattle.promises.specs.Promise as host;
 ghost use Rattle.desk.specs.Acted.{Responds};
 ghost use Rattle.desk.specs.Refusals.{RefusedWith};
 
-// An accepted event is done and answered.
+// An accepted event is done and answered; whether it purges was found in judging.
 fn serve(
     segment: &mut [u8],
     blocks: &mut [u8],
@@ -39,12 +40,13 @@ fn serve(
     answer: &mut [u8],
     event: Event,
     frame: &[u8],
+    purges: bool,
 ) -> usize
-    requires { ⌜ Sound (memories (now segment) (now blocks) (now buffers)) × (length (now answer) ≡ answerRoom) × (frameOf (now «frame») ≡ what.Event «event») ⌝ }
+    requires { ⌜ Sound (memories (now segment) (now blocks) (now buffers)) × (length (now answer) ≡ answerRoom) × (frameOf (now «frame») ≡ what.Event «event») × (purges ≡ purgesBy (now segment) «event») ⌝ }
     requires { ⌜ ((d : Desk) (s : Alloc) → StandsFor (memories (now segment) (now blocks) (now buffers)) d s → refusalOf (rules.respond d (rules.event (now «frame»)) .reply) ≡ 0) ⌝ }
     ensures { λ r. ⌜ ((d : Desk) (s : Alloc) → StandsFor (memories (now (segment .entry)) (now (blocks .entry)) (now (buffers .entry))) d s → Responds d s (rules.event (now («frame» .entry))) (memories (now (segment .entry)) (now (blocks .entry)) (now (buffers .entry))) (now (answer .entry)) (memories (now (segment .exit)) (now (blocks .exit)) (now (buffers .exit))) (now (answer .exit)) r) ⌝ }
 {
-    let given = act(segment, blocks, buffers, answer, event, frame);
+    let given = act(segment, blocks, buffers, answer, event, frame, purges);
     let told = given.answer;
     encode(told, answer) + given.size as usize
 }
@@ -70,11 +72,19 @@ pub fn event(
     let Frame::Event(event) = said else {
         return refuse(segment, said, answer);
     };
-    let number = judge(segment, event);
-    if number != 0 {
-        return status(frame[0], number, answer);
+    let verdict = judge(segment, event);
+    if verdict.refusal != 0 {
+        return status(frame[0], verdict.refusal, answer);
     }
-    serve(segment, blocks, buffers, answer, event, frame)
+    serve(
+        segment,
+        blocks,
+        buffers,
+        answer,
+        event,
+        frame,
+        verdict.purges,
+    )
 }
 
 // What the event call of a frame would be refused with, answer memory of its length given: 29 where the memories are no desk, 0 where it would be done. Nothing changes.

@@ -46,7 +46,7 @@ pub fn number_of(segment: &[u8], said: Frame) -> u8
     ensures { λ r. ⌜ ((t : List ℕ) → Refuses (now (segment .entry)) (frameAsks said t) r) ⌝ }
 {
     match said {
-        Frame::Event(event) => judge(segment, event),
+        Frame::Event(event) => judge(segment, event).refusal,
         Frame::Code { file, acc } => judge_code(segment, file, acc),
         Frame::Shape => refusals::SHAPE,
     }

@@ -46,6 +46,11 @@ others-from s share i (some a ∷ l) h =
     go true = sym (lt-ltb 0 (1 + countAcc (otherShare share) l) (omega arith))
     go false = let e : countAcc (otherShare share) l ≡ 0 + countAcc (otherShare share) l = omega arith in ap (ltb 0) e
 
+-- the purge test, with the closed places counted
+pub purge-known : (xs : List ℕ) (f access n : ℕ) {t : Bool} → n ≡ countSide xs f 0 → t ≡ (eqb access 1 && eqb n places) → t ≡ purgesAt xs f access
+unfolding purgesAt
+purge-known xs f access n e k = k ∙ ap (λ (m : ℕ). eqb access 1 && eqb m places) e
+
 module _ (xs : List ℕ) (f : ℕ) (b : Built) (S : Shown xs f b) where
   pub others-are : (share : ℕ) → othersFrom xs share (places * f) places ≡ ltb 0 (countAcc (otherShare share) (b .accs))
   others-are share = ap (othersFrom xs share (places * f)) (sym (S .eight)) ∙ others-from xs share (places * f) (b .accs) (file-rows xs f b (S .eight) (S .rows))

@@ -1,9 +1,12 @@
 // What can be refused is found out on the shared segment, before anything is changed: "the lowest that applies is given".
+ghost use mathlib.Core.Path.{_≡_};
+ghost use mathlib.Core.Bool.{false, _&&_};
 ghost use mathlib.Core.List.{List};
 ghost use Prim.Native.Nat.{ℕ};
+ghost use lib.Dec.{eqb};
 ghost use Rattle.kinds.specs.declared.Frame.the-variants as frame;
 ghost use Rattle.rules.specs.Desk.{frameAsks};
-ghost use Rattle.judges.specs.Refused.{Stood, Refuses};
+ghost use Rattle.judges.specs.Refused.{Stood, Refuses, purgesBy};
 use kinds::Event;
 use kinds::refusals;
 
@@ -12,10 +15,27 @@ pub mod on_accessors;
 pub mod on_files;
 mod sharing;
 
-// The refusal number of an event; 0 where it is not refused. Whatever the data of a write are.
-pub fn judge(segment: &[u8], event: Event) -> u8
+// The refusal number of an event, 0 where it is not refused; and whether the event then purges, found here for what acts.
+pub struct Verdict {
+    pub refusal: u8,
+    pub purges: bool,
+}
+
+// It purges nothing.
+fn plain(refusal: u8) -> Verdict
+    ensures { λ r. ⌜ r ≡ record { refusal = refusal; purges = false } ⌝ }
+{
+    Verdict {
+        refusal,
+        purges: false,
+    }
+}
+
+// Whatever the data of a write are.
+pub fn judge(segment: &[u8], event: Event) -> Verdict
     requires { ⌜ Stood (now segment) ⌝ }
-    ensures { λ r. ⌜ ((t : List ℕ) → Refuses (now (segment .entry)) (frameAsks (frame.Event event) t) r) ⌝ }
+    ensures { λ r. ⌜ ((t : List ℕ) → Refuses (now (segment .entry)) (frameAsks (frame.Event event) t) (r .refusal)) ⌝ }
+    ensures { λ r. ⌜ r .purges ≡ (purgesBy (now (segment .entry)) event && eqb (r .refusal) 0) ⌝ }
 {
     match event {
         Event::Build {
@@ -24,24 +44,34 @@ pub fn judge(segment: &[u8], event: Event) -> u8
             factor,
             records,
             extents,
-        } => on_files::judge_build(segment, file, words, factor, records, extents),
+        } => plain(on_files::judge_build(segment, file, words, factor, records, extents)),
         Event::Open {
             file,
             access,
             share,
             multi,
         } => on_files::judge_open(segment, file, access, share, multi),
-        Event::Read { file, acc, count } => on_accessors::judge_read(segment, file, acc, count),
-        Event::Write { file, acc, count } => on_accessors::judge_write(segment, file, acc, count),
-        Event::Control { file, acc, control } => control_codes::judge_control(
+        Event::Read { file, acc, count } => plain(on_accessors::judge_read(
+            segment,
+            file,
+            acc,
+            count,
+        )),
+        Event::Write { file, acc, count } => plain(on_accessors::judge_write(
+            segment,
+            file,
+            acc,
+            count,
+        )),
+        Event::Control { file, acc, control } => plain(control_codes::judge_control(
             segment,
             file,
             acc,
             control,
-        ),
-        Event::Collect { file, acc } => on_accessors::judge_collect(segment, file, acc),
-        Event::Close { file, acc } => on_accessors::judge_close(segment, file, acc),
-        Event::Time { seconds: _ } => refusals::NONE,
-        Event::Counts { file } => on_files::judge_counts(segment, file),
+        )),
+        Event::Collect { file, acc } => plain(on_accessors::judge_collect(segment, file, acc)),
+        Event::Close { file, acc } => plain(on_accessors::judge_close(segment, file, acc)),
+        Event::Time { seconds: _ } => plain(refusals::NONE),
+        Event::Counts { file } => plain(on_files::judge_counts(segment, file)),
     }
 }

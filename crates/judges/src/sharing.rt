@@ -2,15 +2,14 @@
 use accessors::SINGLE;
 use accessors::sharing_of;
 use accessors::sides::count_side;
-use accessors::sides::purges;
 use kinds::limits::PLACES;
 use kinds::sides::CLOSED;
 use kinds::sides::READER;
 use kinds::sides::WRITER;
 ghost use mathlib.Core.Path.{_≡_};
-ghost use Prim.Native.Nat.{_*_, _≤_, _<_};
-ghost use mathlib.Core.Bool.{true, false};
-ghost use lib.Dec.{ltb};
+ghost use Prim.Native.Nat.{ℕ, _*_, _≤_, _<_};
+ghost use mathlib.Core.Bool.{true, false, _&&_};
+ghost use lib.Dec.{ltb, eqb};
 ghost use lib.ListN.{length};
 ghost use Rattle.rules.specs.Limits.{files, places};
 ghost use Rattle.rules.specs.State.{Built};
@@ -19,7 +18,7 @@ ghost use Rattle.rules.specs.Requests as requests;
 ghost use Rattle.rules.specs.Open.{crowded, purged, roomToOpen};
 ghost use Rattle.segment.specs.Layout.{segmentBytes};
 ghost use Rattle.judges.specs.Sharing.{differs, othersFrom};
-ghost use Rattle.accessors.specs.Sides.{countSide};
+ghost use Rattle.accessors.specs.Sides.{countSide, purgesAt};
 ghost use Rattle.judges.specs.Verdicts.{forbidden};
 ghost use Rattle.accessors.specs.Shown.{Shown};
 
@@ -28,6 +27,12 @@ const MANY: u16 = 3;
 
 // Multiaccess 3 is always refused.
 const NO_MULTI: u8 = 3;
+
+// The access that purges.
+const PURGING: u8 = 1;
+
+// As many closed places as a file has.
+const ALL_PLACES: u16 = PLACES as u16;
 
 // The open record, and the close record that a place is kept for.
 const WRITERS_RECORDS: u32 = 2;
@@ -123,14 +128,21 @@ pub fn forbids(segment: &[u8], f: usize, access: u8, share: u8, multi: u8, write
     crowds(segment, f, access, s, writers)
 }
 
-// The records that count as used when an open of that access puts its own.
-fn used_after(segment: &[u8], f: usize, access: u8) -> u32
+// Whether an open of that access purges a file with so many closed places: access 1 "purges if no accessor is open".
+pub fn purging(access: u8, closed: u16) -> bool
+    ensures { λ r. ⌜ r ≡ (eqb access 1 && eqb closed places) ⌝ }
+{
+    access == PURGING && closed == ALL_PLACES
+}
+
+// The records that count as used when an open puts its own, and purges or not.
+fn used_after(segment: &[u8], f: usize, purges: bool) -> u32
     requires { ⌜ length (now segment) ≡ segmentBytes ⌝ }
     requires { ⌜ f < files ⌝ }
-    ensures { λ r. ⌜ ((b : Built) → Shown (now (segment .entry)) f b → r ≡ used (purged access b .store)) ⌝ }
+    ensures { λ r. ⌜ ((b : Built) → Shown (now (segment .entry)) f b → (access : ℕ) → purges ≡ purgesAt (now (segment .entry)) f access → r ≡ used (purged access b .store)) ⌝ }
     ensures { λ r. ⌜ r < 131072 ⌝ }
 {
-    if purges(segment, f, access) {
+    if purges {
         return 0;
     }
     let row = segment::read_file(segment, f);
@@ -138,12 +150,12 @@ fn used_after(segment: &[u8], f: usize, access: u8) -> u32
 }
 
 // "A writer puts an open record and needs used + W + 2 ≤ C, with W before it and after any purge."
-pub fn has_room(segment: &[u8], f: usize, access: u8, writers: u16) -> bool
+pub fn has_room(segment: &[u8], f: usize, purges: bool, writers: u16) -> bool
     requires { ⌜ length (now segment) ≡ segmentBytes ⌝ }
     requires { ⌜ (f < files) × (writers ≡ countSide (now segment) f 2) × (writers ≤ places) ⌝ }
-    ensures { λ r. ⌜ ((b : Built) → Shown (now (segment .entry)) f b → r ≡ roomToOpen access b) ⌝ }
+    ensures { λ r. ⌜ ((b : Built) → Shown (now (segment .entry)) f b → (access : ℕ) → purges ≡ purgesAt (now (segment .entry)) f access → r ≡ roomToOpen access b) ⌝ }
 {
-    let used = used_after(segment, f, access);
+    let used = used_after(segment, f, purges);
     let row = segment::read_file(segment, f);
     used + writers as u32 + WRITERS_RECORDS <= row.factor as u32 * row.blocks as u32
 }

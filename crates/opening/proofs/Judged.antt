@@ -19,9 +19,10 @@ module _ {m : Memories} (f access share multi : ℕ) where
   pub asks-reader : Sound m × Accepted f (calls.opens access share multi) m → Sound m × Each Reads f m
   asks-reader (k, a) = (k, λ d s S. let A = accepted-open d f access share multi (a d s S) in (A .file, A .b, A .stands, A .known .place))
 
-  pub asks-writer : (access ≡ 0 → ⊥) → Sound m × Accepted f (calls.opens access share multi) m → Sound m × Each (Writes access) f m
-  asks-writer h (k, a) =
-      (k, λ d s S. let A = accepted-open d f access share multi (a d s S) in (A .file, A .b, A .stands, (A .known .place, A .known .room (omega (arith, h)))))
+  pub each-writer : (access ≡ 0 → ⊥) → Accepted f (calls.opens access share multi) m → Each (Writes access) f m
+  each-writer h a d s S =
+      let A = accepted-open d f access share multi (a d s S) in
+      (A .file, A .b, A .stands, (A .known .place, A .known .room (omega (arith, h))))
 
   module _ (P : Sound m × Accepted f (calls.opens access share multi) m) (given : ℕ) (g : given ≡ sharingOf share) (m′ : Memories) (r : Answer) where
     pub reader-brings : access ≡ 0

@@ -1,7 +1,7 @@
 -- What open works on, and what it makes of the file in hand.
 use Prim.Native.Nat.{ℕ, _<_}
 use mathlib.Core.Path.{_≡_}
-use mathlib.Core.Bool.{true}
+use mathlib.Core.Bool.{Bool, true}
 use mathlib.Core.List.{List}
 use Rattle.segment.specs.Fields.{fileAt}
 use Rattle.rules.specs.Limits.{files, places}
@@ -12,6 +12,7 @@ use Rattle.rules.specs.Desk.{Desk, fileOf}
 use Rattle.rules.specs.Allocation.{Alloc}
 use Rattle.memory.specs.Memories.{Memories, memories}
 use Rattle.memory.specs.Fine.{StandsFor}
+use Rattle.accessors.specs.Sides.{purgesAt}
 use Rattle.midst.specs.declared.File.{File}
 use Rattle.midst.specs.File.{fileOfRow}
 use Rattle.midst.specs.Mid.{Start, Mid}
@@ -27,6 +28,10 @@ Reads b = opened b < places
 
 abbrev pub Writes : ℕ → Built → Type 0
 Writes access b = (opened b < places) × (roomToOpen access b ≡ true)
+
+-- an open of that access, as one that purges or as one that does not
+abbrev pub Enters : ℕ → Bool → ℕ → Memories → Type 0
+Enters access purges f m = (purges ≡ purgesAt (m .segment) f access) × Each (Writes access) f m
 
 -- file f in hand, purged or not: in the midst of every call it stands for the rules' file
 abbrev pub Takes : ℕ → ℕ → List ℕ → File → Type 0

@@ -1,6 +1,6 @@
 // An accessor enters: a reader, or a writer with its open record.
 ghost use mathlib.Core.Path.{_≡_};
-ghost use Prim.Native.Nat.{_+_, _*_, _<_};
+ghost use Prim.Native.Nat.{ℕ, _+_, _*_, _<_};
 ghost use lib.ListN.{length};
 ghost use Rattle.segment.specs.Layout.{segmentBytes, placeRowAt};
 ghost use Rattle.segment.specs.Table.{fill};
@@ -11,15 +11,15 @@ ghost use Rattle.rules.specs.Open.{purged, openReader, openWriter};
 ghost use Rattle.rules.specs.Desk.{Desk, fileOf};
 ghost use Rattle.rules.specs.Allocation.{Alloc};
 ghost use Rattle.ring.specs.Ring.{Ranged};
+ghost use Rattle.accessors.specs.Sides.{purgesAt};
 ghost use Rattle.memory.specs.Memories.{memories};
 ghost use Rattle.memory.specs.Fine.{StandsFor};
 ghost use Rattle.midst.specs.File.{fileOfRow};
 ghost use Rattle.midst.specs.Outcome.{Sound, Done};
 ghost use Rattle.opening.specs.Finding.{newRow};
-ghost use Rattle.opening.specs.Opens.{Each, Reads, Writes, Takes};
+ghost use Rattle.opening.specs.Opens.{Each, Reads, Enters, Takes};
 use crate::finding::free_id;
 use crate::finding::free_place;
-use accessors::sides::purges;
 use kinds::Answer;
 use kinds::limits::PLACES;
 use kinds::record_types::OPEN;
@@ -50,13 +50,13 @@ fn enter(segment: &mut [u8], f: usize, acc: u8, side: u16, id: u16, share: u16)
     segment::write_place(segment, PLACES * f + acc as usize, row);
 }
 
-// File f in hand, for a writer: access 1 "purges if no accessor is open, else appends".
-fn take(segment: &[u8], f: usize, access: u8) -> File
+// File f in hand, for a writer: access 1 "purges if no accessor is open, else appends". Which of the two was found in judging.
+fn take(segment: &[u8], f: usize, purges: bool) -> File
     requires { ⌜ (length (now segment) ≡ segmentBytes) × (f < files) × Ranged (fileOfRow (fileAt (now segment) f) .ring) ⌝ }
-    ensures { λ r. ⌜ Takes access f (now (segment .entry)) r ⌝ }
+    ensures { λ r. ⌜ ((access : ℕ) → purges ≡ purgesAt (now (segment .entry)) f access → Takes access f (now (segment .entry)) r) ⌝ }
 {
     let file = take_file(segment, f);
-    if !purges(segment, f, access) {
+    if !purges {
         return file;
     }
     purge(file)
@@ -80,21 +80,21 @@ pub fn open_reader(
     Answer::Opened { acc, id: 0 }
 }
 
-// "A writer puts an open record"
+// "A writer puts an open record", of whatever access its open is.
 pub fn open_writer(
     segment: &mut [u8],
     blocks: &mut [u8],
     buffers: &mut [u8],
     f: usize,
-    access: u8,
     share: u16,
+    purges: bool,
 ) -> Answer
-    requires { ⌜ Sound (memories (now segment) (now blocks) (now buffers)) × Each (Writes access) f (memories (now segment) (now blocks) (now buffers)) ⌝ }
-    ensures { λ r. ⌜ ((d : Desk) (s : Alloc) (b : Built) → StandsFor (memories (now (segment .entry)) (now (blocks .entry)) (now (buffers .entry))) d s → fileOf d f ≡ built b → Done f d s (openWriter share (purged access b)) (memories (now (segment .entry)) (now (blocks .entry)) (now (buffers .entry))) (memories (now (segment .exit)) (now (blocks .exit)) (now (buffers .exit))) r) ⌝ }
+    requires { ⌜ Sound (memories (now segment) (now blocks) (now buffers)) × ((access : ℕ) × Enters access purges f (memories (now segment) (now blocks) (now buffers))) ⌝ }
+    ensures { λ r. ⌜ ((access : ℕ) → Enters access purges f (memories (now (segment .entry)) (now (blocks .entry)) (now (buffers .entry))) → (d : Desk) (s : Alloc) (b : Built) → StandsFor (memories (now (segment .entry)) (now (blocks .entry)) (now (buffers .entry))) d s → fileOf d f ≡ built b → Done f d s (openWriter share (purged access b)) (memories (now (segment .entry)) (now (blocks .entry)) (now (buffers .entry))) (memories (now (segment .exit)) (now (blocks .exit)) (now (buffers .exit))) r) ⌝ }
 {
     let acc = free_place(segment, f);
     let id = free_id(segment, f);
-    let file = take(segment, f, access);
+    let file = take(segment, f, purges);
     let nothing = [0u8; 0];
     let written = put(blocks, f, file, OPEN, id, &nothing);
     enter(segment, f, acc, WRITER, id, share);

@@ -1,6 +1,8 @@
 // Build and open. What is asked has been judged and is not refused; here it is done.
+ghost use mathlib.Core.Path.{_≡_};
 ghost use Rattle.rules.specs.Calls as calls;
 ghost use Rattle.memory.specs.Memories.{memories};
+ghost use Rattle.accessors.specs.Sides.{purgesAt};
 ghost use Rattle.midst.specs.Outcome.{Sound, Accepted, Does};
 
 mod entering;
@@ -53,7 +55,7 @@ pub fn build(
     Answer::Built { capacity: room }
 }
 
-// An accessor of file f is opened: access 0 reads, any other writes. Multiaccess has been judged, and nothing goes by it here.
+// An accessor of file f is opened: access 0 reads, any other writes. Whether it purges was found in judging. Multiaccess has been judged, and nothing goes by it here.
 pub fn open(
     segment: &mut [u8],
     blocks: &mut [u8],
@@ -62,13 +64,15 @@ pub fn open(
     access: u8,
     share: u8,
     multi: u8,
+    purges: bool,
 ) -> Answer
     requires { ⌜ Sound (memories (now segment) (now blocks) (now buffers)) × Accepted f (calls.opens access share multi) (memories (now segment) (now blocks) (now buffers)) ⌝ }
+    requires { ⌜ purges ≡ purgesAt (now segment) f access ⌝ }
     ensures { λ r. ⌜ Does f (calls.opens access share multi) (memories (now (segment .entry)) (now (blocks .entry)) (now (buffers .entry))) (memories (now (segment .exit)) (now (blocks .exit)) (now (buffers .exit))) r ⌝ }
 {
     let given = sharing_of(share);
     if access == READS {
         return open_reader(segment, blocks, buffers, f, given);
     }
-    open_writer(segment, blocks, buffers, f, access, given)
+    open_writer(segment, blocks, buffers, f, given, purges)
 }

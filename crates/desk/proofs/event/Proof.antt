@@ -1,6 +1,6 @@
 -- `event` meets its contract: an answer to each need, in the order of the code.
 use Rattle.words.specs.Word.{Bytes}
-use Rattle.desk.proofs.Refuses.{frame-refused, not-refused, first-refused}
+use Rattle.desk.proofs.Refuses.{frame-refused, not-refused, purge-found, first-refused}
 use Rattle.desk.proofs.First.{first-there}
 use Rattle.promises.proofs.Events.{event-length, event-unsound, event-done}
 use Rattle.promises.proofs.Room.{with-room}
@@ -102,16 +102,15 @@ judge-requires c κs =
 
 shared-slice-read-status : tie.Need-shared-slice-read-status
 shared-slice-read-status c =
-    let judged = c .before .before in
-    let told = judged .before .before .before in
-    let h = first-there _ _ (sym (told .before .before .decode .ensures) ∙ told .said .given .1) in
+    let told : tie.After-said = search in
+    let decoded : tie.After-decode = search in
+    let h = first-there _ _ (sym (decoded .decode .ensures) ∙ told .said .given .1) in
     search needs
 
 status-requires : tie.Need-status-requires
 status-requires c κs =
-    let judged = c .before .before .before in
-    let test = judged .before .before .before .before .before .before in
-    omega (arith, test .before .before .before .before .before .if1 .left)
+    let room : tie.Else1 = search in
+    omega (arith, room .if1 .left)
 
 same-length-8 : tie.Need-same-length-8
 same-length-8 c = search needs
@@ -128,20 +127,20 @@ same-length-11 c = search needs
 returns-4 : tie.Need-returns-4
 unfolding Bytes
 returns-4 c =
-    let done = c .before .before in
-    let then = done .before .before .before in
-    let judged = then .before in
-    let told = judged .before .before .before in
-    let decoded = told .before .before in
-    let test = decoded .before in
-    let asked = test .before .before .before in
+    let here : tie.After-status = search in let status = here .status in
+    let here : tie.Then3 = search in let if3 = here .if3 in
+    let here : tie.After-judge = search in let judge = here .judge in
+    let here : tie.After-said = search in let said = here .said in
+    let here : tie.After-decode = search in let decode = here .decode in
+    let here : tie.Else2 = search in let if2 = here .if2 in
+    let here : tie.After-sound = search in let sound = here .sound in
+    let here : tie.Else1 = search in let if1 = here .if1 in
     let here : tie.After-slice-known3 = search in let slice-known3 = here .slice-known3 in
     let here : tie.After-slice-known2 = search in let slice-known2 = here .slice-known2 in
     let here : tie.After-slice-known = search in let slice-known = here .slice-known in
     with-room _ _ _ _ _ _ (λ i. slice-known .given i .fits) (λ i. slice-known2 .given i .fits) (λ i. slice-known3 .given i .fits)
-    (event-done _ _ _ (asked .before .before .if1 .left) _ _ _ (sym (test .before .sound .ensures) ∙ not-false _ (test .if2 .left)) (λ d s S.
-    let said = sym (decoded .decode .ensures) ∙ told .said .given .1 in
-    let r = first-refused S _ _ _ _ _ _ said (judged .judge .ensures _ _ _ d s S) (then .if3 .taken) (done .status .ensures) in
+    (event-done _ _ _ (if1 .left) _ _ _ (sym (sound .ensures) ∙ not-false _ (if2 .left)) (λ d s S.
+    let r = first-refused S _ _ _ _ _ _ (sym (decode .ensures) ∙ said .given .1) (judge .ensures .0 _ _ _ d s S) (if3 .taken) (status .ensures) in
     (r .stays, r .told)))
 
 serve-requires : tie.Need-serve-requires
@@ -162,9 +161,10 @@ serve-requires c κs =
             (λ i. slice-known3 .given i .fits) (sym (sound .ensures) ∙ not-false _ (if2 .left))),
         if1 .left,
         (sym (decode .ensures) ∙ said .given .1),
+        purge-found _ _ _ (judge .ensures .1) (if3 .left),
       ),
       λ d s S.
-          not-refused _ _ _ d (sym (decode .ensures) ∙ said .given .1) (judge .ensures _ _ _ d s S) (if3 .left),
+          not-refused _ _ _ d (sym (decode .ensures) ∙ said .given .1) (judge .ensures .0 _ _ _ d s S) (if3 .left),
     )
 
 same-length-12 : tie.Need-same-length-12

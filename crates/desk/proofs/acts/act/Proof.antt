@@ -2,6 +2,7 @@
 use Rattle.desk.proofs.Writes.{rest-is, write-long}
 use Rattle.desk.proofs.Events.{ok-build, act-build, ok-open, act-open, ok-read, act-read, ok-write, act-write, ok-control, act-control, ok-collect, act-collect, ok-close, act-close, counts-stand, counted, act-time}
 use Rattle.kinds.specs.declared.Frame.the-variants as what
+use Rattle.judges.specs.Refused.{purgesBy}
 use native.Mathlib.Omega.{arith}
 use mathlib.Core.Path.{ap, _∙_}
 use borrow.Author.Needs.{needs}
@@ -30,10 +31,13 @@ cast-open : tie.Need-cast-open
 cast-open c = search needs
 
 open-requires : tie.Need-open-requires
+unfolding purgesBy
 open-requires c κs =
     let here : tie.After-event2 = search in let event2 = here .event2 in
-    let start : tie.Start = search in
-    (start .pre .0 .0, ok-open _ (start .pre .1) _ _ _ _ (start .pre .0 .2 ∙ ap what.Event (event2 .given .1)))
+    let start : tie.Start = search in (
+      (start .pre .0 .0, ok-open _ (start .pre .1) _ _ _ _ (start .pre .0 .2 ∙ ap what.Event (event2 .given .1))),
+      start .pre .0 .3 ∙ ap (purgesBy _) (event2 .given .1),
+    )
 
 plain-requires-2 : tie.Need-plain-requires-2
 plain-requires-2 c κs = search needs

@@ -22,8 +22,9 @@ enum-told c = search needs
 
 returns : tie.Need-returns
 returns c =
+    let here : tie.After-judge = search in let judge = here .judge in
     let here : tie.After-said = search in let said = here .said in
-    rw (said .given .1) (c .judge .ensures)
+    rw (said .given .1) (judge .ensures .0)
 
 returns-2 : tie.Need-returns-2
 unfolding frameAsks

@@ -38,11 +38,11 @@ returns : tie.Need-returns
 returns c =
     let here : tie.After-used-after = search in let used-after = here .used-after in
     let start : tie.Start = search in
-    λ b S.
+    λ b S access k.
     ap
     (λ r. leb (used-after .result + start .args .writers + 2) (r .factor * r .blocks))
     (c .before .before .read-file .ensures)
-    ∙ together.has-room _ _ b S _ _ _ (used-after .ensures .0 b S) (start .pre .1 .1)
+    ∙ together.has-room _ _ b S access _ _ (used-after .ensures .0 b S access k) (start .pre .1 .1)
 
 pub has-room-spec : {M : Type 1} → statement M
 has-room-spec =

@@ -7,11 +7,8 @@ use borrow.Author.Needs.{needs}
 use Rattle.judges.proofs.sharing.used_after.Statement.{statement}
 use Rattle.judges.proofs.sharing.used_after.Tie as tie
 
-purges-requires : tie.Need-purges-requires
-purges-requires c κs = search needs
-
 returns : tie.Need-returns
-returns c = (λ b S. sym (together.used-purged _ _ b S _ (sym (c .before .purges .ensures) ∙ c .if1 .taken)), search needs)
+returns c = (λ b S access k. sym (together.used-purged _ _ b S access (sym k ∙ c .if1 .taken)), search needs)
 
 read-file-requires : tie.Need-read-file-requires
 read-file-requires c κs = search needs
@@ -26,19 +23,17 @@ add-result : tie.Need-add-result
 add-result c = search needs
 
 returns-2 : tie.Need-returns-2
-returns-2 c =
-    let here : tie.After-purges = search in let purges = here .purges in (
-      λ b S.
-          ap (λ r. r .spent + r .held) (c .before .before .read-file .ensures)
-          ∙ together.used-kept _ _ b S _ (sym (purges .ensures) ∙ c .before .before .before .if1 .left),
-      omega arith,
-    )
+returns-2 c = (
+  λ b S access k.
+      ap (λ r. r .spent + r .held) (c .before .before .read-file .ensures)
+      ∙ together.used-kept _ _ b S access (sym k ∙ c .before .before .before .if1 .left),
+  omega arith,
+)
 
 pub used-after-spec : {M : Type 1} → statement M
 used-after-spec =
     tie.close
     (tie.spec
-    purges-requires
     returns
     read-file-requires
     cast-result

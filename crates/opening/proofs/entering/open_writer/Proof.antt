@@ -7,19 +7,21 @@ use Rattle.opening.proofs.entering.open_writer.Tie as tie
 free-place-requires : tie.Need-free-place-requires
 free-place-requires c κs =
     let start : tie.Start = search in
-    (each-sizes (start .pre) .0, each-file (start .pre))
+    let (sound, (access, (known, each))) = start .pre in
+    (each-sizes (sound, each) .0, each-file (sound, each))
 
 free-id-requires : tie.Need-free-id-requires
 free-id-requires c κs =
     let start : tie.Start = search in
-    (each-sizes (start .pre) .0, each-file (start .pre))
+    let (sound, (access, (known, each))) = start .pre in
+    (each-sizes (sound, each) .0, each-file (sound, each))
 
 take-requires : tie.Need-take-requires
 take-requires c κs =
     let start : tie.Start = search in
-    let (d, s, S) = start .pre .0 in
-    let (hf, b, e, k) = start .pre .1 d s S in
-    (each-sizes (start .pre) .0, hf, row-ranged S _ hf b e)
+    let ((d, s, S), (access, (known, each))) = start .pre in
+    let (hf, b, e, k) = each d s S in
+    (each-sizes ((d, s, S), each) .0, hf, row-ranged S _ hf b e)
 
 slice-aggregate-put : tie.Need-slice-aggregate-put
 slice-aggregate-put c = search needs
@@ -27,17 +29,17 @@ slice-aggregate-put c = search needs
 put-requires : tie.Need-put-requires
 put-requires c κs =
     let start : tie.Start = search in
-    let (d, s, S) = start .pre .0 in
-    let (hf, b, e, k) = start .pre .1 d s S in
-    writer-ready S _ hf b e _ _ (c .before .before .take .ensures)
+    let ((d, s, S), (access, (known, each))) = start .pre in
+    let (hf, b, e, k) = each d s S in
+    writer-ready S _ hf b e access _ (c .before .before .take .ensures access known)
 
 enter-requires : tie.Need-enter-requires
 enter-requires c κs =
     let here : tie.After-free-place = search in let free-place = here .free-place in
     let start : tie.Start = search in
-    let (d, s, S) = start .pre .0 in
-    let (hf, b, e, k) = start .pre .1 d s S in
-    (each-sizes (start .pre) .0, hf, place-low S _ hf b e _ (free-place .ensures .0) (k .0))
+    let ((d, s, S), (access, (known, each))) = start .pre in
+    let (hf, b, e, k) = each d s S in
+    (each-sizes ((d, s, S), each) .0, hf, place-low S _ hf b e _ (free-place .ensures .0) (k .0))
 
 rest-requires : tie.Need-rest-requires
 rest-requires c κs =
@@ -47,11 +49,11 @@ rest-requires c κs =
     let here : tie.After-free-id = search in let free-id = here .free-id in
     let here : tie.After-free-place = search in let free-place = here .free-place in
     let start : tie.Start = search in
-    let (d, s, S) = start .pre .0 in
-    let (hf, b, e, k) = start .pre .1 d s S in (
+    let ((d, s, S), (access, (known, each))) = start .pre in
+    let (hf, b, e, k) = each d s S in (
       _,
       _,
-      writer-in S _ hf b e _ _ (take .ensures) _ _ _ _ _ _ k (free-place .ensures .0) (free-id .ensures)
+      writer-in S _ hf b e access _ (take .ensures access known) _ _ _ _ _ _ k (free-place .ensures .0) (free-id .ensures)
           (put .ensures .1 .1) (enter .ensures),
     )
 
@@ -72,12 +74,11 @@ returns c =
     let here : tie.After-take = search in let take = here .take in
     let here : tie.After-free-id = search in let free-id = here .free-id in
     let here : tie.After-free-place = search in let free-place = here .free-place in
-    let start : tie.Start = search in
-    λ d s b S e.
-    let (hf, k) = each-at (start .pre .1) d s b S e in
-    writer-done S _ hf b e _ _ (take .ensures) _ _ _ _ (free-place .ensures .0) (free-id .ensures)
+    λ access (known, each) d s b S e.
+    let (hf, k) = each-at each d s b S e in
+    writer-done S _ hf b e access _ (take .ensures access known) _ _ _ _ (free-place .ensures .0) (free-id .ensures)
     (rest .ensures _ _
-    (writer-in S _ hf b e _ _ (take .ensures) _ _ _ _ _ _ k (free-place .ensures .0) (free-id .ensures)
+    (writer-in S _ hf b e access _ (take .ensures access known) _ _ _ _ _ _ k (free-place .ensures .0) (free-id .ensures)
     (put .ensures .1 .1) (enter .ensures)) (S .stands .bodies))
 
 pub open-writer-spec : {M : Type 1} → statement M

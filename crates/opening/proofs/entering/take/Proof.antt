@@ -11,11 +11,8 @@ use Rattle.opening.proofs.entering.take.Tie as tie
 take-file-requires : tie.Need-take-file-requires
 take-file-requires c κs = search needs
 
-purges-requires : tie.Need-purges-requires
-purges-requires c κs = search needs
-
 returns : tie.Need-returns
-returns c = taken-plain _ _ _ _ (c .before .purges .ensures) _ (c .before .before .take-file .ensures) (not-true _ (c .if1 .taken))
+returns c = λ access k. taken-plain _ _ access _ k _ (c .before .take-file .ensures) (not-true _ (c .if1 .taken))
 
 purge-requires : tie.Need-purge-requires
 purge-requires c κs =
@@ -27,7 +24,8 @@ returns-2 : tie.Need-returns-2
 returns-2 c =
     let here : tie.After-take-file = search in
     let else1 : tie.Else1 = search in
-    taken-purged _ _ _ _ (else1 .before .purges .ensures) _ (here .take-file .ensures) (not-false _ (else1 .if1 .left)) _ (c .purge .ensures .1)
+    λ access k.
+    taken-purged _ _ access _ k _ (here .take-file .ensures) (not-false _ (else1 .if1 .left)) _ (c .purge .ensures .1)
 
 pub take-spec : {M : Type 1} → statement M
-take-spec = tie.close (tie.spec take-file-requires purges-requires returns purge-requires returns-2)
+take-spec = tie.close (tie.spec take-file-requires returns purge-requires returns-2)
