@@ -72,7 +72,7 @@ fn others(segment: &[u8], f: usize, share: u16) -> bool
 pub fn writers_for(segment: &[u8], f: usize, access: u8) -> u16
     requires { ⌜ length (now segment) ≡ segmentBytes ⌝ }
     requires { ⌜ f < files ⌝ }
-    ensures { λ r. ⌜ ((0 < access → r ≡ countSide (now (segment .entry)) f 2) × (r ≤ places)) ⌝ }
+    ensures { λ r. ⌜ (access ≡ 0 → r ≡ 0) × (0 < access → r ≡ countSide (now (segment .entry)) f 2) × (r ≤ places) ⌝ }
 {
     if access == 0 {
         return 0;
@@ -153,6 +153,7 @@ fn used_after(segment: &[u8], f: usize, purges: bool) -> u32
 pub fn has_room(segment: &[u8], f: usize, purges: bool, writers: u16) -> bool
     requires { ⌜ length (now segment) ≡ segmentBytes ⌝ }
     requires { ⌜ (f < files) × (writers ≡ countSide (now segment) f 2) × (writers ≤ places) ⌝ }
+    requires { ⌜ ((access : ℕ) × (purges ≡ purgesAt (now segment) f access)) ⌝ }
     ensures { λ r. ⌜ ((b : Built) → Shown (now (segment .entry)) f b → (access : ℕ) → purges ≡ purgesAt (now (segment .entry)) f access → r ≡ roomToOpen access b) ⌝ }
 {
     let used = used_after(segment, f, purges);

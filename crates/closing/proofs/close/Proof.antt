@@ -7,7 +7,7 @@ use Rattle.closing.proofs.close.Tie as tie
 
 -- The way back from one place to another.
 abbrev after-remove-from-after-rest : tie.After-rest → tie.After-remove
-after-remove-from-after-rest c = c .before .before .before .before .before .before .before .before .before .before .before .before .before .before .before
+after-remove-from-after-rest c = search
 
 mul-place-side : tie.Need-mul-place-side
 mul-place-side c =

@@ -20,7 +20,7 @@ abbrev μ-loop : tie.MeasureT-loop
 
 -- The way back from one place to another.
 abbrev at-loop-from-after-serve-writer : tie.After-serve-writer Inv-loop μ-loop → tie.At-loop Inv-loop μ-loop
-at-loop-from-after-serve-writer c = c .before .before .before .before .before .before .before .before .before .before .before .before .before .before
+at-loop-from-after-serve-writer c = search
 
 loop-holds : tie.Need-loop-holds Inv-loop μ-loop
 loop-holds c = let start : tie.Start Inv-loop μ-loop = search in (comes-here _ _ _, refl, refl, refl, start .pre .1)

@@ -31,7 +31,7 @@ writers-for-requires c κs = search needs
 forbids-requires : tie.Need-forbids-requires
 forbids-requires c κs =
     let start : tie.Start = search in
-    (start .pre .0, (start .pre .1, c .writers-for .ensures .0))
+    (start .pre .0, (start .pre .1, c .writers-for .ensures .1))
 
 plain-requires-2 : tie.Need-plain-requires-2
 plain-requires-2 c κs = search needs
@@ -101,9 +101,16 @@ purging-requires c κs = search needs
 has-room-requires : tie.Need-has-room-requires
 has-room-requires c κs =
     let start : tie.Start = search in
-    let counted : tie.After-writers-for = search in
+    let writers : tie.After-writers-for = search in
+    let counted : tie.After-count-side = search in
     let writes : tie.Else4 = search in
-    (start .pre .0, (start .pre .1, counted .writers-for .ensures .0 (omega (arith, writes .if4 .left)), counted .writers-for .ensures .1))
+    let tested : tie.After-purging = search in (
+      start .pre .0,
+      (
+        (start .pre .1, writers .writers-for .ensures .1 (omega (arith, writes .if4 .left)), writers .writers-for .ensures .2),
+        (start .args .access, purge-known _ _ (start .args .access) _ (counted .count-side .ensures .0) (tested .purging .ensures)),
+      ),
+    )
 
 plain-requires-5 : tie.Need-plain-requires-5
 plain-requires-5 c κs = search needs

@@ -42,7 +42,7 @@ returns c =
     ap
     (λ r. leb (used-after .result + start .args .writers + 2) (r .factor * r .blocks))
     (c .before .before .read-file .ensures)
-    ∙ together.has-room _ _ b S access _ _ (used-after .ensures .0 b S access k) (start .pre .1 .1)
+    ∙ together.has-room _ _ b S access _ _ (used-after .ensures .0 b S access k) (start .pre .1 .0 .1)
 
 pub has-room-spec : {M : Type 1} → statement M
 has-room-spec =

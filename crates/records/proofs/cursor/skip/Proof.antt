@@ -39,10 +39,10 @@ loop-less : tie.Need-loop-less Inv-loop μ-loop
 loop-less c = search needs
 
 loop-again : tie.Need-loop-again Inv-loop μ-loop
-loop-again c = (
+loop-again c = let start : tie.Start Inv-loop μ-loop = search in (
   λ e h. c .before .before .loop .inv .0 e h ∙ skip-step _ _ _ _ _ (c .before .loop-test .taken) (under (c .before) e h) (c .next .ensures .0),
   search needs,
-  omega (arith, under (c .before) (c .before .before .before .before .pre .1 .0) (c .before .before .before .before .pre .1 .2)),
+  omega (arith, under (c .before) (start .pre .1 .0) (start .pre .1 .2)),
 )
 
 returns : tie.Need-returns Inv-loop μ-loop

@@ -14,7 +14,7 @@ use Rattle.settling.proofs.writers.serve_writer.Tie as tie
 
 -- a writer waits, and so the open writers are counted
 abbrev waits-start : tie.Else1 → tie.Start
-waits-start c = c .before .before .before .before .before .before
+waits-start c = search
 
 counted : (c : tie.Else1) → waits-start c .args .writers ≡ countSide (waits-start c .args .segment .now) (waits-start c .args .f) 2
 counted c = waits-start c .pre .1 (rw (← c .before .get .ensures) (c .if1 .left))

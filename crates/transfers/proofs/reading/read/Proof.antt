@@ -16,13 +16,13 @@ use Rattle.transfers.proofs.reading.read.Tie as tie
 
 -- back from a place to one before it, and to the start
 abbrev fetch-start : tie.After-fetch → tie.Start
-fetch-start c = c .before .before .before .before .before .before .before .before .before .before .before .before
+fetch-start c = search
 
 abbrev fetch-file : tie.After-fetch → tie.After-take-file
-fetch-file c = c .before .before .before .before .before .before
+fetch-file c = search
 
 abbrev fetch-typed : tie.After-fetch → tie.After-place-typed
-fetch-typed c = c .before .before .before .before
+fetch-typed c = search
 
 abbrev fetch-keep : tie.After-fetch → tie.After-place-keep
 fetch-keep c = c .before .before
@@ -34,16 +34,16 @@ abbrev bytes-words : tie.After-count-bytes → tie.After-in-words
 bytes-words c = c .before
 
 abbrev gave-bytes : tie.After-give → tie.After-count-bytes
-gave-bytes c = c .before .before .before .before .before
+gave-bytes c = search
 
 abbrev gave-then : tie.After-give → tie.Then1
-gave-then c = c .before .before .before .before
+gave-then c = search
 
 abbrev gave-share : tie.After-give → tie.After-share
 gave-share c = c .before .before
 
 abbrev began-gave : tie.After-begin-read → tie.After-give
-began-gave c = c .before .before .before .before
+began-gave c = search
 
 -- what is asked of numbers and lengths
 fit : (c : tie.Start) → Fit (memories (c .args .segment .now) (c .args .blocks .now) (c .args .buffers .now)) (c .args .f) (c .args .acc)

@@ -39,7 +39,7 @@ fits-requires-2 c κs = search needs
 
 returns-3 : tie.Need-returns-3
 returns-3 c =
-    let test = c .before .before .before .before in
+    let test : tie.Else1 = search in
     let counted : tie.After-count-side2 = search in (
       admits-so _ _ _ _ (test .before .get .ensures) _ _ (test .if1 .left) (c .fits3 .ensures) (counted .count-side2 .ensures .0),
       λ _. counted .count-side2 .ensures .0,

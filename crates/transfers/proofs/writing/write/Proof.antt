@@ -15,7 +15,7 @@ use Rattle.transfers.proofs.writing.write.Tie as tie
 
 -- back from a place to one before it, and to the start
 abbrev asked-start : tie.After-taken-now → tie.Start
-asked-start c = c .before .before .before .before .before .before .before .before .before
+asked-start c = search
 
 abbrev asked-file : tie.After-taken-now → tie.After-take-file
 asked-file c = c .before .before .before
