@@ -1,4 +1,4 @@
-// The pair by boost's interprocess message queue: a line a figure, as pairs.c prints them.
+// Times a write and its read by boost's interprocess message queue. Prints one line for each figure, as pairs.c does.
 #include <boost/interprocess/ipc/message_queue.hpp>
 #include <cstdio>
 #include <ctime>

@@ -16,7 +16,7 @@ size_t ask(const uint8_t *frame, size_t length)
     return tendrilhook_event(segment, sizeof segment, blocks, sizeof blocks, buffers, sizeof buffers, answer, sizeof answer, frame, length);
 }
 
-/* An event that must be answered with this status. */
+/* Asks an event that must be answered with this status. */
 static void must(uint8_t status, const uint8_t *frame, size_t length)
 {
     if (ask(frame, length) < 2 || answer[1] != status) {
@@ -56,7 +56,7 @@ static void read_words(uint8_t file, uint8_t place, uint8_t status, uint8_t word
     must(status, frame, sizeof frame);
 }
 
-/* The other seven files, of records of 16 bytes: each with so many readers, and writers at the rest of its places. */
+/* Builds the other seven files, with records of 16 bytes, and opens all their places: the given number of readers each, and writers at the rest. */
 static void open_all(uint8_t readers)
 {
     for (uint8_t file = 1; file < 8; file++) {
@@ -65,7 +65,7 @@ static void open_all(uint8_t readers)
     }
 }
 
-/* Their reads wait with timeouts, and are aborted in another order. */
+/* Shuffles the free list: reads of the other files wait with timeouts, and are aborted in another order. */
 static void shuffle(void)
 {
     static const uint8_t order[] = { 2, 0, 3, 1 };
@@ -84,7 +84,7 @@ static void hold(int records)
         for (int n = 0; n < records; n++) write_words(file, 7, DONE, 8);
 }
 
-/* Writes until no more fits; then each writer waits with a timeout. */
+/* Writes to the other files until no more fits; then each of their writers waits with a timeout. */
 static void fill(void)
 {
     for (uint8_t file = 1; file < 8; file++)
@@ -107,7 +107,7 @@ void bring(enum state state)
     build(0, 128, 1, 13);
     open_place(0, APPENDS);
     open_place(0, READS);
-    /* its first read takes the open record's place at the head */
+    /* the first read discards the open record at the head */
     pair(8);
 }
 

@@ -9,13 +9,13 @@ enum state { ONE_FILE, CROWDED, HOLDING, FULL, STATES };
 
 extern const char *const state_names[STATES];
 
-/* Makes the desk fresh and brings it into a state: file 0 is built, place 0 writes, place 1 reads, and nothing is in it. */
+/* Makes the desk fresh and brings it into a state: file 0 is built and empty, place 0 writes, place 1 reads. */
 void bring(enum state state);
 
-/* A write of so many bytes to file 0 and the read that takes it. Ends the program where an answer is not as it must be. */
+/* Makes a write of `size` bytes to file 0 and the read that takes it. Ends the program if an answer is wrong. */
 void pair(unsigned size);
 
-/* One event; the length of the answer, which stands in `answer`. */
+/* Asks one event and returns the length of its answer, which is in `answer`. */
 size_t ask(const uint8_t *frame, size_t length);
 
 extern uint8_t segment[TENDRILHOOK_SEGMENT_BYTES], blocks[TENDRILHOOK_BLOCKS_BYTES], buffers[TENDRILHOOK_BUFFERS_BYTES];

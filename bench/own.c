@@ -1,5 +1,5 @@
-/* Calls whose instructions are counted one at a time (bench/own): on one file, of records of 80 bytes, ten to a block. `counted` makes them, and a line of standard
-   output names each before it. */
+/* Calls whose instructions bench/own counts: on one file with records of 80 bytes, ten to a block. `counted` makes each call, and a line of standard output names it
+   before. */
 #include "tendrilhook.h"
 
 #include <stdio.h>
@@ -13,7 +13,7 @@ enum { WORDS = 40, FACTOR = 10 };
 static const uint8_t build[] = { 1, 0, 0, WORDS, FACTOR, 0, 30, 1 }, writer[] = { 2, 0, 3, 3, 0 }, reader[] = { 2, 0, 0, 3, 0 };
 static const uint8_t written[5 + 2 * WORDS] = { 4, 0, 0, 0, WORDS }, shorter[3 + 2 * WORDS] = { 4, 0, 0, 0, WORDS - 1 };
 static const uint8_t short_one[5 + 15] = { 4, 0, 0, 0xFF, 0xF1 }, read[] = { 3, 0, 1, 0, WORDS };
-/* the most records that a block may have, none of the full size: file 1 */
+/* file 1 has as many records in a block as there may be, none of the full size */
 enum { MOST = 16 };
 static const uint8_t build_most[] = { 1, 1, 0, 20, MOST, 0, 30, 1 }, writer_most[] = { 2, 1, 3, 3, 0 }, reader_most[] = { 2, 1, 0, 3, 0 };
 static const uint8_t written_most[5 + 37] = { 4, 1, 0, 0xFF, 0xDB }, read_most[] = { 3, 1, 1, 0, 20 };
@@ -33,13 +33,13 @@ static void must(const uint8_t *frame, size_t length)
     if (ask(frame, length) < 4 || answer[1] != 0) exit(2);
 }
 
-/* a block is filled and another begun; then the block is read, and the reads behind none, one and all but one of its records are counted */
+/* Fills a block, begins another, and reads the first. The reads after none, one and all but one of its records are counted. */
 static void block(const uint8_t *frame, size_t length, int written_before, const char *what)
 {
     for (int n = written_before; n <= FACTOR; n++) must(frame, length);
     for (int n = 0; n < FACTOR; n++) {
         if (n == 0 || n == 1 || n == FACTOR - 1) {
-            printf("a read behind %d spent in its block%s\n", n, what);
+            printf("a read after %d spent records in its block%s\n", n, what);
             counted(read, sizeof read);
         } else
             must(read, sizeof read);
@@ -60,7 +60,7 @@ int main(void)
     puts("a read of a file's only record");
     counted(read, sizeof read);
     must(written, sizeof written);
-    puts("a write behind another");
+    puts("a write after another");
     counted(written, sizeof written);
     block(written, sizeof written, 2, "");
     must(read, sizeof read);
@@ -76,7 +76,7 @@ int main(void)
     must(read_most, sizeof read_most);
     for (int n = 0; n <= MOST; n++) must(written_most, sizeof written_most);
     for (int n = 0; n < MOST - 1; n++) must(read_most, sizeof read_most);
-    puts("a read behind 15 spent in its block, R 20 and B 16, of records of 37 bytes");
+    puts("a read after 15 spent records in its block, R 20 and B 16, of records of 37 bytes");
     counted(read_most, sizeof read_most);
     return 0;
 }

@@ -1,5 +1,5 @@
-/* What a write and the read that takes it cost: on desks in several states, and by queues of the kernel in the same process. A line a figure, tab between:
-   NAME  BYTES  NANOSECONDS, processor time of one pair, the best of several rounds. `pairs count STATE PAIRS` makes so many pairs of 80 bytes and prints nothing. */
+/* Measures what a write and the read that takes it cost: on desks in several states, and by queues of the kernel in the same process. Prints a line for each figure,
+   tab-separated: NAME  BYTES  NANOSECONDS, processor time of one pair, the best of several rounds. `pairs count STATE PAIRS` makes PAIRS pairs of 80 bytes and prints nothing. */
 #include "desk.h"
 
 #include <errno.h>
@@ -94,7 +94,7 @@ static void a_pipe(void)
     for (int n = 0; n < 3; n++) say("pipe", sizes[n], best(by_pipe, sizes[n], 20000));
 }
 
-/* A frame of no shape is refused behind the soundness test: it costs the test, and next to nothing else. */
+/* Times the soundness test alone: a frame of no shape is refused right after it. */
 static void by_test(unsigned size)
 {
     static const uint8_t none[1] = { 0 };
@@ -117,7 +117,7 @@ static void by_save(unsigned size)
     if (tendrilhook_save(segment, sizeof segment, blocks, sizeof blocks, buffers, sizeof buffers, 0, sheet, sizeof sheet, &length) != 0) exit(2);
 }
 
-/* into a desk that is fresh each time */
+/* Loads into a desk that is made fresh each time. */
 static void by_load(unsigned size)
 {
     (void)size;

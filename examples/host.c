@@ -3,9 +3,9 @@
  *
  *     station  --> file 0 -->  relay  --> file 1 -->  chart
  *
- * The relay moves each record from file 0 to file 1. On the way the host saves file 1 to the disk, and later a fresh desk has it from there. The
+ * The relay moves each record from file 0 to file 1. Meanwhile the host saves file 1 to the disk, and later a fresh desk loads it from there. The
  * host also makes some calls that are refused. It prints each call: what it is for, the frame, the answer, and what that says. `examples/build`
- * builds it; examples/host.out is what it prints. Its argument is the path to save to; without one it takes a temporary file.
+ * builds it; it prints examples/host.out. Its argument is the path to save to; without one it uses a temporary file.
  */
 #include "tendrilhook.h"
 
@@ -15,7 +15,7 @@
 
 enum { BUILD = 1, OPEN, READ, WRITE, CONTROL, COLLECT, CLOSE, TIME, COUNTS };
 enum { TO_READ = 0, TO_APPEND = 3, EXCLUSIVE = 1, ANY_MULTI = 0 };
-/* A record stands in the answer behind operation, status and log. */
+/* In an answer a record follows operation, status and log. */
 enum { MOST_FRAME = 261, RECORD_AT = 4, IN_FILE = 0, OUT_FILE = 1 };
 
 /* The desk: these three memories, and nothing else. */
@@ -54,7 +54,7 @@ static void print_bytes(const uint8_t *bytes, size_t length, int width)
     printf("%*s", width > 2 * (int)length ? width - 2 * (int)length : 0, "");
 }
 
-/* Sends a frame and says what came of it; the status, 29 for an answer of length 0. */
+/* Sends a frame, and prints it with its answer. Returns the status, 29 for an answer of length 0. */
 static int call(const char *purpose, const uint8_t *frame, size_t length)
 {
     answered = tendrilhook_event(segment, sizeof segment, blocks, sizeof blocks, buffers, sizeof buffers,
@@ -68,7 +68,7 @@ static int call(const char *purpose, const uint8_t *frame, size_t length)
     return status;
 }
 
-/* Frames are small: a few numbers, each a byte or a word, high byte first. */
+/* Puts a word into a frame, high byte first. */
 static void put_word(uint8_t *bytes, int word)
 {
     bytes[0] = (uint8_t)((unsigned)word >> 8 & 255);
@@ -85,7 +85,7 @@ static int build(const char *purpose, int file, int words, int factor, int recor
     return call(purpose, frame, sizeof frame);
 }
 
-/* The accessor that was opened. */
+/* Opens a file. Returns the accessor. */
 static int open_file(const char *purpose, int file, int access)
 {
     const uint8_t frame[5] = { OPEN, (uint8_t)file, (uint8_t)access, EXCLUSIVE, ANY_MULTI };
@@ -93,7 +93,7 @@ static int open_file(const char *purpose, int file, int access)
     return answer[2];
 }
 
-/* A read of at most so many bytes: a count below 0 is in bytes. */
+/* Reads at most the given number of bytes: a count below 0 is in bytes. */
 static int read_record(const char *purpose, int file, int accessor, int bytes)
 {
     uint8_t frame[5] = { READ, (uint8_t)file, (uint8_t)accessor };
@@ -109,20 +109,20 @@ static int write_record(const char *purpose, int file, int accessor, const uint8
     return call(purpose, frame, 5 + length);
 }
 
-/* Collect, close. */
+/* Sends a collect or a close. */
 static int ask(const char *purpose, int operation, int file, int accessor)
 {
     const uint8_t frame[3] = { (uint8_t)operation, (uint8_t)file, (uint8_t)accessor };
     return call(purpose, frame, sizeof frame);
 }
 
-/* The record that the last answer brought. */
+/* Prints the record of the last answer. */
 static void print_record(void)
 {
     printf("    the record: %.*s\n", (int)answered - RECORD_AT, (const char *)answer + RECORD_AT);
 }
 
-/* The three calls that are no events: what they are asked stands in the frame's place, and what they give in the answer's. */
+/* Look, save and load are not events: they print what they are asked in the frame's place, and what they give in the answer's. */
 static void look(const char *purpose, size_t file, size_t reader)
 {
     uint8_t record[TENDRILHOOK_RECORD_BYTES];
@@ -154,7 +154,7 @@ static void fresh(const char *purpose)
     printf("%s: %d %s\n\n", purpose, status, in_words(status));
 }
 
-/* The relay: each record of file 0 is written to file 1, until file 0 ends. There is room for all of them; else a write would be answered 1, and
+/* The relay writes each record of file 0 to file 1, until file 0 ends. There is room for all of them; else a write would be answered 1, and
    collected later, as the chart's read is. */
 static void relay(int reader, int writer)
 {
@@ -202,7 +202,7 @@ static void bad_calls(int chart)
     ask("and changed back: chart closes", CLOSE, OUT_FILE, chart);
 }
 
-/* The sheet of file 1, to the disk. */
+/* Saves the sheet of file 1 to the disk. */
 static void to_disk(FILE *disk)
 {
     static uint8_t sheet[TENDRILHOOK_SHEET_BYTES];
@@ -211,7 +211,7 @@ static void to_disk(FILE *disk)
     fwrite(sheet, 1, length, stdout);
 }
 
-/* And back from it. */
+/* Loads file 1 from the disk, reads from it, and makes calls that are refused. */
 static void from_disk(FILE *disk)
 {
     static uint8_t sheet[TENDRILHOOK_SHEET_BYTES], again[TENDRILHOOK_SHEET_BYTES];

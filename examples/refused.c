@@ -1,7 +1,7 @@
 /*
- * Condition 1, to be seen: a call for each refusal number, on a desk with open files, records and a request that waits. Behind each call the three memories
- * are compared with a copy made before it, byte by byte, and so is what a refused call may not write of answer and output. It prints a row a call; the exit
- * status is 1 where a number is another, or a byte has changed.
+ * Shows condition 1: a call for each refusal number, on a desk with open files, records and a request that waits. After each call the three memories are
+ * compared, byte by byte, with a copy made before it, and so are the bytes of answer and output that a refused call may not write. It prints a row for each
+ * call; the exit status is 1 if a number is wrong or a byte has changed.
  */
 #include "tendrilhook.h"
 
@@ -9,7 +9,7 @@
 #include <stdlib.h>
 #include <string.h>
 
-/* The desk, and behind it what else a call may not touch; and the copy. */
+/* The desk, then the other memories that a refused call must leave alone; and a copy of them all. */
 static struct memories {
     uint8_t segment[TENDRILHOOK_SEGMENT_BYTES], blocks[TENDRILHOOK_BLOCKS_BYTES], buffers[TENDRILHOOK_BUFFERS_BYTES];
     uint8_t answer[TENDRILHOOK_ANSWER_BYTES], output[TENDRILHOOK_SHEET_BYTES];
@@ -17,7 +17,7 @@ static struct memories {
 
 static int faults;
 
-/* The bytes of frames. */
+/* The bytes of a frame of each kind. */
 #define BUILD(file, words, factor, records, extents) 1, file, 0, words, factor, 0, records, extents
 #define OPEN(file, access, share, multi) 2, file, access, share, multi
 #define READ(file, accessor, words) 3, file, accessor, 0, words
@@ -34,18 +34,18 @@ static size_t event(const uint8_t *frame, size_t length)
 
 #define EVENT(...) event((const uint8_t[]){ __VA_ARGS__ }, sizeof(const uint8_t[]){ __VA_ARGS__ })
 
-/* What was asked has been refused with this number, and nothing is changed but for so many bytes of the answer. */
+/* Prints a row. It is a fault if the status is not this number, or if anything is changed except the first `answered` bytes of the answer. */
 static void refused(int number, const char *what, int status, size_t answered)
 {
     int right = status == number && memcmp(now.answer + answered, before.answer + answered, sizeof now.answer - answered) == 0;
     int same = memcmp(now.segment, before.segment, sizeof now.segment) == 0 && memcmp(now.blocks, before.blocks, sizeof now.blocks) == 0
                && memcmp(now.buffers, before.buffers, sizeof now.buffers) == 0 && memcmp(now.output, before.output, sizeof now.output) == 0;
-    printf("%2d  %-58s %s\n", status, what, right && same ? "53,284 bytes as they were" : "NOT AS IT HAS TO BE");
+    printf("%2d  %-58s %s\n", status, what, right && same ? "53,284 bytes as they were" : "NOT AS IT SHOULD BE");
     faults += !right || !same;
     now = before;
 }
 
-/* The frame is shown before what it is. */
+/* Sends a frame that must be refused with this number; the row shows the frame, then what it is. */
 static void bad_event(int number, const char *what, const uint8_t *frame, size_t length)
 {
     char shown[128];
@@ -59,7 +59,7 @@ static void bad_event(int number, const char *what, const uint8_t *frame, size_t
 
 #define BAD(number, what, ...) bad_event(number, what, (const uint8_t[]){ __VA_ARGS__ }, sizeof(const uint8_t[]){ __VA_ARGS__ })
 
-/* File 0: a writer whose write waits, and a reader. File 2: eight readers. File 3: a writer, and no room for another's open record. */
+/* Prepares the desk. File 0: a writer whose write waits, and a reader. File 2: eight readers. File 3: a writer, and no room for another's open record. */
 static void prepare(void)
 {
     for (size_t i = 0; i < sizeof now.output; i++) now.output[i] = (uint8_t)(i * 7 + 3);

@@ -1,4 +1,4 @@
-/* examples/shared.h, in C99 with POSIX. */
+/* The functions of examples/shared.h, in C99 with POSIX. */
 #define _POSIX_C_SOURCE 200809L
 #include "shared.h"
 
@@ -52,7 +52,7 @@ void shared_adopt(void)
     generation = shared->generation;
 }
 
-/* If the last owner died, `busy` tells where: between calls the desk is whole; within one it is changed as far as the call came, and nobody may trust it. */
+/* Locks the mutex. If its last owner died, `busy` says where: between calls, and the desk is whole; or within one, and nobody may trust the desk. */
 static void take(void)
 {
     int error = pthread_mutex_lock(&shared->lock);
@@ -68,7 +68,7 @@ static void give(void)
     pthread_mutex_unlock(&shared->lock);
 }
 
-/* Changed while `busy` is set, as the desk is: so the two agree wherever `broken` is not. */
+/* Notes who has an accessor after an open or a close. The notes change while `busy` is set, as the desk does, so the two agree unless `broken` is set. */
 static void note_owner(const uint8_t *frame, const uint8_t *answer)
 {
     if (answer[1] != TENDRILHOOK_DONE) return;
@@ -90,7 +90,7 @@ int shared_event(const uint8_t *frame, size_t frame_length, uint8_t *answer, siz
     return *length == 0 ? TENDRILHOOK_UNSOUND : answer[1];
 }
 
-/* Save changes nothing of the desk, so a process that dies within it leaves it whole. */
+/* Save changes nothing of the desk, so a process that dies within it leaves the desk whole. */
 int shared_save(size_t file, uint8_t *sheet, size_t *length)
 {
     *length = 0;

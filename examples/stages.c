@@ -1,14 +1,14 @@
 /*
- * A host as one writes it: three stages of a chain, each a process, a desk that they share (shared.h), and a scheduler.
+ * A host to write like: three stages of a chain, each a process, a desk that they share (shared.h), and a scheduler.
  *
  *     model  --> file 0 -->  regrid  --> file 1 -->  plot
  *
- * The scheduler lets time pass, and sees to what a dead stage left:
+ * The scheduler lets time pass, and cleans up after a dead stage:
  *
- *   - killed between calls, its accessors are open. The scheduler closes them, and another process goes on;
- *   - killed within a call, the desk is changed as far as the call came. Nobody may trust it: the scheduler makes another from the last sheets.
+ *   - a stage killed between calls leaves its accessors open. The scheduler closes them, and another process goes on;
+ *   - a stage killed within a call leaves the desk half changed. Nobody may trust it: the scheduler makes another from the last sheets.
  *
- * examples/stages.out is what it prints.
+ * It prints examples/stages.out.
  */
 #define _POSIX_C_SOURCE 200809L
 #include "shared.h"
@@ -25,15 +25,15 @@
 
 enum { BUILD = 1, OPEN, READ, WRITE, CONTROL, COLLECT, CLOSE, TIME };
 enum { TO_READ = 0, TO_APPEND = 3, EXCLUSIVE = 1, TIMEOUT = 4, KEEP = 47 };
-/* A stage reads the file of the number before its own, and writes that of its own number. */
+/* Stage n reads file n - 2 and writes file n - 1, if there is such a file. */
 enum { MODEL = 1, REGRID, PLOT, LAST = PLOT, SCHEDULER };
-/* A record stands in the answer behind operation, status and log. */
+/* In an answer a record follows operation, status and log. */
 enum { FILES = 2, RECORDS = 200, MOST_DATA = 16, RECORD_AT = 4 };
 
 static const char *const names[] = { "", "model", "regrid", "plot", "scheduler" };
 static char room[64];
 
-/* This process: who it is, its accessors, and the last answer. */
+/* This process: its number, its accessors, and the last answer. */
 static int self = SCHEDULER, from, to;
 static uint8_t answer[TENDRILHOOK_ANSWER_BYTES];
 static size_t answered;
@@ -112,7 +112,7 @@ static int pass_seconds(int seconds)
     return EVENT(TIME, 0, low(seconds));
 }
 
-/* A request that waits is collected, again and again: meanwhile other stages call, and time passes. */
+/* Collects a request until it no longer waits; meanwhile other stages call, and time passes. Returns the last status. */
 static int outcome(int file, int accessor, int status)
 {
     while (status == TENDRILHOOK_WAITING) {
@@ -122,7 +122,7 @@ static int outcome(int file, int accessor, int status)
     return status;
 }
 
-/* The record that the last answer brought, as text. */
+/* The record of the last answer, as text. */
 static const char *record(void)
 {
     static char text[MOST_DATA + 1];
@@ -146,7 +146,7 @@ static void close_all(void)
     if (self != PLOT) close_file(self - 1, to);
 }
 
-/* Whether there is one more record for this stage. A read that timed out is made again. */
+/* Whether there is one more record for this stage, which is then read. A read that timed out is made again. */
 static int next_record(void)
 {
     int status;
@@ -160,7 +160,7 @@ static void hand_on(const void *data, size_t length)
     if (outcome(self - 1, to, write_record(data, length)) != TENDRILHOOK_DONE) die("a record was not taken");
 }
 
-/* The work of each stage, to its end: how many records it moved. */
+/* Does the work of this stage to its end. Returns the number of records it moved. */
 static int work(void)
 {
     char text[MOST_DATA];
@@ -179,7 +179,7 @@ static int work(void)
     return moved;
 }
 
-/* Model writes its forecast of these hours, and does not wait where the file is full. */
+/* Model writes its forecast for this hour, and does not wait if the file is full. */
 static void forecast(int hours)
 {
     char text[32], what[64];
@@ -222,7 +222,7 @@ static void killed(int number)
     kill(getpid(), SIGKILL);
 }
 
-/* The record buffers are made read-only for this process, so that its first store into them stops the call in its midst; there it is killed. */
+/* Makes the record buffers read-only for this process, so that the first store into them stops the call in its midst; there the process is killed. */
 static void die_within_close(void)
 {
     struct sigaction action = { .sa_handler = killed };
@@ -232,7 +232,7 @@ static void die_within_close(void)
     die("it should be dead");
 }
 
-/* What the scheduler can order, with a number; what is reported is a number too. */
+/* The orders of the scheduler. An order has a number with it, and a report is a number. */
 enum { TO_OPEN, TO_CLOSE, TO_WORK, TO_FORECAST, TO_PEEK, TO_RELAY, TO_ASK, TO_COLLECT, TO_SHOW, TO_DIE };
 
 static int obey(const int *order)
@@ -262,7 +262,7 @@ static struct stage {
 static uint8_t sheets[FILES][TENDRILHOOK_SHEET_BYTES];
 static size_t lengths[FILES];
 
-/* A stage ends when nobody can give it orders any more. */
+/* Closes the pipes to a stage, which ends when nobody can give it orders any more. */
 static void hang_up(int which)
 {
     if (stages[which].pid == 0) return;
@@ -305,7 +305,7 @@ static void order(int which, int what, int number)
     if (write(stages[which].orders, (const int[]){ what, number }, 2 * sizeof(int)) != 2 * sizeof(int)) die("a stage takes no orders");
 }
 
-/* What the stage reports; below 0 where it died. */
+/* The number that the stage reports; below 0 if it died. */
 static int report(int which)
 {
     int number;
@@ -323,7 +323,7 @@ static void tell_all(int what)
     for (int which = MODEL; which <= LAST; which++) tell(which, what, 0);
 }
 
-/* The stages work at once, and meanwhile a second passes again and again. */
+/* Lets the stages work at once; meanwhile seconds pass on the desk. */
 static void at_once(int model, int regrid, int plot, int *reports)
 {
     struct pollfd done[SCHEDULER] = { { .fd = -1 } };
@@ -353,7 +353,7 @@ static void bury(int which)
     printf("%-10s%s\n", names[which], WIFSIGNALED(status) && WTERMSIG(status) == SIGKILL ? "was killed" : "has gone");
 }
 
-/* What a dead stage had open is closed for it. A request of it that is done has to be collected first. */
+/* Closes the accessors of a dead stage. A completed request has to be collected first. */
 static void close_for(int which)
 {
     for (int file = 0; file < FILES; file++)
@@ -377,7 +377,7 @@ static void kill_between_calls(int which)
     tell(which, TO_OPEN, 0);
 }
 
-/* The scheduler keeps the sheets where no stage can reach them; on a disk they outlast it too. */
+/* Saves every file. The scheduler keeps the sheets where no stage can reach them; on a disk they would outlast the scheduler too. */
 static void save_all(void)
 {
     for (size_t file = 0; file < FILES; file++) {
@@ -388,8 +388,8 @@ static void save_all(void)
     }
 }
 
-/* What the library says of such memories. Here the write's request is gone and its data are not, which no desk has, so it is 29. It need not be: a call
-   that came less far can leave a desk, but not one that the calls so far lead to. */
+/* Asks the library about such memories. Here the write's request is gone and its data are not, which no desk has, so the status is 29. It need not be: a
+   call that was stopped earlier can leave a desk, but not one that the calls so far lead to. */
 static void ask_library(void)
 {
     static uint8_t sheet[TENDRILHOOK_SHEET_BYTES];
@@ -445,7 +445,7 @@ int main(void)
     say("makes another, from the last sheets", shared_renew(FILES, sheets, lengths));
     tell(REGRID, TO_ASK, 0);
 
-    printf("\nAll open their files again, and go on behind the last sheets.\n");
+    printf("\nAll open their files again, and go on after the last sheets.\n");
     start(MODEL);
     tell_all(TO_OPEN);
     for (int hours = 24; hours <= 36; hours += 6) tell(MODEL, TO_FORECAST, hours);

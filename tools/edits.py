@@ -111,8 +111,6 @@ def errors(whole):
             found.append([path, where, name or '', words, f'{path}:{where}: error: {f"`{name}`: " if name else ""}{words}'])
         elif found and line.startswith('  '):
             found[-1][4] += f'\n{line}'
-        elif found and not line.startswith('fn '):
-            continue
     return found
 
 

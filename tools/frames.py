@@ -1,4 +1,4 @@
-"""The frames and answers of document 01 for tools in Python: the bytes of each are made here, and nowhere else in them."""
+"""The frames and answers of document 01, for tools in Python: only this module makes their bytes."""
 
 
 def word(number):

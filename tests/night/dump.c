@@ -1,6 +1,6 @@
 /*
- * A host that dumps its desk: asks a fresh one the frames of standard input, a line of hexadecimal digits each, and writes the three memories to the files
- * that its arguments name. tools/check-board holds the board of these files to that of the session.
+ * A host that dumps its desk: sends the frames of standard input, a line of hexadecimal digits each, to a fresh desk, and writes the three memories to the
+ * files that its arguments name. tools/check-board compares the board of these files with the board of the session.
  */
 #include "tendrilhook.h"
 
@@ -12,7 +12,7 @@ enum { MOST_FRAME = 261, MOST_LINE = 2 * MOST_FRAME + 2 };
 static uint8_t segment[TENDRILHOOK_SEGMENT_BYTES], blocks[TENDRILHOOK_BLOCKS_BYTES], buffers[TENDRILHOOK_BUFFERS_BYTES];
 static uint8_t answer[TENDRILHOOK_ANSWER_BYTES], frame[MOST_FRAME];
 
-/* The frame of a line, and how long it is. */
+/* Puts the frame of a line into `frame`. Returns the frame's length. */
 static size_t frame_of(const char *line)
 {
     size_t n = 0;

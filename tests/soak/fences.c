@@ -1,11 +1,11 @@
 /*
- * The library between fences: every memory that it is lent ends at a page that nothing may touch, or begins behind one, so that a read or write beside it
- * is a fault of the machine. The lengths are no multiples of a page, so most memories lie at odd addresses as they come.
+ * Runs the library between fences: every memory that it is lent ends right before a page that nothing may touch, or begins right after one, so that a read or
+ * write outside the memory is a fault of the machine. With `end`, frames and sheets of odd length lie at odd addresses.
  *
  *     fences end|begin < FRAMES      a hexadecimal line each, as the event program takes them; it prints their answers, a line each
  *
- * Behind each event a reader looks, a file is saved into an output of any length, and what was saved is loaded into the same file of another desk, which has to
- * save the same.
+ * After each event a reader looks. After every 16th, a file is saved into outputs that are longer than its sheet, one byte too short, and just long enough; the
+ * sheet is loaded into the same file of another desk, which has to save the same.
  */
 #define _DEFAULT_SOURCE
 #include "tendrilhook.h"
@@ -21,7 +21,7 @@ enum { FILES = 8, MOST_FRAME = 261, MOST_LINE = 2 * MOST_FRAME };
 static size_t page;
 static int at_end;
 
-/* Pages of its own for a memory of up to `most` bytes, between two that nothing may touch. */
+/* Pages for memories of up to `most` bytes, between two pages that nothing may touch. */
 struct fenced {
     uint8_t *inside;
     size_t most;
@@ -37,7 +37,7 @@ static struct fenced fence(size_t most)
     return (struct fenced){ all + page, room };
 }
 
-/* A memory of this length in it, at the one fence or the other. */
+/* Lends a memory of this length, at the fence that `at_end` chooses. */
 static uint8_t *lend(const struct fenced *fenced, size_t length)
 {
     return at_end ? fenced->inside + fenced->most - length : fenced->inside;
@@ -52,7 +52,7 @@ static void fault(const char *what)
     exit(1);
 }
 
-/* The sheet of a file, in exactly its length: the length, 0 where there is none. */
+/* Saves the sheet of a file into an output of exactly its length. Returns the length, 0 if save is refused. */
 static size_t save(int d, size_t file)
 {
     size_t *length = (size_t *)(void *)lend(&lengths, sizeof *length);
@@ -79,7 +79,7 @@ static int digit(int c)
     return c >= '0' && c <= '9' ? c - '0' : c >= 'A' && c <= 'F' ? c - 'A' + 10 : -1;
 }
 
-/* The frame that a line says, none where it says none: the frame's length. */
+/* Decodes a line into a frame. Returns the frame's length, 0 if the line is not a frame. */
 static size_t decode(const char *line, size_t length, uint8_t *bytes)
 {
     if (length > MOST_LINE || length % 2 != 0) return 0;

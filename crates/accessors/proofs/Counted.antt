@@ -87,7 +87,7 @@ none-open n m e = go (ℕ-discrete m 0)
     go (yes u) = eq-eqb n places (omega arith) ∙ sym (eq-eqb m 0 u)
     go (no u) = ne-eqb n places (λ v. u (omega arith)) ∙ sym (ne-eqb m 0 u)
 
--- of file f, whose eight places are those of b
+-- counts of file f, whose eight places are those of b
 module _ (s : List ℕ) (f : ℕ) (b : Built) (eight : length (b .accs) ≡ places)
     (rows : (p : ℕ) → p < places → row s (placeRowAt (placeOf f p)) placeWidth ≡ placeWords (accAt b p)) where
   pub file-rows : Rows s (places * f) (b .accs)

@@ -1,5 +1,5 @@
 pub mod Turns
 pub mod Counted
 pub mod Waits
-pub mod Stood
+pub mod Rows
 pub mod Names

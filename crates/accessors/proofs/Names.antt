@@ -28,10 +28,10 @@ use Rattle.accessors.specs.Sides.{sideOf}
 use Rattle.accessors.specs.Outstanding.{outstandingAt}
 use Rattle.accessors.specs.Accessors.{wordsAt, accessorAt, accessorIn, accessorOn, accessorOf}
 use Rattle.accessors.proofs.Counted.{side-is}
-use Rattle.accessors.proofs.Stood.{file-row, shown}
+use Rattle.accessors.proofs.Rows.{file-row, shown}
 use Rattle.accessors.proofs.Waits.{fine-at, outstanding-is}
 
--- what is read of a file that is not 0 is of a file below 8
+-- file f is below 8 if the R read for it is not 0
 pub words-low : (s : List ℕ) (f w : ℕ) → w ≡ wordsAt s f → (w ≡ 0 → ⊥) → f < files
 unfolding wordsAt
 words-low s f w e d = go (decLt f files)

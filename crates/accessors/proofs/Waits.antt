@@ -18,6 +18,7 @@ use Rattle.rules.specs.Desk.{Desk, fileOf}
 use Rattle.rules.specs.Allocation.{Alloc, placeOf, portOf}
 use Rattle.segment.specs.Layout.{listCount, readQueue, writeQueue, replyPort}
 use Rattle.segment.specs.Table.{nth}
+use Rattle.segment.specs.Fields.{entryWords}
 use Rattle.ports.specs.Slots.{seek, has}
 use Rattle.ports.specs.Lists.{Chain, Boxes}
 use Rattle.ports.specs.Index.{index}
@@ -60,22 +61,34 @@ index-place W f p (x ∷ q) h = go (ℕ-discrete x p) (index-place W f p q (λ y
 
 -- the first word of a waiting request's entry is its place
 first-word : (i : ℕ) (q : Req) → 1 ≤ awaits q → getD (reqWords i q) 0 0 ≡ i
-unfolding waitsRead waitsWrite reqWords
+unfolding waitsRead waitsWrite reqWords entryWords
 first-word i idle h = absurd (omega arith)
 first-word i (reading q) h = refl
 first-word i (writing q) h = refl
 first-word i (readDone q) h = absurd (omega arith)
 first-word i (writeDone q) h = absurd (omega arith)
 
+-- a list's word v that was read from its place, x: an entry's number, or the list's end
+module _ {v x : ℕ} (e : v ≡ x) where
+  pub entry-there : v < entries → ltb x entries ≡ true
+  entry-there h = rw e at (lt-ltb v entries h)
+
+  pub none-there : entries ≤ v → ltb x entries ≡ false
+  none-there h = rw e at (le-ltb v entries h)
+
 -- the two tests, and what they say
 shows-completed : (t u : Bool) → t ≡ true → cond t Completed (cond u Waiting Nothing) ≡ Completed
 shows-completed t u e = rw e
 
-shows-waiting : (t u : Bool) → t ≡ false → u ≡ true → cond t Completed (cond u Waiting Nothing) ≡ Waiting
+pub shows-waiting : (t u : Bool) → t ≡ false → u ≡ true → cond t Completed (cond u Waiting Nothing) ≡ Waiting
 shows-waiting t u e k = rw (e, k)
 
-shows-nothing : (t u : Bool) → t ≡ false → u ≡ false → cond t Completed (cond u Waiting Nothing) ≡ Nothing
+pub shows-nothing : (t u : Bool) → t ≡ false → u ≡ false → cond t Completed (cond u Waiting Nothing) ≡ Nothing
 shows-nothing t u e k = rw (e, k)
+
+pub port-shows : (s : List ℕ) (f p side : ℕ) → ltb (nth s (replyPort (places * f + p))) entries ≡ true → outstandingAt s f p side ≡ Completed
+unfolding outstandingAt
+port-shows s f p side e = rw e
 
 module _ {xs hand : List ℕ} {hm rs : List (List ℕ)} (d : Desk) (s : Alloc) (B : Boxes xs hand hm (listsOf d s) (boxesOf d s) rs)
     (f : ℕ) (low : f < files) (b : Built) (is : fileOf d f ≡ built b) (A : Agree b) where

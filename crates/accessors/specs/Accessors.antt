@@ -14,7 +14,7 @@ use Rattle.accessors.specs.declared.Accessor.the-variants.{Refused, Open
 use Rattle.accessors.specs.Sides.{sideOf}
 use Rattle.accessors.specs.Outstanding.{outstandingAt, outstandingOf}
 
--- the R of file f; 0 where it is above 7
+-- the R of file f; 0 if f is above 7
 unfoldable pub wordsAt : List ℕ → ℕ → ℕ
 wordsAt s f = cond (leb files f) 0 (fileAt s f .words)
 
@@ -25,16 +25,16 @@ accessorAt s f p =
     (cond (eqb (placeAt s (places * f + p) .side) 0) (Refused 32)
     (Open (wordsAt s f) (placeAt s (places * f + p) .side) (outstandingAt s f p (placeAt s (places * f + p) .side)))))
 
--- 32: accessor not open
+-- the accessor at a place of a built file; refused 32 if it is not open
 unfoldable pub accessorIn : ℕ → Option Acc → Accessor
 accessorIn words none = Refused 32
 accessorIn words (some a) = Open words (sideOf (some a)) (outstandingOf (a .req))
 
--- 31: file not built
+-- the accessor p of a file; refused 31 if the file is not built
 unfoldable pub accessorOn : File → ℕ → Accessor
 accessorOn unbuilt p = Refused 31
 accessorOn (built b) p = accessorIn (b .geo .words) (accAt b p)
 
--- 31: file above 7
+-- the accessor that f and p name on a desk; refused 31 if f is above 7
 unfoldable pub accessorOf : Desk → ℕ → ℕ → Accessor
 accessorOf d f p = elim (ltb f files) [ true ↦ accessorOn (fileOf d f) p | false ↦ Refused 31 ]

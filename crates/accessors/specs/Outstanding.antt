@@ -11,17 +11,17 @@ use Rattle.ports.specs.Slots.{seek, has}
 use Rattle.kinds.specs.declared.Outstanding.{Outstanding}
 use Rattle.kinds.specs.declared.Outstanding.the-variants.{Nothing, Waiting, Completed}
 
--- the queue of file f where those of that side wait
+-- the queue of file f in which requests of the given side wait
 abbrev pub queueOf : ℕ → ℕ → ℕ
 queueOf f side = cond (eqb side 2) (writeQueue f) (readQueue f)
 
--- completed where the reply port is not empty, waiting where the queue of its side has an entry of the place
+-- what the lists show: completed if the reply port is not empty, waiting if the queue of its side has an entry of the place
 unfoldable pub outstandingAt : List ℕ → ℕ → ℕ → ℕ → Outstanding
 outstandingAt s f p side =
     cond (ltb (nth s (replyPort (places * f + p))) entries) Completed
     (cond (ltb (nth s (seek (has 0 (places * f + p)) s (queueOf f side) entries)) entries) Waiting Nothing)
 
--- of a request
+-- what is outstanding of a request of the rules
 unfoldable pub outstandingOf : Req → Outstanding
 outstandingOf idle = Nothing
 outstandingOf (reading q) = Waiting

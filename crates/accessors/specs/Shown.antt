@@ -11,7 +11,7 @@ use Rattle.segment.specs.Layout.{fileWidth, placeWidth, fileRowAt, placeRowAt}
 use Rattle.segment.specs.Table.{row}
 use Rattle.memory.specs.Image.{fileWords, placeWords}
 
--- its row and those of its eight places are those of b
+-- the rows of file f and of its eight places are those of b
 pub record Shown (xs : List ℕ) (f : ℕ) (b : Built) : Type 0 where
   pub file : row xs (fileRowAt f) fileWidth ≡ fileWords (built b)
   pub rows : (p : ℕ) → p < places → row xs (placeRowAt (placeOf f p)) placeWidth ≡ placeWords (accAt b p)

@@ -9,16 +9,16 @@ use Rattle.rules.specs.Limits.{places}
 use Rattle.rules.specs.State.{Acc}
 use Rattle.segment.specs.Fields.{placeAt}
 
--- how many of the n places from place i on have that side
+-- how many of the n places starting at place i have the given side
 unfoldable pub sidesFrom : List ℕ → ℕ → ℕ → ℕ → ℕ
 sidesFrom s side i zero = 0
 sidesFrom s side i (suc n) = bit (eqb (placeAt s i .side) side) + sidesFrom s side (suc i) n
 
--- of the eight places of file f
+-- how many of the eight places of file f have the given side
 abbrev pub countSide : List ℕ → ℕ → ℕ → ℕ
 countSide s f side = sidesFrom s side (places * f) places
 
--- whether an open of that access purges file f: access 1 "purges if no accessor is open"
+-- whether an open with the given access purges file f: access 1 "purges if no accessor is open"
 unfoldable pub purgesAt : List ℕ → ℕ → ℕ → Bool
 purgesAt s f access = eqb access 1 && eqb (countSide s f 0) places
 

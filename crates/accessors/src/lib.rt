@@ -1,4 +1,4 @@
-// The file and the accessor that a call names, and what its rows and lists show of it.
+// The file and the accessor that a call names, as the rows and lists of the segment show them.
 pub mod outstanding;
 pub mod sides;
 
@@ -14,7 +14,7 @@ ghost use Rattle.rules.specs.Open.{sharingOf};
 ghost use Rattle.segment.specs.Layout.{segmentBytes};
 ghost use Rattle.accessors.specs.Accessors.{wordsAt, accessorAt};
 
-// The accessor that a call names, or the refusal: its file's R, its side, and what it has outstanding.
+// The accessor that a call names (its file's R, its side, and what it has outstanding), or the refusal.
 pub enum Accessor {
     Refused(u8),
     Open {
@@ -24,7 +24,7 @@ pub enum Accessor {
     },
 }
 
-// The R of the file, which is 1 at least; 0 where it is above 7 or not built.
+// The R of the file, which is at least 1; 0 if the file is above 7 or not built.
 pub fn words_of(segment: &[u8], file: usize) -> u16
     requires { ⌜ length (now segment) ≡ segmentBytes ⌝ }
     ensures { λ r. ⌜ r ≡ wordsAt (now (segment .entry)) file ⌝ }

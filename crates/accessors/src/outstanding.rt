@@ -10,7 +10,7 @@ use kinds::limits::PLACES;
 use kinds::sides::WRITER;
 use segment::layout;
 
-// The queue of file f where those of that side wait.
+// The queue of file f in which the accessors of that side wait.
 pub fn queue_of(f: usize, side: u16) -> usize
     requires { ⌜ f < files ⌝ }
     ensures { λ r. ⌜ (r ≡ queueOf f side) × (r < replyPorts) ⌝ }
@@ -33,7 +33,7 @@ pub fn outstanding_at(segment: &[u8], f: usize, acc: usize, side: u16) -> Outsta
         return Outstanding::Completed;
     }
     let queue = queue_of(f, side);
-    // nobody waits, as most often: nothing is looked for
+    // most often nobody waits: then there is nothing to look for
     if segment::get(segment, queue) >= layout::ENTRIES {
         return Outstanding::Nothing;
     }

@@ -1,21 +1,21 @@
 // The arguments of the command-line programs:
 //     PROGRAM FILE [SHEET]
-// FILE is a file's number and SHEET a path. What is wrong with them is said on standard error.
+// FILE is a file's number and SHEET is a path. Errors in them are reported on standard error.
 use kinds::limits::FILES;
 use libc::STDERR_FILENO;
 ghost use Prim.Native.Nat.{_≤_};
 ghost use lib.ListN.{length};
 
-// In place of a file's number: the program cannot go on.
+// Takes the place of a file's number when the program cannot go on.
 pub const NO_FILE: usize = FILES;
 
 // The first digit that names no file.
 const NO_DIGIT: u8 = b'0' + FILES as u8;
 
-// Room for the text of a sheet: more than the longest has.
+// Room for the text of a sheet: more than the longest sheet has.
 pub const TEXT_BYTES: usize = 65536;
 
-// The file's number, whether a sheet is named, and how many bytes of text it has.
+// The file's number, whether a sheet is named, and how many bytes of text the sheet has.
 pub struct Named {
     pub file: usize,
     pub sheet: bool,
@@ -28,7 +28,7 @@ pub struct Bytes {
     pub size: usize,
 }
 
-// A line on standard error: what is wrong, and the refusal number.
+// Prints a line on standard error: what is wrong, and the refusal number.
 pub fn refused(why: &[u8], number: u8) {
     io::write_all(STDERR_FILENO, why);
     io::write_all(STDERR_FILENO, b" (status ");
@@ -36,7 +36,7 @@ pub fn refused(why: &[u8], number: u8) {
     io::write_all(STDERR_FILENO, b")\n");
 }
 
-// The file that the first argument names: one digit.
+// The file that the first argument names with one digit, or NO_FILE.
 fn file_named() -> usize {
     let mut text = [0u8; 2];
     let n = os::arg(1, &mut text);
@@ -63,7 +63,7 @@ fn nothing() -> Named
     }
 }
 
-// The bytes of the file that an argument names, as many as there is room for. Where it cannot be opened that is told.
+// Reads the file that an argument names into `text`, as far as there is room. Reports a file that cannot be opened.
 pub fn bytes_named(word: usize, text: &mut [u8]) -> Bytes
     ensures { λ r. ⌜ r .size ≤ length (now (text .entry)) ⌝ }
 {
@@ -82,7 +82,7 @@ pub fn bytes_named(word: usize, text: &mut [u8]) -> Bytes
     Bytes { found: true, size }
 }
 
-// The bytes of the sheet that the second argument names.
+// Reads the sheet that the second argument names.
 fn sheet_named(file: usize, text: &mut [u8]) -> Named
     ensures { λ r. ⌜ r .size ≤ length (now (text .entry)) ⌝ }
 {
@@ -97,7 +97,7 @@ fn sheet_named(file: usize, text: &mut [u8]) -> Named
     }
 }
 
-// What the arguments name; a sheet's bytes stand from the first byte of `text`. What they are comes from outside, and no contract can say it.
+// What the arguments name. A sheet's bytes start at the first byte of `text`. They come from outside, so no contract can say what they are.
 pub fn arguments(text: &mut [u8]) -> Named
     ensures { λ r. ⌜ r .size ≤ length (now (text .entry)) ⌝ }
 {

@@ -1,4 +1,4 @@
--- A share that stands for a store: a record can be put, and it goes on to stand for the rules' store behind it; and the check passes just such shares.
+-- A share that stands for a store: a record can be put, and the share then stands for the rules' store after the put; the check passes just such shares.
 use Prim.Native.Nat.{ℕ, _+_, _≤_}
 use mathlib.Core.Path.{_≡_}
 use mathlib.Core.List.{List}

@@ -14,20 +14,20 @@ use Rattle.ring.specs.Ring.{geo, Fitted, Ranged, tail}
 abbrev pub recOf : ℕ → ℕ → List ℕ → Rec
 recOf typ wid body = record { typ = typ; wid = wid; body = body }
 
--- the bytes of a record with n bytes of data, its padding among them
+-- the number of bytes of a record with n bytes of data, its padding included
 abbrev pub recordSize : ℕ → ℕ
 recordSize n = 6 + n + n % 2
 
--- the block of n bytes at `at`: "a block is zeroed again when its first record is put"
+-- the share with the block of n bytes at `at` begun: "a block is zeroed again when its first record is put"
 unfoldable pub begun : ℕ → List ℕ → ℕ → ℕ → List ℕ
 begun n xs at i = elim (eqb i 0) [ true ↦ sets xs at (zeroed n) | false ↦ xs ]
 
--- behind the records that the block has, one with m bytes of data fits
+-- a record with m bytes of data fits after the records that the block has
 pub record Roomy (n : ℕ) (xs : List ℕ) (at m : ℕ) : Type 0 where
   pub count : wordAt xs at < 65535
   pub space : 2 * wordAt xs (at + 2) + recordSize m ≤ n
 
--- where the block begins that takes the next record
+-- the start of the block that takes the next record
 abbrev pub tailAt : ℕ → Ring → ℕ
 tailAt words r = tail r .block * blockBytes (geo words r)
 

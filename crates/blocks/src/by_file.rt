@@ -1,4 +1,4 @@
-// The blocks memory: one share a file, by its number.
+// The blocks memory: one share for each file, by the file's number.
 use crate::writing::put;
 use kinds::limits::SHARE_BYTES;
 use ring::Ring;
@@ -8,11 +8,12 @@ ghost use lib.ListN.{length};
 ghost use lib.Seq.{sets};
 ghost use Rattle.words.specs.Word.{zeros};
 ghost use Rattle.rules.specs.Limits.{files, shareBytes};
+ghost use Rattle.rules.specs.Memories.{shareAt};
 ghost use Rattle.ring.specs.Ring as spec;
 ghost use Rattle.blocks.specs.Writing.{recOf, Ready, inscribed};
-ghost use Rattle.blocks.specs.Memory.{blocksBytes, shareAt};
+ghost use Rattle.blocks.specs.Memory.{blocksBytes};
 
-// A file's share, to be read.
+// A file's share, for reading.
 pub fn share<'a>(blocks: &'a [u8], file: usize) -> &'a [u8]
     requires { ⌜ (length (now blocks) ≡ blocksBytes) × (file < files) ⌝ }
     ensures { λ r. ⌜ now r ≡ shareAt file (now (blocks .entry)) ⌝ }
@@ -30,7 +31,7 @@ pub fn clear(blocks: &mut [u8], file: usize)
     words::zero(blocks, SHARE_BYTES * file, SHARE_BYTES);
 }
 
-// A record put into a file's share.
+// Puts a record into a file's share, and gives the ring with it.
 pub fn put_at(
     blocks: &mut [u8],
     file: usize,

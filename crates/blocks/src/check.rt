@@ -1,4 +1,4 @@
-// Whether a share holds a file's records: one walk over the blocks that hold any. Nothing is changed.
+// Checks that a share holds a file's records, in one walk over the blocks that hold any. Nothing is changed.
 use crate::quick::whole;
 use kinds::limits::MOST_TYPE;
 use kinds::record_types::DATA;
@@ -25,7 +25,7 @@ ghost use Rattle.shares.specs.Sound.{sweep, sound};
 ghost use Rattle.ring.specs.Ring.{geo, Fitted};
 ghost use Rattle.blocks.specs.Check.{laidAt};
 
-// Whether a proper record with at most `words` words of data stands at p, whole before e.
+// Whether a valid record with at most `words` words of data stands at p and ends at e or before.
 fn fair(share: &[u8], words: u16, e: usize, p: usize) -> bool
     requires { ⌜ (length (now share) ≡ shareBytes) × (e ≤ shareBytes) × (p ≤ shareBytes) × (words ≤ roomWords) ⌝ }
     ensures { λ r. ⌜ r ≡ fair words (now (share .entry)) e p ⌝ }
@@ -59,7 +59,7 @@ fn fair(share: &[u8], words: u16, e: usize, p: usize) -> bool
     share[p + TYPE + follow as usize] == 0
 }
 
-// Whether n such records stand from `at` on, the last ends at `end`, and all is zero from there to e.
+// Whether n valid records (`fair`) follow each other from `at`, the last ends at `end`, and all bytes from there to e are zero.
 fn walk(share: &[u8], words: u16, e: usize, end: usize, at: usize, n: u16) -> bool
     requires { ⌜ (length (now share) ≡ shareBytes) × (e ≤ shareBytes) × (at ≤ e) × (words ≤ roomWords) ⌝ }
     ensures { λ r. ⌜ r ≡ walk words (now (share .entry)) e end at n ⌝ }
@@ -84,7 +84,7 @@ fn walk(share: &[u8], words: u16, e: usize, end: usize, at: usize, n: u16) -> bo
     words::quiet(share, p, e - p)
 }
 
-// Whether the block's bytes are laid out, with so many records.
+// Whether the block is laid out as it must be, with `count` records.
 fn holds(share: &[u8], words: u16, block: Span, count: u16) -> bool
     requires { ⌜ (length (now share) ≡ shareBytes) × (4 ≤ block .size) × (block .at + block .size ≤ shareBytes) × (words ≤ roomWords) ⌝ }
     ensures { λ r. ⌜ r ≡ laidAt words (now (share .entry)) block && eqb (wordAt (now (share .entry)) (block .at)) count ⌝ }
@@ -98,7 +98,7 @@ fn holds(share: &[u8], words: u16, block: Span, count: u16) -> bool
     walk(share, words, at + block.size, end, at + BLOCK_HEAD, n)
 }
 
-// The records of a block of which `left` are still to be found.
+// The number of records in the next block, when `left` are still to be found.
 fn least(left: u32, factor: u16) -> u16
     ensures { λ r. ⌜ r ≡ min left factor ⌝ }
 {
@@ -109,7 +109,7 @@ fn least(left: u32, factor: u16) -> u16
     }
 }
 
-// Whether the records used stand in the blocks from the oldest on, each block full but the last.
+// Whether the blocks hold the used records, starting at the oldest block, each block full except the last.
 fn sweep(share: &[u8], ring: Ring, words: u16) -> bool
     requires { ⌜ (length (now share) ≡ shareBytes) × Fitted words ring × (ring .block < ring .blocks) ⌝ }
     ensures { λ r. ⌜ r ≡ sweep (geo words ring) (now (share .entry)) (ring .block) (ring .blocks) (ring .spent + ring .held) ⌝ }
@@ -132,7 +132,7 @@ fn sweep(share: &[u8], ring: Ring, words: u16) -> bool
     left == 0
 }
 
-// Whether records of the oldest block are spent only where more of it are held.
+// Whether records of the oldest block are spent only if it still holds others.
 fn begun(ring: Ring) -> bool
     ensures { λ r. ⌜ r ≡ eqb (ring .spent) 0 || (ltb (ring .spent) (ring .factor) && ltb 0 (ring .held)) ⌝ }
 {
@@ -142,7 +142,7 @@ fn begun(ring: Ring) -> bool
     ring.spent < ring.factor && 0 < ring.held
 }
 
-// Whether the share holds the records that the ring says, and the ring's numbers go together.
+// Whether the share holds the records that the ring says, and the ring's numbers are consistent.
 pub fn sound(share: &[u8], ring: Ring, words: u16) -> bool
     requires { ⌜ (length (now share) ≡ shareBytes) × Fitted words ring ⌝ }
     ensures { λ r. ⌜ r ≡ sound (geo words ring) (now (share .entry)) (ring .block) (ring .spent) (ring .held) ⌝ }

@@ -1,4 +1,4 @@
-// The blocks of a file's share: a record put, shares cleared, and the check of the held blocks.
+// The blocks of a file's share: puts a record, clears a share, and checks the held blocks.
 pub mod by_file;
 pub mod check;
 mod quick;

@@ -1,5 +1,5 @@
-// The quick way over records of the full size, of which a file in steady use has most. Where such a record ends follows from the geometry, so the next one is
-// read before this one's head has come, where `next` waits for it. `whole-fair` (proofs/quick/Laws.antt): the plain test takes the record, and goes on there.
+// Fast path over records of the full size, which most records of a file in steady use are. The geometry gives the end of such a record, so the processor can read
+// the next one before this one's head arrives; `next` has to wait for it. `whole-fair` (proofs/quick/Laws.antt): the plain test accepts the record and goes on there.
 use kinds::record_types::DATA;
 use ring::layout::FOLLOW;
 use ring::layout::ID;
@@ -13,10 +13,10 @@ ghost use Rattle.rules.specs.Limits.{roomWords, shareBytes};
 ghost use Rattle.shares.specs.Back.{next};
 ghost use Rattle.shares.specs.Laid.{fair};
 
-// A word before another, as one number.
+// The factor that puts one word before another, as one number.
 const WORD: u32 = 65536;
 
-// Whether a data record of the full size stands at p, whole before e.
+// Whether a data record of the full size stands at p and ends at e or before.
 pub fn whole(share: &[u8], words: u16, e: usize, p: usize) -> bool
     requires { ⌜ (length (now share) ≡ shareBytes) × (e ≤ shareBytes) × (p ≤ shareBytes) × (words ≤ roomWords) ⌝ }
     ensures { λ r. ⌜ (r ≡ true → (fair words (now (share .entry)) e p ≡ true) × (next (now (share .entry)) p ≡ p + (6 + 2 * words)) × (p + (6 + 2 * words) ≤ e)) ⌝ }

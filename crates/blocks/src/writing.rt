@@ -1,4 +1,4 @@
-// A record put: its block is begun where it is the first there, and the rest of the block is lent on to the record's writer.
+// Puts a record: begins its block if the record is the first there, and lends the rest of the block on to the record's writer.
 use ring::Ring;
 use ring::layout::BLOCK_HEAD;
 use ring::layout::BLOCK_HEAD_WORDS;
@@ -29,7 +29,7 @@ fn pad_record(room: &mut [u8], at: usize, n: usize)
     room[at] = 0;
 }
 
-// A record at the start of the room that is lent.
+// Writes a record at the start of the lent room.
 fn write_record(room: &mut [u8], typ: u16, wid: u16, data: &[u8])
     requires { ⌜ (recordSize (length (now «data»)) ≤ length (now room)) × (length (now «data») ≤ shareBytes) ⌝ }
     ensures { λ _. ⌜ now (room .exit) ≡ sets (now (room .entry)) 0 (recordBytes (recOf typ wid (now («data» .entry)))) ⌝ }
@@ -42,7 +42,7 @@ fn write_record(room: &mut [u8], typ: u16, wid: u16, data: &[u8])
     pad_record(room, RECORD_HEAD + n, n);
 }
 
-// The block of `size` bytes that begins at `at` is zeroed where no record stands in it yet.
+// Begins the block of `size` bytes at `at`, if no record stands in it yet: zeroes it and writes its head.
 fn begin(share: &mut [u8], at: usize, size: usize, index: u16)
     requires { ⌜ (4 ≤ size) × (at + size ≤ length (now share)) ⌝ }
     ensures { λ _. ⌜ now (share .exit) ≡ begun size (now (share .entry)) at index ⌝ }
@@ -55,7 +55,7 @@ fn begin(share: &mut [u8], at: usize, size: usize, index: u16)
     words::zero(share, at + BLOCK_HEAD, size - BLOCK_HEAD);
 }
 
-// One record more in the block of `size` bytes that begins at `at`, right behind the one before.
+// Adds a record to the block of `size` bytes that begins at `at`, right after the one before.
 fn add(share: &mut [u8], at: usize, size: usize, typ: u16, wid: u16, data: &[u8])
     requires { ⌜ (at + size ≤ length (now share)) × (4 ≤ size) × (size ≤ shareBytes) ⌝ }
     requires { ⌜ Roomy size (now share) at (length (now «data»)) ⌝ }
@@ -71,7 +71,7 @@ fn add(share: &mut [u8], at: usize, size: usize, typ: u16, wid: u16, data: &[u8]
     words::put(share, at + USED, used + taken as u16);
 }
 
-// A record behind those of the ring; the ring with it.
+// Puts a record after those of the ring, and gives the ring with it.
 pub fn put(share: &mut [u8], ring: Ring, words: u16, typ: u16, wid: u16, data: &[u8]) -> Ring
     requires { ⌜ length (now share) ≡ shareBytes ⌝ }
     requires { ⌜ Ready words ring (now share) (length (now «data»)) ⌝ }

@@ -1,4 +1,4 @@
--- What the board comes to, by the way out; and two results that keep its promise are equal.
+-- What the board gives on each way out; and two results that keep its promise are equal.
 use Prim.Native.Nat.{ℕ, _≤_, _<_}
 use mathlib.Core.Path.{_≡_, refl, sym, _∙_}
 use mathlib.Core.Bool.{true, false}
@@ -18,17 +18,18 @@ use Rattle.decision.proofs.desk.Both.{sound-stands}
 use Rattle.accessors.specs.Accessors.{wordsAt}
 use Rattle.accessors.proofs.Names.{is-built, not-built}
 use Rattle.midst.specs.FileStands.{FileStands}
+use Rattle.midst.specs.Outcome.{SoundBlocks}
 use Rattle.promises.specs.Promise.{Given, written}
 use Rattle.promises.proofs.Seen.{sees, seen-none, seen-some}
 use Rattle.texts.specs.Put.{Put}
 use Rattle.texts.proofs.Runs.{put-none}
 use Rattle.board.specs.Board.{fileRoom, boardRoom, fileText, filesText, orNothing, boardText}
-use Rattle.board.specs.Promise.{shownOn, shownOf, Board, Stood, Ends}
+use Rattle.board.specs.Promise.{shownOn, shownOf, Board, Ends}
 
 -- a file, by its R
 module _ {xs blocks : List ℕ} (f w : ℕ) (hf : f < files) (e : w ≡ wordsAt xs f) where
-  pub stood-file : (w ≡ 0 → ⊥) → Stood xs blocks → FileStands xs blocks f
-  stood-file h (buffers, d, s, S) = let (b, k) = is-built S f w e h in record { file = hf; buffers = buffers; d = d; s = s; b = b; stands = S; is = k }
+  pub stood-file : (w ≡ 0 → ⊥) → SoundBlocks xs blocks → FileStands xs blocks f
+  stood-file h (buffers, (d, s, S)) = let (b, k) = is-built S f w e h in record { file = hf; buffers = buffers; d = d; s = s; b = b; stands = S; is = k }
 
   pub unbuilt-put : w ≡ 0 → {buffers : List ℕ} {d : Desk} {s : Alloc} → StandsFor (memories xs blocks buffers) d s → (out : List ℕ) (at : ℕ) → Put fileRoom out at (fileText f (fileOf d f)) out at
   unfolding fileText
@@ -39,8 +40,8 @@ module _ {xs blocks : List ℕ} (f w : ℕ) (hf : f < files) (e : w ≡ wordsAt 
       → (buffers : List ℕ) (d : Desk) (s : Alloc) → StandsFor (memories xs blocks buffers) d s → Put fileRoom out at (fileText f (fileOf d f)) out′ end
   built-put h out at out′ end P buffers d s S = let (b, k) = is-built S f w e h in rw k (P buffers d s b S k)
 
-pub board-stood : (m : Memories) → soundly m ≡ true → Bytes (m .segment) → Bytes (m .blocks) → Bytes (m .buffers) → Stood (m .segment) (m .blocks)
-board-stood m t bs bb bf = let (d, s, S) = sound-stands m bs bb bf t in (m .buffers, d, s, S)
+pub board-stood : (m : Memories) → soundly m ≡ true → Bytes (m .segment) → Bytes (m .blocks) → Bytes (m .buffers) → SoundBlocks (m .segment) (m .blocks)
+board-stood m t bs bb bf = let (d, s, S) = sound-stands m bs bb bf t in (m .buffers, (d, s, S))
 
 module _ (ms : Memories) (out : List ℕ) where
   -- 29

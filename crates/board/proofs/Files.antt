@@ -12,7 +12,7 @@ use Rattle.rules.specs.Limits.{files, mostWords}
 use Rattle.rules.specs.State.{Built, built}
 use Rattle.rules.specs.Geometry.{capacity}
 use Rattle.rules.specs.Reply.{answers, Out, leaves, answering}
-use Rattle.rules.specs.Counts.{dataCount, counts}
+use Rattle.rules.specs.FileCounts.{dataCount, counts}
 use Rattle.rules.specs.Requests.{writers, readers, capacityOf}
 use Rattle.rules.specs.Store as rules
 use Rattle.rules.specs.Desk.{Desk, fileOf}
@@ -42,7 +42,7 @@ counts-are b r e n all w m k =
     let z : Counted n all w m ≡ Counted (dataCount (b .store .recs)) (length (b .store .recs)) (writers b) (readers b) = sym k ∙ counted-as b r e in
     (cc, cc, cc)
 
--- they are no other answer
+-- the answer of counts is no other answer
 pub counts-only : (b : Built) (r : Answer) → counts b ≡ answering r b → OneOf (0 ∷ 1 ∷ 2 ∷ 3 ∷ 4 ∷ 5 ∷ 6 ∷ 7 ∷ 9 ∷ []) (tagOf D.the-type r) → ⊥
 counts-only b r e k = miss (0 ∷ 1 ∷ 2 ∷ 3 ∷ 4 ∷ 5 ∷ 6 ∷ 7 ∷ 9 ∷ []) 8 tt (rw (counted-as b r e) at k)
 

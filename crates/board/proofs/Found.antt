@@ -24,7 +24,7 @@ use Rattle.laws.specs.Entries.{timersOf}
 use Rattle.segment.specs.declared.Entry.{Entry}
 use Rattle.segment.specs.Layout.{listCount, readQueue, writeQueue, replyPort, timerList}
 use Rattle.segment.specs.Table.{nth, dataOf}
-use Rattle.segment.specs.Fields.{entryOf, entryAt}
+use Rattle.segment.specs.Fields.{entryWords, entryOf, entryAt}
 use Rattle.ports.specs.Slots.{seek, has}
 use Rattle.ports.specs.Lists.{Boxes}
 use Rattle.ports.specs.Index.{index}
@@ -57,7 +57,7 @@ same-place f x p = go (ℕ-discrete x p)
     go (yes e) = eq-eqb (places * f + x) (places * f + p) (omega arith) ∙ sym (eq-eqb x p e)
     go (no e) = ne-eqb (places * f + x) (places * f + p) (λ z. e (omega arith)) ∙ sym (ne-eqb x p e)
 
--- the two tests of what is outstanding, by what they came to
+-- the two tests of what is outstanding, by their results
 
 is-nothing : (t u : Bool) → cond t Completed (cond u Waiting Nothing) ≡ Nothing → (t ≡ false) × (u ≡ false)
 is-nothing true u e = absurd (false≢true cc)
@@ -98,7 +98,7 @@ module _ {ms : Memories} {d : Desk} {s : Alloc} (S : StandsFor ms d s) where
       found-none : index (has 0 i) ws ≡ length ws → entries ≤ foundAt (ms .segment) l i
       found-none k = rw slot (end-box boxed l h (index (has 0 i) ws) (k ∙ long) .0)
 
-    -- its first entry
+    -- the first entry of the list
     head-in : 0 < length ws → (nth (ms .segment) l < entries) × (dataOf (ms .segment) (nth (ms .segment) l) ≡ getD ws 0 [])
     head-in k =
         let n : 0 < length (getD (listsOf d s) l []) = omega (arith, long) in
@@ -110,7 +110,7 @@ module _ {ms : Memories} {d : Desk} {s : Alloc} (S : StandsFor ms d s) where
 
   -- what is left of a timeout
   left-clock : (i : ℕ) → leftAt (ms .segment) i ≡ leftOf i (s .clock)
-  unfolding leftIn entryAt entryOf timerWords
+  unfolding leftIn entryAt entryOf timerWords entryWords
   left-clock i = go (timed i u (s .clock))
     where
       u : Timer
@@ -209,14 +209,14 @@ module _ {ms : Memories} {d : Desk} {s : Alloc} (S : StandsFor ms d s) where
           ap entryOf (head-in (replyPort (places * f + p)) (omega arith) (m ∷ []) z (omega arith) .1)
 
       read-limit : (x : Wanted) → a .req ≡ reading x → entryAt (ms .segment) (foundAt (ms .segment) (readQueue f) (places * f + p)) .limit ≡ x .limit
-      unfolding entryOf reqWords waitsRead accAt
+      unfolding entryOf reqWords waitsRead accAt entryWords
       read-limit x e =
           let c : count p (b .rq) ≡ 1 = agree p .reads ∙ ap waitsRead (req-at ∙ e) in
           ap (λ (m : Entry). m .limit)
           (queue-entry (readQueue f) (omega arith) (b .rq) reads-box reads-wait p c ∙ ap (λ (r : Req). entryOf (reqWords (places * f + p) r)) (req-at ∙ e))
 
       write-size : (x : Offered) → a .req ≡ writing x → entryAt (ms .segment) (foundAt (ms .segment) (writeQueue f) (places * f + p)) .size ≡ length (x .bytes)
-      unfolding entryOf reqWords waitsWrite accAt
+      unfolding entryOf reqWords waitsWrite accAt entryWords
       write-size x e =
           let c : count p (b .wq) ≡ 1 = agree p .writes ∙ ap waitsWrite (req-at ∙ e) in
           ap (λ (m : Entry). m .size)
@@ -233,7 +233,7 @@ module _ {ms : Memories} {d : Desk} {s : Alloc} (S : StandsFor ms d s) where
       Shown w q = Fitting w q → outstandingAt (ms .segment) f p (1 + bit w) ≡ outstandingOf q → requestAt (ms .segment) f p (1 + bit w) ≡ requestOf b p q
 
       shown-as : (w : Bool) (q : Req) → a .req ≡ q → Shown w q
-      unfolding requestAt waitingIn completedIn requestOf outstandingAt outstandingOf Fitting entryOf reqWords portWords
+      unfolding requestAt waitingIn completedIn requestOf outstandingAt outstandingOf Fitting entryOf reqWords portWords entryWords
       shown-as w idle e g o = let z = is-nothing full (queued (1 + bit w)) o in rw (z .0, z .1)
       shown-as false (reading x) e g o =
           let z = is-waiting full (queued 1) o in

@@ -19,7 +19,7 @@ use Rattle.memory.specs.Image.{placeWords}
 use Rattle.memory.specs.Fine.{StandsFor}
 use Rattle.accessors.specs.Sides.{sideOf, purgesAt}
 use Rattle.accessors.proofs.Counted.{purges-is}
-use Rattle.accessors.proofs.Stood.{shown}
+use Rattle.accessors.proofs.Rows.{shown}
 use Rattle.notices.specs.Lines.{nobodyLine, accessorLine, rowLine}
 use Rattle.board.specs.Board.{accText, placesText, accessorsText}
 use Rattle.board.specs.Found.{rowText, placeTextAt, placesAt, accessorsAt}

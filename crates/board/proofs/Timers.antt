@@ -35,7 +35,7 @@ module _ (i : ℕ) (u : Timer) where
   timed [] = inr (refl, refl)
   timed (t ∷ ts) = let r = timed ts in by-cases (eqb (t .place) i) (λ k. rw k (inl (omega arith, refl))) (λ k. timed-on t ts k r)
 
--- of place p of file f
+-- the timers of place p of file f
 module _ (f p : ℕ) (h : p < places) where
   same-place : (n : ℕ) → n / places ≡ f → eqb (n % places) p ≡ eqb n (places * f + p)
   same-place n e = go (ℕ-discrete (n % places) p)

@@ -14,7 +14,7 @@ use Rattle.board.specs.Board.{accRoom, fileRoom, boardRoom, fileText, fi
 use Rattle.board.specs.Found.{placeTextAt, placesAt}
 use Rattle.board.specs.Promise.{Ends}
 
--- the first p places, from a place of the output on
+-- the first p places, starting at a place of the output
 module _ (xs : List ℕ) (f : ℕ) (out₀ : List ℕ) (at : ℕ) where
   abbrev pub Placed : ℕ → List ℕ → ℕ → Type 0
   Placed p out end = Put (accRoom * p) out₀ at (placesAt xs f p) out end

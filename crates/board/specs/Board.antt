@@ -8,24 +8,24 @@ use lib.ListN.{length}
 use Rattle.rules.specs.Limits.{files, places}
 use Rattle.rules.specs.State.{Acc, Built, File, unbuilt, built}
 use Rattle.rules.specs.Requests.{writers, opened, accAt, capacityOf}
-use Rattle.rules.specs.Counts.{dataCount}
+use Rattle.rules.specs.FileCounts.{dataCount}
 use Rattle.rules.specs.Store.{used}
 use Rattle.rules.specs.Desk.{Desk, fileOf}
 use Rattle.texts.specs.Spell.{spell}
 use Rattle.board.specs.Requests.{requestOf}
 use Rattle.notices.specs.Lines.{lineRoom, geometryLine, heldLine, nobodyLine, accessorLine, requestLine}
 
--- how many data records more the file takes now: "one place is kept for each close record"
+-- how many more data records the file takes now: "one place is kept for each close record"
 unfoldable pub roomLeft : Built → ℕ
 roomLeft b = capacityOf b - (used (b .store) + writers b)
 
--- who has a place, and what that accessor waits for or has not collected
+-- the lines of a place: its accessor, and what that accessor waits for or has not collected
 unfoldable pub accText : Built → ℕ → Option Acc → List ℕ
 accText b p none = []
 accText b p (some a) =
     accessorLine p (a .writer) (a .ident) (a .typed) (a .keep) (a .timeout) (a .extended) ++ requestLine (requestOf b p (a .req))
 
--- the first n places
+-- the lines of the first n places
 unfoldable pub placesText : Built → ℕ → List ℕ
 placesText b zero = []
 placesText b (suc n) = placesText b n ++ accText b n (accAt b n)
@@ -33,19 +33,19 @@ placesText b (suc n) = placesText b n ++ accText b n (accAt b n)
 unfoldable pub accessorsText : Built → List ℕ
 accessorsText b = elim (eqb (opened b) 0) [ true ↦ nobodyLine | false ↦ placesText b places ]
 
--- file f, where it is built
+-- the lines of file f, if it is built
 unfoldable pub fileText : ℕ → File → List ℕ
 fileText f unbuilt = []
 fileText f (built b) =
     geometryLine f (b .geo .words) (b .geo .factor) (b .geo .blocks)
     ++ (heldLine (dataCount (b .store .recs)) (length (b .store .recs)) (roomLeft b) ++ accessorsText b)
 
--- the first n files
+-- the lines of the first n files
 unfoldable pub filesText : Desk → ℕ → List ℕ
 filesText d zero = []
 filesText d (suc n) = filesText d n ++ fileText n (fileOf d n)
 
--- a desk on which nothing is built says so
+-- the text of the files, or a line saying that none is built
 unfoldable pub orNothing : List ℕ → List ℕ
 orNothing [] = spell "no file is built\n"
 orNothing (x ∷ t) = x ∷ t
@@ -53,7 +53,7 @@ orNothing (x ∷ t) = x ∷ t
 unfoldable pub boardText : Desk → List ℕ
 boardText d = orNothing (filesText d files)
 
--- room that every board fits: two lines for an accessor, two for a file
+-- room for every board: two lines for an accessor, two for a file
 abbrev pub accRoom : ℕ
 accRoom = 2 * lineRoom
 

@@ -19,25 +19,25 @@ use Rattle.notices.specs.declared.Request.{Request}
 use Rattle.notices.specs.declared.Request.the-variants.{Idle, Reads, Writes, HasRead, HasWritten}
 use Rattle.notices.specs.Lines.{nobodyLine, requestLine, rowLine}
 
--- the number of the entry of place i in list l; no entry's, where there is none
+-- the number of place i's entry in list l; not an entry's number, if there is none
 abbrev pub foundAt : List ℕ → ℕ → ℕ → ℕ
 foundAt s l i = nth s (seek (has 0 i) s l entries)
 
--- what is left, of the timer's entry e
+-- the time left in the timer's entry e, or untimed, if there is no such entry
 unfoldable pub leftIn : List ℕ → ℕ → Left
 leftIn s e = cond (ltb e entries) (Seconds (entryAt s e .seconds)) Untimed
 
 abbrev pub leftAt : List ℕ → ℕ → Left
 leftAt s i = leftIn s (foundAt s timerList i)
 
--- whether entry e, the first of a list, is of place i
+-- 1 if entry e, the first of a list, is of place i, else 0
 unfoldable pub firstIn : List ℕ → ℕ → ℕ → ℕ
 firstIn s i e = cond (ltb e entries) (bit (eqb (entryAt s e .place) i)) 0
 
 abbrev pub firstAt : List ℕ → ℕ → ℕ → ℕ
 firstAt s l i = firstIn s i (nth s l)
 
--- of the entry e of a request that waits in list l, and of one that is completed
+-- the request that waits in list l, with the entry e; `completedIn` is a completed request
 
 unfoldable pub waitingIn : List ℕ → ℕ → ℕ → ℕ → ℕ → Request
 waitingIn s l i side e =
@@ -56,7 +56,7 @@ requestAt s f p side =
     cond (ltb (nth s (replyPort (places * f + p))) entries) (completedIn side (entryAt s (nth s (replyPort (places * f + p)))))
     (waitingAt s (queueOf f side) (places * f + p) side)
 
--- what is put of place p of file f, whose row this is; of its first n places; of all its places
+-- the lines of place p of file f, whose row is r; `placesAt` has those of its first n places, `accessorsAt` those of all
 
 unfoldable pub rowText : List ℕ → ℕ → ℕ → PlaceRow → List ℕ
 rowText s f p r = cond (eqb (r .side) 0) [] (rowLine p r ++ requestLine (requestAt s f p (r .side)))

@@ -1,4 +1,4 @@
--- What the board tells of the request of an accessor: a definition on the rules.
+-- What the board shows of an accessor's request, defined on the rules.
 use Prim.Native.Nat.{ℕ}
 use mathlib.Core.Bool.{Bool, false, cond}
 use mathlib.Core.List.{List, [], _∷_}
@@ -21,7 +21,7 @@ unfoldable pub isFirst : ℕ → List ℕ → Bool
 isFirst p [] = false
 isFirst p (x ∷ q) = eqb x p
 
--- a waiting read with the bytes that it asks for, a waiting write with the bytes of its data; what a completed one brings
+-- a request as shown: a waiting read with the bytes that it asks for, a waiting write with the bytes of its data, a completed one with what it brings
 unfoldable pub requestOf : Built → ℕ → Req → Request
 requestOf b p idle = Idle
 requestOf b p (reading q) = Reads (q .limit) (leftOf p (b .timers)) (bit (isFirst p (b .rq)))

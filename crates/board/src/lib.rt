@@ -1,4 +1,4 @@
-// The night board: what a desk holds, who has its files open, who waits and what is not collected, as a text.
+// The night board: a text that shows what a desk holds, who has its files open, who waits and what is not collected.
 mod outstanding;
 
 use accessors::sides::count_side;
@@ -24,33 +24,34 @@ ghost use Rattle.rules.specs.State.{Built, built};
 ghost use Rattle.rules.specs.Desk.{Desk, fileOf};
 ghost use Rattle.rules.specs.Allocation.{Alloc};
 ghost use Rattle.segment.specs.Layout.{segmentBytes};
-ghost use Rattle.memory.specs.Memories.{memories};
+ghost use Rattle.memory.specs.Memories.{memories, was};
 ghost use Rattle.memory.specs.Fine.{StandsFor};
 ghost use Rattle.ring.specs.Ring.{Ranged, used};
 ghost use Rattle.midst.specs.FileStands.{FileStands};
+ghost use Rattle.midst.specs.Outcome.{SoundBlocks};
 ghost use Rattle.promises.specs.Promise.{written};
 ghost use Rattle.texts.specs.Put.{Put};
 ghost use Rattle.board.specs.Board.{accRoom, fileRoom, boardRoom, fileText, filesText};
 ghost use Rattle.board.specs.Found.{placeTextAt, placesAt, accessorsAt};
-ghost use Rattle.board.specs.Promise.{Stood, Ends, Board};
+ghost use Rattle.board.specs.Promise.{Ends, Board};
 
-// Room that every board fits: of a line 80 columns and LF; two lines for an accessor, two for a file.
+// The room of a line: 80 columns and LF. A board has at most two lines for a file and two for an accessor.
 const LINE_ROOM: usize = 81;
 
 const FILE_ROOM: usize = 2 * LINE_ROOM + PLACES * (2 * LINE_ROOM);
 
 pub const BOARD_ROOM: usize = FILES * FILE_ROOM;
 
-// As many closed places as a file has.
+// The number of closed places of a file that nobody has open.
 const ALL_PLACES: u16 = PLACES as u16;
 
-// The status, and the length of the text.
+// The status of a board, and the length of its text.
 pub struct Shown {
     pub status: u8,
     pub length: usize,
 }
 
-// The accessor at place p of file f, if one is open there.
+// Puts the lines of the accessor at place p of file f, if one is open there.
 fn put_place(segment: &[u8], out: &mut [u8], at: usize, f: usize, p: usize) -> usize
     requires { ⌜ (length (now segment) ≡ segmentBytes) × (f < files) × (p < places) × (at + accRoom ≤ length (now out)) ⌝ }
     ensures { λ r. ⌜ Put accRoom (now (out .entry)) at (placeTextAt (now (segment .entry)) f p) (now (out .exit)) r ⌝ }
@@ -65,7 +66,7 @@ fn put_place(segment: &[u8], out: &mut [u8], at: usize, f: usize, p: usize) -> u
     put_request(out, a, request)
 }
 
-// All its accessors.
+// Puts the lines of all accessors of file f.
 fn put_places(segment: &[u8], out: &mut [u8], at: usize, f: usize) -> usize
     requires { ⌜ (length (now segment) ≡ segmentBytes) × (f < files) × (at + places * accRoom ≤ length (now out)) ⌝ }
     ensures { λ r. ⌜ Put (places * accRoom) (now (out .entry)) at (placesAt (now (segment .entry)) f places) (now (out .exit)) r ⌝ }
@@ -79,7 +80,7 @@ fn put_places(segment: &[u8], out: &mut [u8], at: usize, f: usize) -> usize
     end
 }
 
-// Or that it has none.
+// Puts the lines of all accessors of file f, or a line that says that it has none.
 fn put_accessors(segment: &[u8], out: &mut [u8], at: usize, f: usize) -> usize
     requires { ⌜ (length (now segment) ≡ segmentBytes) × (f < files) × (at + places * accRoom ≤ length (now out)) ⌝ }
     ensures { λ r. ⌜ Put (places * accRoom) (now (out .entry)) at (accessorsAt (now (segment .entry)) f) (now (out .exit)) r ⌝ }
@@ -90,7 +91,7 @@ fn put_accessors(segment: &[u8], out: &mut [u8], at: usize, f: usize) -> usize
     put_places(segment, out, at, f)
 }
 
-// How many data records more fit: "one place is kept for each close record".
+// The number of data records that still fit: "one place is kept for each close record".
 fn room_left(ring: Ring, writers: u16) -> u16
     requires { ⌜ Ranged ring × (used ring + writers ≤ ring .factor * ring .blocks) ⌝ }
     ensures { λ r. ⌜ r ≡ ring .factor * ring .blocks - (used ring + writers) ⌝ }
@@ -100,7 +101,7 @@ fn room_left(ring: Ring, writers: u16) -> u16
     room - kept
 }
 
-// A file that is built.
+// Puts the lines of file f, which is built.
 fn put_file(segment: &[u8], blocks: &[u8], out: &mut [u8], at: usize, f: usize) -> usize
     requires { ⌜ FileStands (now segment) (now blocks) f × (at + fileRoom ≤ length (now out)) ⌝ }
     ensures { λ r. ⌜ ((buffers : List ℕ) (d : Desk) (s : Alloc) (b : Built) → StandsFor (memories (now (segment .entry)) (now (blocks .entry)) buffers) d s → fileOf d f ≡ built b → Put fileRoom (now (out .entry)) at (fileText f (built b)) (now (out .exit)) r) ⌝ }
@@ -123,9 +124,9 @@ fn put_file(segment: &[u8], blocks: &[u8], out: &mut [u8], at: usize, f: usize) 
     put_accessors(segment, out, b, f)
 }
 
-// File f, where it is built.
+// Puts the lines of file f, if it is built.
 fn put_if_built(segment: &[u8], blocks: &[u8], out: &mut [u8], at: usize, f: usize) -> usize
-    requires { ⌜ Stood (now segment) (now blocks) × (f < files) × (at + fileRoom ≤ length (now out)) ⌝ }
+    requires { ⌜ SoundBlocks (now segment) (now blocks) × (f < files) × (at + fileRoom ≤ length (now out)) ⌝ }
     ensures bound { λ r. ⌜ r ≤ at + fileRoom ⌝ }
     ensures text { λ r. ⌜ ((buffers : List ℕ) (d : Desk) (s : Alloc) → StandsFor (memories (now (segment .entry)) (now (blocks .entry)) buffers) d s → Put fileRoom (now (out .entry)) at (fileText f (fileOf d f)) (now (out .exit)) r) ⌝ }
 {
@@ -135,9 +136,9 @@ fn put_if_built(segment: &[u8], blocks: &[u8], out: &mut [u8], at: usize, f: usi
     put_file(segment, blocks, out, at, f)
 }
 
-// All files.
+// Puts the lines of all built files.
 fn put_files(segment: &[u8], blocks: &[u8], out: &mut [u8]) -> usize
-    requires { ⌜ Stood (now segment) (now blocks) × (boardRoom ≤ length (now out)) ⌝ }
+    requires { ⌜ SoundBlocks (now segment) (now blocks) × (boardRoom ≤ length (now out)) ⌝ }
     ensures { λ r. ⌜ ((buffers : List ℕ) (d : Desk) (s : Alloc) → StandsFor (memories (now (segment .entry)) (now (blocks .entry)) buffers) d s → Put boardRoom (now (out .entry)) 0 (filesText d files) (now (out .exit)) r) ⌝ }
 {
     let mut end = 0;
@@ -149,7 +150,7 @@ fn put_files(segment: &[u8], blocks: &[u8], out: &mut [u8]) -> usize
     end
 }
 
-// Where nothing was put: that no file is built.
+// Puts a line that says that no file is built, if nothing was put before.
 fn put_nothing(out: &mut [u8], at: usize) -> usize
     requires { ⌜ boardRoom ≤ length (now out) ⌝ }
     ensures { λ r. ⌜ Ends (now (out .entry)) at (now (out .exit)) r ⌝ }
@@ -166,10 +167,10 @@ fn refused(status: u8) -> Shown
     Shown { status, length: 0 }
 }
 
-// The board, from the first byte of the output on. 29: a memory of the wrong length, or unsound; 44: output shorter than BOARD_ROOM. Then nothing
-// is written.
+// Writes the board, starting at the first byte of the output. Status 29: a memory has the wrong length or is unsound; 44: the output is shorter than
+// BOARD_ROOM. Then nothing is written.
 pub fn board(segment: &[u8], blocks: &[u8], buffers: &[u8], out: &mut [u8]) -> Shown
-    ensures board { λ r. ⌜ Board (memories (now (segment .entry)) (now (blocks .entry)) (now (buffers .entry))) (now (out .entry)) (written (r .status) (r .length) (now (out .exit))) ⌝ }
+    ensures board { λ r. ⌜ Board (was segment blocks buffers) (now (out .entry)) (written (r .status) (r .length) (now (out .exit))) ⌝ }
     ensures fits { λ r. ⌜ r .length ≤ length (now (out .entry)) ⌝ }
 {
     if !sound::sound(segment, blocks, buffers) {

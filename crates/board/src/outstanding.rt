@@ -28,7 +28,7 @@ fn left_at(segment: &[u8], place: usize) -> Left
     Left::Seconds(seconds)
 }
 
-// 1 where the first entry of the list is of the place.
+// Whether the first entry of the list belongs to the place: 1 or 0.
 fn first_at(segment: &[u8], list: usize, place: usize) -> u16
     requires { ⌜ length (now segment) ≡ segmentBytes ⌝ }
     requires { ⌜ (list < fileRows) × (place < deskPlaces) ⌝ }
@@ -44,7 +44,7 @@ fn first_at(segment: &[u8], list: usize, place: usize) -> u16
     0
 }
 
-// The request of an accessor of that side that waits in its queue, if it does.
+// The request of the accessor at a place, on that side, if it waits in the queue; else `Idle`.
 fn waiting(segment: &[u8], queue: usize, place: usize, side: u16) -> Request
     requires { ⌜ length (now segment) ≡ segmentBytes ⌝ }
     requires { ⌜ (queue < fileRows) × (place < deskPlaces) ⌝ }
@@ -66,7 +66,7 @@ fn waiting(segment: &[u8], queue: usize, place: usize, side: u16) -> Request
     Request::Reads { bytes, left, first }
 }
 
-// A completed one, by its entry.
+// The completed request that an entry holds, for an accessor on that side.
 fn completed(side: u16, entry: segment::Entry) -> Request
     ensures { λ r. ⌜ r ≡ completedIn side entry ⌝ }
 {

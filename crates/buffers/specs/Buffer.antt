@@ -2,7 +2,7 @@
 use Prim.Native.Nat.{ℕ, _-_, _*_}
 use mathlib.Core.List.{List, _++_}
 use lib.ListN.{length}
-use Rattle.words.specs.Word.{zeros, part}
+use Rattle.words.specs.Word.{zeros}
 use Rattle.rules.specs.Limits.{files, places, bufferBytes}
 
 -- "one an accessor place"
@@ -15,7 +15,3 @@ buffersBytes = bufferBytes * bufferCount
 -- "lies at the start of the accessor's buffer, which is otherwise zero"
 unfoldable pub filled : List ℕ → List ℕ
 filled d = d ++ zeros (bufferBytes - length d)
-
--- the buffer of place i of the desk
-abbrev pub bufferAt : ℕ → List ℕ → List ℕ
-bufferAt i xs = part bufferBytes i xs

@@ -1,15 +1,16 @@
-// Record buffers: a completed read's record, or a waiting write's data, lies at the start of one, and all behind it is zero.
-// Place i of the desk, 8 × file + accessor, has the i-th of the lent memory.
+// Record buffers. A completed read's record, or a waiting write's data, lies at the start of a buffer, and the rest of the buffer is zero.
+// Place i of the desk, 8 × file + accessor, has the i-th buffer of the lent memory.
 ghost use mathlib.Core.Path.{_≡_};
 ghost use Prim.Native.Nat.{_*_, _≤_, _<_};
 ghost use lib.ListN.{length, take};
 ghost use lib.Seq.{sets};
 ghost use Rattle.words.specs.Word.{zeros};
 ghost use Rattle.rules.specs.Limits.{bufferBytes};
-ghost use Rattle.buffers.specs.Buffer.{bufferCount, buffersBytes, filled, bufferAt};
+ghost use Rattle.rules.specs.Memories.{bufferAt};
+ghost use Rattle.buffers.specs.Buffer.{bufferCount, buffersBytes, filled};
 use kinds::limits::BUFFER_BYTES;
 
-// The data lie in the buffer.
+// Puts the data into the buffer, with zeros after them.
 pub fn fill(buffer: &mut [u8], data: &[u8])
     requires { ⌜ (length (now buffer) ≡ bufferBytes) × (length (now «data») ≤ bufferBytes) ⌝ }
     ensures { λ _. ⌜ now (buffer .exit) ≡ filled (now («data» .entry)) ⌝ }
@@ -19,7 +20,7 @@ pub fn fill(buffer: &mut [u8], data: &[u8])
     words::zero(buffer, n, BUFFER_BYTES - n);
 }
 
-// Nothing lies in the buffer.
+// Empties the buffer: all its bytes become zero.
 pub fn clear(buffer: &mut [u8])
     requires { ⌜ length (now buffer) ≡ bufferBytes ⌝ }
     ensures { λ _. ⌜ now (buffer .exit) ≡ zeros bufferBytes ⌝ }
@@ -27,7 +28,7 @@ pub fn clear(buffer: &mut [u8])
     words::zero(buffer, 0, BUFFER_BYTES);
 }
 
-// The same on the whole memory, for the buffer of a place.
+// `fill` and `clear` on the whole memory, for the buffer of a place.
 
 pub fn fill_at(buffers: &mut [u8], place: usize, data: &[u8])
     requires { ⌜ (length (now buffers) ≡ buffersBytes) × (place < bufferCount) × (length (now «data») ≤ bufferBytes) ⌝ }
@@ -47,7 +48,7 @@ pub fn clear_at(buffers: &mut [u8], place: usize)
     clear(&mut buffers[a..e]);
 }
 
-// The bytes that lie in the buffer of a place, `size` of them.
+// The first `size` bytes in the buffer of a place.
 pub fn lies<'a>(buffers: &'a [u8], place: usize, size: usize) -> &'a [u8]
     requires { ⌜ (length (now buffers) ≡ buffersBytes) × (place < bufferCount) × (size ≤ bufferBytes) ⌝ }
     ensures { λ r. ⌜ now r ≡ take size (bufferAt place (now (buffers .entry))) ⌝ }

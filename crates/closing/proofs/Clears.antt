@@ -29,7 +29,7 @@ use Rattle.midst.specs.declared.File as hand
 use Rattle.midst.specs.File.{fileOfRow}
 use Rattle.midst.specs.Mid.{Start, Mid, start}
 use Rattle.midst.specs.Outcome.{refusalOf, Outcome, Done}
-use Rattle.midst.specs.Accepted.{CloseKnown, Accepted}
+use Rattle.midst.specs.Accepted.{CloseKnown, NotRefused}
 use Rattle.midst.proofs.Begins.{mid-begin}
 use Rattle.midst.proofs.Changes.{mid-below}
 use Rattle.midst.proofs.Accepted.{accepted-close}
@@ -59,7 +59,7 @@ cancel-closed : (p : ℕ) (a : Acc) (b : Built) → closed p a b ≡ closed p (w
 unfolding closed withReq
 cancel-closed p a b = refl
 
--- the memories when no request waits any more, and what the close comes to
+-- the memories when no request waits any more, and the outcome of the close
 pub record Cleared (f p : ℕ) (o : Start) (m : Memories) (x : hand.File) (out : Out) : Type 0 where
   pub file : Built
   pub acc : Acc
@@ -82,7 +82,7 @@ module _ {m : Memories} {d : Desk} {s : Alloc} (S : StandsFor m d s) (f p : ℕ)
         → Cleared f p (start d s m) (memories xs′ (m .blocks) buffers′) x (ask (fileOf d f) (calls.close p))
     clears x ex xs′ buffers′ u v = go (isWaiting (outstandingAt (m .segment) f p side)) refl u v
       where
-        A : Accepted (CloseKnown p) d f (calls.close p)
+        A : NotRefused (CloseKnown p) d f (calls.close p)
         A = accepted-close d f p r
 
         M : Mid Fine f (start d s m) m x (A .b)
@@ -113,7 +113,7 @@ module _ {m : Memories} {d : Desk} {s : Alloc} (S : StandsFor m d s) (f p : ℕ)
               comes = A .known .idles (quiet (A .known .a .req) (waits false e) (A .known .collected));
             }
 
--- it is done
+-- the close is done
 pub close-done : {f p : ℕ} {d : Desk} {s : Alloc} {m m₁ m′ : Memories} {x : hand.File} {out : Out} (C : Cleared f p (start d s m) m₁ x out)
     → Outcome f d s (leaves (answers Closed []) (settle (closed p (C .acc) (C .file)))) m m′ → Done f d s out m m′ Closed
 unfolding answering leaves

@@ -12,13 +12,13 @@ use Rattle.rules.specs.State.{idle, Acc, Built}
 use Rattle.rules.specs.Requests.{accAt, putRec}
 use Rattle.rules.specs.Close.{closeRec, lastGone, vacate, closed}
 use Rattle.rules.specs.Allocation.{placeOf}
+use Rattle.rules.specs.Memories.{shareAt}
 use Rattle.rules.proofs.Split.{pick-true, pick-false}
 use Rattle.segment.specs.declared.PlaceRow.{PlaceRow}
 use Rattle.segment.specs.Layout.{segmentBytes, placeRowAt}
 use Rattle.segment.specs.Table.{fill}
 use Rattle.segment.specs.Fields.{placeWords, placeAt, placeRowOf}
 use Rattle.blocks.specs.Writing.{recOf, Ready}
-use Rattle.blocks.specs.Memory as code
 use Rattle.blocks.specs.Memory.{blocksBytes}
 use Rattle.memory.specs.Memories.{Memories, memories}
 use Rattle.memory.specs.Image as image
@@ -35,7 +35,7 @@ use Rattle.store.proofs.Hands.{owed-stored, hand-ready, through}
 -- the close record
 
 module _ {n f : ℕ} {o : Start} {m : Memories} {x : hand.File} {b : Built} (M : Mid (Owed n) f o m x b) where
-  pub close-ready : ((length (m .blocks) ≡ blocksBytes) × (f < files)) × Ready (x .words) (x .ring) (code.shareAt f (m .blocks)) 0
+  pub close-ready : ((length (m .blocks) ≡ blocksBytes) × (f < files)) × Ready (x .words) (x .ring) (shareAt f (m .blocks)) 0
   unfolding closeRec
   close-ready = hand-ready M (owed-stored n b (M .good)) (closeRec n) (omega arith)
 

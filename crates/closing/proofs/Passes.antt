@@ -20,12 +20,13 @@ use Rattle.rules.specs.Allocation.{Alloc, placeOf, heldAt, ownEntry, endsAt, al
 use Rattle.rules.proofs.Split.{pick-true, pick-false}
 use Rattle.segment.specs.declared.PlaceRow.{PlaceRow}
 use Rattle.segment.specs.Layout.{linkAt, readQueue, deskPlaces}
-use Rattle.segment.specs.Fields.{entryAt, placeAt, placeRowOf}
-use Rattle.ports.proofs.Chains.{slotAt}
+use Rattle.segment.specs.Fields.{entryWords, entryAt, placeAt, placeRowOf}
+use Rattle.ports.proofs.Chains.{slotAt, slot-after}
 use Rattle.ports.proofs.Maps.{map-append, map-in}
 use Rattle.requests.specs.Moves.{completed}
 use Rattle.laws.specs.Outstanding.{waitsRead, waitsWrite}
 use Rattle.laws.specs.Changes.{Ends, readEnds}
+use Rattle.laws.proofs.Happenings.{place-of-desk}
 use Rattle.memory.specs.Memories.{Memories, memories}
 use Rattle.memory.specs.Image.{reqWords}
 use Rattle.memory.specs.Image as image
@@ -33,7 +34,7 @@ use Rattle.midst.specs.declared.File as hand
 use Rattle.midst.specs.Mid.{Start, Mid}
 use Rattle.midst.proofs.Begins.{mid-place}
 use Rattle.midst.proofs.Changes.{Knows, keep, mid-below}
-use Rattle.midst.proofs.Lists.{entriesIn, place-under}
+use Rattle.midst.proofs.Lists.{entriesIn}
 use Rattle.midst.proofs.Requests.{step-finish}
 use Rattle.midst.proofs.Cuts.{without-absent}
 use Rattle.midst.proofs.Terms.{ends-other, place-other}
@@ -55,11 +56,6 @@ bit-not-one true n = absurd (n refl)
 bit-not-one false n = refl
 
 -- lists
-
--- the slot behind one entry more
-slot-more : (p : ℕ) (xs : List ℕ) (e : ℕ) → slotAt p (xs ++ e ∷ []) ≡ linkAt e
-slot-more p [] e = refl
-slot-more p (x ∷ xs) e = slot-more (linkAt x) xs e
 
 without-seam : (p : ℕ) (xs ys : List ℕ) → count p xs ≡ 0 → count p ys ≡ 0 → without p (xs ++ p ∷ ys) ≡ xs ++ ys
 unfolding without count
@@ -99,7 +95,7 @@ module _ {n f : ℕ} {o : Start} {m : Memories} {x : hand.File} {from : Built} {
     below = mid-below (W .mid) (N .place) (N .acc) (N .opens)
 
     pub next-place : entryAt (m .segment) e .place < deskPlaces
-    next-place = rw (N .entry) (place-under f (N .place) (W .mid .file) below)
+    next-place = rw (N .entry) (place-of-desk f (N .place) (W .mid .file) below)
 
     extended-is : placeAt (m .segment) (entryAt (m .segment) e .place) .extended ≡ bit (N .acc .extended)
     unfolding placeRowOf image.placeWords
@@ -110,7 +106,7 @@ module _ {n f : ℕ} {o : Start} {m : Memories} {x : hand.File} {from : Built} {
     queue-is : b .rq ≡ W .kept ++ N .place ∷ N .others
     queue-is = W .queue ∙ ap (λ (l : List ℕ). W .kept ++ l) (N .first)
 
-    -- it waits on
+    -- the reader waits on
     pub next-kept : placeAt (m .segment) (entryAt (m .segment) e .place) .extended ≡ 1 → Walk (Owed n) f o m x from (linkAt e) (left - 1)
     next-kept h = record {
       file = b;
@@ -119,13 +115,13 @@ module _ {n f : ℕ} {o : Start} {m : Memories} {x : hand.File} {from : Built} {
       mid = W .mid;
       queue = queue-is ∙ sym (append-assoc (W .kept) (N .place ∷ []) (N .others));
       at = ap (λ (z : ℕ). linkAt z) (N .own) ∙ sym (ap (slotAt (readQueue f)) (map-append (λ y. ownEntry (heldAt t (placeOf f y))) (W .kept) (N .place ∷ []))
-          ∙ slot-more (readQueue f) (entriesIn f t (W .kept)) (ownEntry (heldAt t (placeOf f (N .place)))));
+          ∙ slot-after (readQueue f) (entriesIn f t (W .kept)) (ownEntry (heldAt t (placeOf f (N .place)))));
       few = omega (arith, W .few, ap length (N .first));
       same = sym (ends-kept (N .place) (N .others) b (N .acc) (N .opens) (bit-one (N .acc .extended) (sym extended-is ∙ h)))
           ∙ ap (λ (l : List ℕ). endReaders l b) (sym (N .first)) ∙ W .same;
     }
 
-    -- it ends
+    -- the reader ends
     module _ (h : placeAt (m .segment) (entryAt (m .segment) e .place) .extended ≡ 1 → ⊥) where
       abbrev c : Built
       c = finish (N .place) 2 (readFails 2) b
@@ -150,7 +146,7 @@ module _ {n f : ℕ} {o : Start} {m : Memories} {x : hand.File} {from : Built} {
           ∙ without-seam (N .place) (W .kept) (N .others) (only .0) (only .1)
 
       mid-now : (xs′ : List ℕ) → xs′ ≡ completed (m .segment) slot (entryAt (m .segment) e .place) (endWords (entryAt (m .segment) e .place)) → Mid (Owed n) f o (memories xs′ (m .blocks) (m .buffers)) x c
-      unfolding endWords reqWords waitsRead waitsWrite lies
+      unfolding endWords reqWords waitsRead waitsWrite lies entryWords
       mid-now xs′ u =
           let short : 0 ≤ N .wanted .limit = omega arith in
           let ending : Ends 2 (reading (N .wanted)) (readFails 2) = readEnds {x = N .wanted} refl short (omega arith) in

@@ -17,7 +17,7 @@ use Rattle.rules.specs.Desk.{Desk, withFile}
 use Rattle.rules.specs.Allocation.{Alloc, placeOf, heldAt, ownEntry, allotAll}
 use Rattle.segment.specs.Layout.{listCount, segmentBytes, readQueue, fileRows}
 use Rattle.segment.specs.Table.{nth, dataOf}
-use Rattle.segment.specs.Fields.{entryOf, entryAt}
+use Rattle.segment.specs.Fields.{entryWords, entryOf, entryAt}
 use Rattle.ports.specs.Lists.{Chain}
 use Rattle.ports.proofs.Chains.{slotAt, slot-word, slot-end}
 use Rattle.ports.proofs.Lists.{short, slot-in}
@@ -36,7 +36,7 @@ use Rattle.midst.proofs.Lists.{below-side, list-side, box-side, entriesIn, word
 use Rattle.midst.proofs.Walks.{Owed}
 use Rattle.closing.specs.Walk.{Walk}
 
--- what the slot behind the entries ys of a chain holds
+-- what the slot after the entries ys of a chain holds
 slot-none : (xs : List ℕ) (p : ℕ) (ys zs : List ℕ) → Chain xs p (ys ++ zs) → zs ≡ [] → entries ≤ nth xs (slotAt p ys)
 slot-none xs p ys zs c e = slot-end xs p ys (subst (Chain xs p) (ap (λ (l : List ℕ). ys ++ l) e ∙ append-nil ys) c)
 
@@ -143,7 +143,7 @@ module _ {n f : ℕ} {o : Start} {ms : Memories} {x : hand.File} {from : Built} 
         ∙ map-at (λ y. reqWords (placeOf f y) (reqOf (accAt b y))) q i 0 [] within ∙ ap (λ (y : ℕ). reqWords (placeOf f y) (reqOf (accAt b y))) s
 
   pub walk-next : (e : ℕ) → e ≡ nth (ms .segment) slot → e < entries → Next f o (ms .segment) b (W .rest) e
-  unfolding entryAt entryOf reqOf reqWords
+  unfolding entryAt entryOf reqOf reqWords entryWords
   walk-next e h k = go (W .rest) refl
     where
       go : (l : List ℕ) → W .rest ≡ l → Next f o (ms .segment) b (W .rest) e
@@ -163,7 +163,7 @@ module _ {n f : ℕ} {o : Start} {ms : Memories} {x : hand.File} {from : Built} 
                 ∙ ap (λ (z : List ℕ). getD z 0 0) (entry-data p l q ∙ ap (reqWords (placeOf f p)) (ap reqOf v ∙ r));
           }
 
--- it begins
+-- the walk begins
 pub walk-begin : {n f : ℕ} {o : Start} {m : Memories} {x : hand.File} {b : Built} → Mid (Owed n) f o m x b
     → Walk (Owed n) f o m x b (readQueue f) entries
 walk-begin {f = f} {o = o} {b = b} M = record {

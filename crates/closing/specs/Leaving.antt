@@ -1,4 +1,4 @@
--- A close in its midst. A memory that a function is not lent stands under a quantifier.
+-- The midst of a close. Memory that a function is not lent is under a quantifier.
 use Prim.Native.Nat.{ℕ, _<_}
 use mathlib.Core.Path.{_≡_}
 use mathlib.Core.List.{List}
@@ -11,22 +11,22 @@ use Rattle.midst.proofs.Walks.{Owed}
 use Rattle.closing.specs.Walk.{Walk}
 use Rattle.memory.specs.Memories.{memories}
 
--- the writer with the ID n has gone, and its close record is owed
+-- a writer, with some ID n, has gone, and its close record is owed
 abbrev pub Gone : ℕ → List ℕ → Type 0
 Gone f xs = (n : ℕ) × (blocks : List ℕ) × (buffers : List ℕ) × (x : hand.File) × (o : Start) × (b : Built) × Mid (Owed n) f o (memories xs blocks buffers) x b
 
--- what is done then to the segment alone
+-- a change g of the file after a writer has gone, made in the segment alone
 abbrev pub Goes : (Built → Built) → ℕ → List ℕ → List ℕ → Type 0
 Goes g f xs xs′ =
     (n : ℕ) (blocks buffers : List ℕ) (x : hand.File) (o : Start) (b : Built) → Mid (Owed n) f o (memories xs blocks buffers) x b → Mid (Owed n) f o (memories xs′ blocks buffers) x (g b)
 
--- a walk stands at the entry e
+-- a walk is at a slot that holds the entry e
 abbrev pub Stops : List ℕ → ℕ → ℕ → Type 0
 Stops xs slot e =
     ((n : ℕ) × (f : ℕ) × (blocks : List ℕ) × (buffers : List ℕ) × (x : hand.File) × (o : Start) × (b : Built) × (left : ℕ) × Walk (Owed n) f o (memories xs blocks buffers) x b slot left)
     × (e ≡ nth xs slot) × (e < entries)
 
--- from the segment xs₀ on, the walk has come to this slot
+-- the walk that began with the segment xs₀ has come to this slot
 abbrev pub Walked : ℕ → List ℕ → List ℕ → ℕ → ℕ → Type 0
 Walked f xs₀ xs slot left =
     (n : ℕ) (blocks buffers : List ℕ) (x : hand.File) (o : Start) (b : Built) → Mid (Owed n) f o (memories xs₀ blocks buffers) x b → Walk (Owed n) f o (memories xs blocks buffers) x b slot left

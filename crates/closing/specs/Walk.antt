@@ -1,12 +1,13 @@
 -- The walk along a file's read queue when its last writer goes.
 use Prim.Native.Nat.{ℕ, _≤_}
 use mathlib.Core.Path.{_≡_}
-use mathlib.Core.List.{List, [], _∷_, _++_}
+use mathlib.Core.List.{List, _++_}
 use lib.ListN.{length}
 use Rattle.rules.specs.State.{Built}
 use Rattle.rules.specs.Allocation.{allotAll}
 use Rattle.rules.specs.Close.{endReaders}
 use Rattle.segment.specs.Layout.{readQueue}
+use Rattle.segment.specs.Fields.{entryWords, completedRequest}
 use Rattle.ports.proofs.Chains.{slotAt}
 use Rattle.midst.specs.declared.File as hand
 use Rattle.midst.specs.Mid.{Start, Mid}
@@ -15,10 +16,10 @@ use Rattle.memory.specs.Memories.{Memories}
 
 -- the data of a read that ended with status 2 and brought nothing
 unfoldable pub endWords : ℕ → List ℕ
-endWords i = i ∷ 0 ∷ 0 ∷ 0 ∷ 2 ∷ 0 ∷ 0 ∷ 0 ∷ 0 ∷ []
+endWords i = entryWords (completedRequest i 2 0 0)
 
--- the walk, which began with the file `from`, has come to this slot: of the queue the readers `kept` were passed and wait on, the readers `rest`,
--- at most so many, are left, and ending those of them is what is left to do
+-- the walk, which began with the file `from`, has come to this slot: the readers `kept` of the queue were passed and wait on, the readers `rest`,
+-- at most `left`, are still to be passed, and ending them is what is left to do
 pub record Walk (I : Built → Type 0) (f : ℕ) (o : Start) (m : Memories) (x : hand.File) (from : Built) (slot left : ℕ) : Type 0 where
   pub file : Built
   pub kept : List ℕ

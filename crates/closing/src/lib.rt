@@ -1,5 +1,5 @@
 // Close: "a waiting request is cancelled; for the last writer, every waiting reader without extended wait, in queue order, completes with status 2;
-// then a writer's close record is put." What is asked has been judged and is not refused.
+// then a writer's close record is put." The call has been judged and is not refused.
 ghost use mathlib.Core.Path.{_≡_};
 ghost use mathlib.Core.List.{List};
 ghost use mathlib.Core.Option.{some};
@@ -8,7 +8,7 @@ ghost use Rattle.rules.specs.State.{idle, Acc, Built};
 ghost use Rattle.rules.specs.Requests.{accAt, putRec};
 ghost use Rattle.rules.specs.Close.{closeRec, lastGone, closed};
 ghost use Rattle.rules.specs.Calls as calls;
-ghost use Rattle.memory.specs.Memories.{memories};
+ghost use Rattle.memory.specs.Memories.{memories, lent, was, left};
 ghost use Rattle.memory.specs.Fine.{Fine};
 ghost use Rattle.midst.specs.Mid.{Start, Mid};
 ghost use Rattle.midst.specs.Outcome.{Sound, Accepted, Does};
@@ -25,10 +25,10 @@ use midst::File;
 use midst::take_file;
 use readers::last_gone;
 use segment::PlaceRow;
-use settling::rest;
+use settling::conclude;
 use store::put;
 
-// A writer has gone: the readers end if it was the last, "then a writer's close record is put".
+// Ends the waiting readers if the writer that has gone was the last, "then a writer's close record is put".
 fn part(segment: &mut [u8], blocks: &mut [u8], f: usize, file: File, id: u16) -> File
     requires { ⌜ ((buffers : List ℕ) × (o : Start) × (b : Built) × Mid (Owed id) f o (memories (now segment) (now blocks) buffers) file b) ⌝ }
     ensures { λ r. ⌜ ((buffers : List ℕ) (o : Start) (b : Built) → Mid (Owed id) f o (memories (now (segment .entry)) (now (blocks .entry)) buffers) file b → Mid Fine f o (memories (now (segment .exit)) (now (blocks .exit)) buffers) r (putRec (closeRec id) (lastGone b))) ⌝ }
@@ -38,7 +38,7 @@ fn part(segment: &mut [u8], blocks: &mut [u8], f: usize, file: File, id: u16) ->
     put(blocks, f, file, CLOSE, id, &nothing)
 }
 
-// The accessor at place acc, which has no request, goes.
+// Removes the accessor at place acc, which has no request.
 fn leave(segment: &mut [u8], blocks: &mut [u8], f: usize, acc: usize, file: File) -> File
     requires { ⌜ ((buffers : List ℕ) × (o : Start) × (b : Built) × (a : Acc) × Mid Fine f o (memories (now segment) (now blocks) buffers) file b × (accAt b acc ≡ some a) × (a .req ≡ idle)) ⌝ }
     ensures { λ r. ⌜ ((buffers : List ℕ) (o : Start) (b : Built) (a : Acc) → Mid Fine f o (memories (now (segment .entry)) (now (blocks .entry)) buffers) file b → accAt b acc ≡ some a → a .req ≡ idle → Mid Fine f o (memories (now (segment .exit)) (now (blocks .exit)) buffers) r (closed acc a b)) ⌝ }
@@ -69,13 +69,13 @@ pub fn close(
     f: usize,
     acc: usize,
 ) -> Answer
-    requires { ⌜ Sound (memories (now segment) (now blocks) (now buffers)) × Accepted f (calls.close acc) (memories (now segment) (now blocks) (now buffers)) ⌝ }
-    ensures { λ r. ⌜ Does f (calls.close acc) (memories (now (segment .entry)) (now (blocks .entry)) (now (buffers .entry))) (memories (now (segment .exit)) (now (blocks .exit)) (now (buffers .exit))) r ⌝ }
+    requires { ⌜ Sound (lent segment blocks buffers) × Accepted f (calls.close acc) (lent segment blocks buffers) ⌝ }
+    ensures { λ r. ⌜ Does f (calls.close acc) (was segment blocks buffers) (left segment blocks buffers) r ⌝ }
 {
     let side = segment::place_side(segment, PLACES * f + acc);
     let file = take_file(segment, f);
     remove(segment, buffers, f, acc, side);
     let left = leave(segment, blocks, f, acc, file);
-    rest(segment, blocks, buffers, f, left);
+    conclude(segment, blocks, buffers, f, left);
     Answer::Closed
 }

@@ -16,31 +16,21 @@ ghost use Rattle.closing.specs.Walk.{endWords, Walk};
 ghost use Rattle.closing.specs.Leaving.{Gone, Goes, Stops};
 ghost use Rattle.memory.specs.Memories.{memories};
 use kinds::statuses;
-use segment::Entry;
+use segment::forms::completed_request;
 use segment::layout;
 use settling::has_writer;
 
 const END_OF_FILE: u16 = statuses::END_OF_FILE as u16;
 
-// The waiting read of a place, whose entry stands at the slot, ends.
+// Ends the waiting read of a place, whose entry is at the slot.
 fn end_read(segment: &mut [u8], slot: usize, place: u16)
     requires { ⌜ (length (now segment) ≡ segmentBytes) × (slot < fileRows) × (place < deskPlaces) × (nth (now segment) slot < entries) ⌝ }
     ensures { λ _. ⌜ now (segment .exit) ≡ completed (now (segment .entry)) slot place (endWords place) ⌝ }
 {
-    let done = Entry {
-        place,
-        unit: 0,
-        limit: 0,
-        keep: 0,
-        status: END_OF_FILE,
-        log: 0,
-        size: 0,
-        seconds: 0,
-    };
-    requests::complete(segment, slot, done);
+    requests::complete(segment, slot, completed_request(place, END_OF_FILE, 0, 0));
 }
 
-// The reader whose entry e stands at the slot: it waits on, and the walk goes on behind it, or it ends, and the next one stands at the slot.
+// Ends the reader whose entry e is at the slot, unless it waits on. Gives the slot of the next reader: the one after e if it waits on, else this slot.
 fn pass(segment: &mut [u8], slot: usize, e: u16) -> usize
     requires { ⌜ Stops (now segment) slot e ⌝ }
     ensures { λ r. ⌜ ((n f : ℕ) (blocks buffers : List ℕ) (x : hand.File) (o : Start) (b : Built) (left : ℕ) → Walk (Owed n) f o (memories (now (segment .entry)) blocks buffers) x b slot left → Walk (Owed n) f o (memories (now (segment .exit)) blocks buffers) x b r (left - 1)) ⌝ }
@@ -70,7 +60,7 @@ fn end_readers(segment: &mut [u8], f: usize)
     }
 }
 
-// The readers of file f when a writer has gone.
+// Ends the waiting readers of file f, if no writer is open any more.
 pub fn last_gone(segment: &mut [u8], f: usize)
     requires { ⌜ Gone f (now segment) ⌝ }
     ensures { λ _. ⌜ Goes lastGone f (now (segment .entry)) (now (segment .exit)) ⌝ }

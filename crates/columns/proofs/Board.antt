@@ -10,7 +10,7 @@ use lib.ListN.{length}
 use Rattle.rules.specs.Limits.{files, places}
 use Rattle.rules.specs.State.{Acc, Built, File, unbuilt, built}
 use Rattle.rules.specs.Requests.{accAt, opened}
-use Rattle.rules.specs.Counts.{dataCount}
+use Rattle.rules.specs.FileCounts.{dataCount}
 use Rattle.rules.specs.Desk.{Desk, fileOf}
 use Rattle.rules.proofs.Split.{both}
 use Rattle.texts.specs.Spell.{spell}

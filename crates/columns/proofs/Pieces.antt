@@ -31,18 +31,18 @@ plain-drop zero x h = h
 plain-drop (suc n) [] h = h
 plain-drop (suc n) (a ∷ x) h = plain-drop n x (and-true (not (eqb a 10)) (plain x) h .1)
 
--- at most k columns of a line
+-- a piece of at most k columns of a line
 pub record Piece (k : ℕ) (x : List ℕ) : Type 0 where
   pub bare : plain x ≡ true
   pub short : length x ≤ k
 
--- the same, with the LF that ends it
+-- a piece of at most k columns, with the LF that ends it
 pub record Ending (k : ℕ) (x : List ℕ) : Type 0 where
   pub body : List ℕ
   pub is : x ≡ body ++ lf
   pub piece : Piece k body
 
--- of a text in quotes
+-- a piece that is a text in quotes
 pub text : (s : String) → plain (spell s) ≡ true → Piece (length (spell s)) (spell s)
 text s h = record { bare = h; short = omega arith }
 

@@ -7,7 +7,7 @@ use lib.Dec.{ltb, eqb}
 abbrev pub mostColumns : ℕ
 mostColumns = 80
 
--- with so many columns of a line before the text
+-- whether the text is narrow, if n columns of a line come before it
 unfoldable pub narrow : ℕ → List ℕ → Bool
 narrow n [] = eqb n 0
 narrow n (x ∷ t) = cond (eqb x 10) (narrow 0 t) (cond (ltb n mostColumns) (narrow (suc n) t) false)

@@ -1,1 +1,1 @@
-// No code: that no line of the night board has more than 80 columns.
+// No code: proofs/ shows that no line of the night board has more than 80 columns.

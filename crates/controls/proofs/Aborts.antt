@@ -34,7 +34,7 @@ use Rattle.midst.proofs.Accepted.{accepted-control, accepted-abort}
 use Rattle.accessors.specs.Outstanding.{queueOf, outstandingAt, outstandingOf}
 use Rattle.controls.specs.Removed.{isWaiting, emptied}
 use Rattle.controls.specs.Acts.{Taken}
-use Rattle.controls.proofs.Stood.{begins-rowed, stays-done}
+use Rattle.controls.proofs.Unsettled.{begins-rowed, stays-done}
 use Rattle.controls.proofs.Cancels.{waiting-awaits, waits-is, removed, removed-rowed}
 
 -- the accessor of a control that is accepted
@@ -47,7 +47,7 @@ known-at p (Extended v) b o k = (k .a, k .at)
 known-at p (Typed v) b o k = (k .a, k .at)
 known-at p (Keep v) b o k = (k .a, k .at)
 
--- one that does not wait is completed
+-- a request that does not wait is completed
 completes : (q : Req) → isWaiting (outstandingOf q) ≡ false → (q ≡ idle → ⊥) → uncollected q ≡ 1
 unfolding isWaiting outstandingOf uncollected
 completes idle e n = absurd (n refl)

@@ -1,4 +1,4 @@
-pub mod Stood
+pub mod Unsettled
 pub mod Removes
 pub mod Cancels
 pub mod Settings

@@ -42,7 +42,7 @@ use Rattle.midst.proofs.Walks.{fine-walks}
 use Rattle.midst.proofs.EndsUnwritten.{Rowed, rowed-place}
 use Rattle.midst.proofs.Accepted.{accepted-timeout, accepted-verify, accepted-extended, accepted-typed, accepted-keep}
 use Rattle.controls.specs.Changed.{changedRow}
-use Rattle.controls.proofs.Stood.{begins-rowed, stays-done}
+use Rattle.controls.proofs.Unsettled.{begins-rowed, stays-done}
 
 -- a parameter that is 0 or 1
 switch : (v : ℕ) → v ≤ 1 → v ≡ bit (eqb v 1)
@@ -71,7 +71,7 @@ mild-keep : (v : Bool) → Mild (setKeep v)
 unfolding Mild isWriter setKeep
 mild-keep v a = (refl, refl, refl, refl)
 
--- and the row of an accessor is that of the accessor as set
+-- the row of an accessor is that of the accessor as set
 abbrev Sets : Control → (Acc → Acc) → Type 0
 Sets c g = (a : Acc) → spared (placeWords (changedRow c (placeRowOf (image.placeWords (some a))))) ≡ image.placeWords (some (g a))
 
@@ -108,12 +108,12 @@ row-keep : (v : ℕ) → v ≤ 1 → Sets (Keep v) (setKeep (eqb v 1))
 unfolding placeWords changedRow placeRowOf image.placeWords setKeep
 row-keep v h a = rw (← switch v h)
 
--- and the file's row is the same
+-- the file's row is the same
 alter-rowed : (xs : List ℕ) (f p : ℕ) (g : Acc → Acc) (b : Built) → Rowed xs f b → Rowed xs f (alterAcc p g b)
 unfolding alterAcc withAccs image.fileWords
 alter-rowed xs f p g b e = e
 
--- the segment behind it
+-- the segment after the setting is written
 abbrev pub written : Control → ℕ → ℕ → List ℕ → List ℕ
 written c f p xs = fill xs (placeRowAt (places * f + p)) (placeWords (changedRow c (placeAt xs (places * f + p))))
 

@@ -10,12 +10,12 @@ use Rattle.memory.specs.Memories.{memories}
 use Rattle.memory.specs.Fine.{StandsFor}
 use Rattle.midst.specs.Outcome.{refusalOf, Done}
 
--- with some blocks the memories stand for a desk that takes what is asked
+-- the memories, with some blocks, stand for a desk that does not refuse what is asked
 abbrev pub Taken : ℕ → Ask → List ℕ → List ℕ → Type 0
 Taken f q xs buffers =
     (blocks : List ℕ) × (d : Desk) × (s : Alloc) × StandsFor (memories xs blocks buffers) d s × (refusalOf (answered d (on f q) .reply) ≡ 0)
 
--- with whatever blocks they stand for such a desk, the call comes to what the rules say, and the blocks stay
+-- the call does what the rules say and leaves the blocks, for any blocks with which the memories stand for a desk that does not refuse it
 abbrev pub Acts : ℕ → Ask → List ℕ → List ℕ → List ℕ → List ℕ → Answer → Type 0
 Acts f q xs buffers xs′ buffers′ a =
     (blocks : List ℕ) (d : Desk) (s : Alloc) → StandsFor (memories xs blocks buffers) d s → refusalOf (answered d (on f q) .reply) ≡ 0

@@ -3,7 +3,7 @@ use Rattle.kinds.specs.declared.Control.{Control}
 use Rattle.kinds.specs.declared.Control.the-variants.{Timeout, Verify, Abort, Extended, Typed, Keep}
 use Rattle.segment.specs.declared.PlaceRow.{PlaceRow}
 
--- its setting is the parameter now
+-- the row of a place after a control: the setting is the parameter
 unfoldable pub changedRow : Control → PlaceRow → PlaceRow
 changedRow (Timeout v) r =
     record { side = r .side; id = r .id; share = r .share; timeout = v; extended = r .extended; typed = r .typed; keep = r .keep; first = r .first }

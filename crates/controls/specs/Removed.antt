@@ -14,6 +14,6 @@ isWaiting Nothing = false
 isWaiting Waiting = true
 isWaiting Completed = false
 
--- the record buffers when the request of a place of that side is gone: a writer's data lay there
+-- the record buffers after the request of place i is gone: a writer's data lay there
 unfoldable pub emptied : ℕ → ℕ → List ℕ → List ℕ
 emptied side i ys = cond (eqb side 2) (sets ys (bufferBytes * i) (zeros bufferBytes)) ys

@@ -1,4 +1,4 @@
-// Control: a setting of an accessor, or the abort of its request. Nothing settles here, and the file's row stays.
+// Control: changes a setting of an accessor, or aborts its request. Nothing settles here, and the file's row stays the same.
 ghost use mathlib.Core.Path.{_≡_};
 ghost use mathlib.Core.Option.{some};
 ghost use Prim.Native.Nat.{ℕ, _<_};

@@ -1,4 +1,4 @@
-// A waiting request is removed: control 43, and "a waiting request is cancelled" of a close.
+// Removes a waiting request, for control 43 and for "a waiting request is cancelled" of a close.
 ghost use mathlib.Core.Path.{_≡_};
 ghost use mathlib.Core.Bool.{cond};
 ghost use Prim.Native.Nat.{_+_, _*_, _<_};
@@ -15,7 +15,7 @@ use kinds::limits::PLACES;
 use kinds::sides::WRITER;
 use segment::layout;
 
-// The request of a place, whose entry stands at the slot, is gone, and a writer's data with it.
+// Removes the request of a place, whose entry is at the slot, and a writer's data with it.
 fn take_away(segment: &mut [u8], buffers: &mut [u8], slot: usize, place: usize, side: u16)
     requires { ⌜ (length (now segment) ≡ segmentBytes) × (length (now buffers) ≡ buffersBytes) × (slot < fileRows) × (place < deskPlaces) × (nth (now segment) slot < entries) ⌝ }
     ensures segment { λ _. ⌜ now (segment .exit) ≡ cancelled (now (segment .entry)) slot place ⌝ }
@@ -27,7 +27,7 @@ fn take_away(segment: &mut [u8], buffers: &mut [u8], slot: usize, place: usize, 
     }
 }
 
-// Whether the request of place acc of file f waits; if it does, it is gone. The side is its accessor's. Its entry is sought once.
+// Removes the request of place acc of file f if it waits, and says whether it did. The side is its accessor's. Its entry is searched for once.
 pub fn remove(segment: &mut [u8], buffers: &mut [u8], f: usize, acc: usize, side: u16) -> bool
     requires { ⌜ (length (now segment) ≡ segmentBytes) × (length (now buffers) ≡ buffersBytes) × (f < files) × (acc < places) ⌝ }
     ensures waits { λ r. ⌜ r ≡ isWaiting (outstandingAt (now (segment .entry)) f acc side) ⌝ }

@@ -1,4 +1,4 @@
--- What the walks of the lists find out, put plainly: the lists, what their entries hold, and that a place has one request and one timer at most.
+-- What the walks of the lists find out, put plainly: the lists, what their entries hold, and that a place has at most one request and one timer.
 use Prim.Native.Nat.{ℕ, _+_, _*_, _/_, _≤_, _<_}
 use mathlib.Core.Path.{_≡_}
 use mathlib.Core.Bool.{true, cond}
@@ -13,7 +13,7 @@ use Rattle.ports.specs.Lists.{Chain}
 use Rattle.sound.specs.Rows.{fileWord, sideAt, zeroWords}
 use Rattle.sound.specs.Walks.{entryWord, placeIn, sizeIn, restZero, freeEntry}
 
--- what holds of each element
+-- P holds of each element
 unfoldable pub Each : (ℕ → Type 0) → List ℕ → Type 0
 Each P [] = Unit {0}
 Each P (x ∷ l) = P x × Each P l
@@ -52,7 +52,7 @@ pub record TimerEntry (s : List ℕ) (e : ℕ) : Type 0 where
   pub middle : zeroWords s (dataAt e + 1) 6 ≡ true
   pub rest : entryWord s e 8 ≡ 0
 
--- the seconds of the timers, smallest first, from lo on
+-- the seconds of the timers are in order, smallest first, the first at least lo
 unfoldable pub InOrder : List ℕ → ℕ → List ℕ → Type 0
 InOrder s lo [] = Unit {0}
 InOrder s lo (e ∷ l) = (lo ≤ entryWord s e 7) × InOrder s (entryWord s e 7) l
@@ -61,7 +61,7 @@ InOrder s lo (e ∷ l) = (lo ≤ entryWord s e 7) × InOrder s (entryWord s e 7)
 unfoldable pub named : List ℕ → ℕ → List ℕ → ℕ
 named s i l = count i (map (placeIn s) l)
 
--- of place i: how many requests wait in its file's queues, and how many are completed
+-- how many requests of place i wait in its file's queues; `completedAt`: how many are completed
 unfoldable pub waitingAt : List ℕ → List (List ℕ) → ℕ → ℕ
 waitingAt s ls i = named s i (getD ls (readQueue (i / places)) []) + named s i (getD ls (writeQueue (i / places)) [])
 
@@ -81,7 +81,7 @@ pub record Survey (s bufs : List ℕ) (ls : List (List ℕ)) : Type 0 where
   pub ports : (i : ℕ) → i < files * places → Each (PortEntry s bufs i) (getD ls (replyPort i) [])
   pub timers : Each (TimerEntry s) (getD ls timerList [])
   pub order : InOrder s 1 (getD ls timerList [])
-  -- a place has one request at most, and a timer only where one waits, one at most
+  -- a place has at most one request, and at most one timer, only if its request waits
   pub single : (i : ℕ) → i < files * places → waitingAt s ls i + completedAt ls i ≤ 1
   pub timed : (i : ℕ) → i < files * places → timersAt s ls i ≤ waitingAt s ls i
 

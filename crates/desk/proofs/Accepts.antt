@@ -43,7 +43,7 @@ module _ (fr : List ℕ) (e : Event) (q : Ask) (f : ℕ) (said : frameOf fr ≡ 
       reply-is : respond d (event fr) .reply ≡ ask (fileOf d f) q .reply
       reply-is = ap (λ (r : Responded). r .reply) (respond-is d s (event fr) f q asked-is file-low)
 
-      -- answered with nothing behind
+      -- a call answered without data
       pub acted : (memory : List ℕ) (m′ : Memories) (a : Answer) → Built′ (ask (fileOf d f) q) → Done f d s (ask (fileOf d f) q) m m′ a
           → Acted d s (event fr) m memory m′ memory a 0
       acted memory m′ a B D = record {

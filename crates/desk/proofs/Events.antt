@@ -1,4 +1,4 @@
--- Each event that no desk refuses: it may be done, and what it comes to is the rules' answer.
+-- Each event that no desk refuses: it may be done, and its outcome is the rules' answer.
 use Prim.Native.Nat.{ℕ, _<_}
 use mathlib.Core.Path.{_≡_, refl, ap}
 use mathlib.Core.List.{List, []}
@@ -17,7 +17,7 @@ use Rattle.rules.specs.Reply.{answering}
 use Rattle.rules.specs.Frames.{frameOf}
 use Rattle.rules.specs.Calls.{ask}
 use Rattle.rules.specs.Calls as calls
-use Rattle.rules.specs.Counts as counting
+use Rattle.rules.specs.FileCounts as counting
 use Rattle.rules.specs.Desk.{Desk, event, asked, frameAsks, time, fileOf, deskTime, answered, respond}
 use Rattle.rules.specs.Allocation.{Alloc, allocTime}
 use Rattle.memory.specs.Memories.{Memories, memories}
@@ -25,7 +25,6 @@ use Rattle.memory.specs.Stands.{Stands, buffersAt}
 use Rattle.memory.specs.Fine.{StandsFor}
 use Rattle.midst.specs.Outcome.{refusalOf, Done, Gave}
 use Rattle.midst.specs.Outcome as outcome
-use Rattle.midst.specs.Accepted.{Accepted}
 use Rattle.midst.proofs.Accepted.{accepted-counts}
 use Rattle.midst.proofs.StandsBehind.{time-stays}
 use Rattle.midst.specs.FileStands.{FileStands}

@@ -12,13 +12,13 @@ use Rattle.kinds.specs.declared.Event.{Event}
 use Rattle.kinds.specs.declared.Event.the-variants.{Build, Open, Read, Write, Control, Collect, Close, Time, Counts}
 use Rattle.kinds.specs.declared.Frame.{Frame}
 use Rattle.kinds.specs.declared.Frame.the-variants as frame
-use Rattle.rules.specs.Count.{countBytes}
+use Rattle.rules.specs.TransferCounts.{countBytes}
 use Rattle.rules.specs.Frames.{controlFrame, sized, frameOf}
 use Rattle.rules.proofs.Split.{bothc}
 use Rattle.desk.specs.Refusals.{operationOf}
 
 module _ (fr : List ℕ) where
-  -- of what the frame says, where that is an event
+  -- the frame begins with the operation of the event that it says
   Begins : Frame → Type 0
   Begins (frame.Event e) = getD fr 0 0 ≡ operationOf e
   Begins (frame.Code f p) = Unit {0}
@@ -72,7 +72,7 @@ operation-some (Close f p) = omega arith
 operation-some (Time e) = omega arith
 operation-some (Counts f) = omega arith
 
--- so it is not empty
+-- the frame of an event is not empty
 pub first-there : (fr : List ℕ) (e : Event) → frameOf fr ≡ frame.Event e → 1 ≤ length fr
 first-there [] e said = let h : 0 ≡ operationOf e = first-byte [] e said in absurd (omega (arith, operation-some e))
 first-there (x ∷ l) e said = omega arith

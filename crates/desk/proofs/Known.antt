@@ -1,4 +1,4 @@
--- Of each accepted event: the file is built behind it.
+-- The file is built after each accepted event.
 use Prim.Native.Nat.{ℕ, _<_}
 use mathlib.Core.Path.{_≡_, refl, sym, ap, _∙_, subst}
 use mathlib.Core.List.{List, []}
@@ -8,12 +8,12 @@ use Rattle.kinds.specs.declared.Answer.{Answer}
 use Rattle.kinds.specs.declared.Control.{Control}
 use Rattle.rules.specs.Limits.{files}
 use Rattle.rules.specs.State.{Hap, Built, built}
-use Rattle.rules.specs.Count.{countBytes}
+use Rattle.rules.specs.TransferCounts.{countBytes}
 use Rattle.rules.specs.Reply.{Out, hushed, leaves, answering}
 use Rattle.rules.specs.Transfer.{collect}
 use Rattle.rules.specs.Calls.{ask}
 use Rattle.rules.specs.Calls as calls
-use Rattle.rules.specs.Counts as counting
+use Rattle.rules.specs.FileCounts as counting
 use Rattle.rules.specs.Desk.{Desk, on, fileOf, withFile, answered}
 use Rattle.rules.specs.Allocation.{Alloc, allotAll}
 use Rattle.laws.specs.Runs.{OnFile, Proper}

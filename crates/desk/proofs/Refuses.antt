@@ -36,7 +36,7 @@ use Rattle.desk.specs.Refusals.{operationOf, Twice, Refusal}
 use Rattle.desk.proofs.First.{first-byte}
 use Rattle.desk.proofs.Tells.{tells-none}
 
--- operation and status, told
+-- operation and status, as the answer's bytes
 twice : (op n : ℕ) (r : Reply) (memory memory′ : List ℕ) (k : ℕ) → r ≡ answers (Status op n) [] → Twice op n memory memory′ k → Told r memory memory′ k
 unfolding answerBytes
 twice op n r memory memory′ k e T = subst (λ (z : Reply). Told z memory memory′ k) (sym e) (tells-none (Status op n) memory memory′ k (T .bytes) (T .size))
@@ -75,7 +75,7 @@ module _ {ms : Memories} {d : Desk} {s : Alloc} (S : StandsFor ms d s) (fr memor
   event-refused (Time t) m said e z T = absurd (z (unfold answered refusalOf replyStatus statusOf in e))
   event-refused (Counts f) m said e z T = on-refused f calls.counts 9 m (ap (λ (y : Frame). frameAsks y (drop writeHead fr)) said) (λ _. refl) e z T
 
-  -- its first byte is repeated
+  -- the refusal of an event repeats its first byte
   pub first-refused : (e : Event) (n : ℕ) → frameOf fr ≡ frame.Event e → n ≡ refusalOf (answered d (frameAsks (frame.Event e) (drop writeHead fr)) .reply) → (n ≡ 0 → ⊥)
       → Twice (getD fr 0 0) n memory memory′ k → Responds d s (event fr) ms memory ms memory′ k
   first-refused e n said h z T = event-refused e n said h z (subst (λ (op : ℕ). Twice op n memory memory′ k) (first-byte fr e said) T)
@@ -88,7 +88,7 @@ module _ {ms : Memories} {d : Desk} {s : Alloc} (S : StandsFor ms d s) (fr memor
     told = twice 0 30 _ memory memory′ k (ap (λ a. answered d a .reply) is) T;
   }
 
-  -- a frame that is none: in the `else` of `let Frame::Event(..) = said else { .. }` the tag is another variant's
+  -- a frame that is no event: in the `else` of `let Frame::Event(..) = said else { .. }` the tag is another variant's
   pub frame-refused : (y : Frame) → frameOf fr ≡ y → OneOf (1 ∷ 2 ∷ []) (tagOf D.the-type y) → Refusal (ms .segment) y memory memory′ k
       → Responds d s (event fr) ms memory ms memory′ k
   unfolding Refusal frameAsks asked refusal
@@ -105,6 +105,6 @@ pub not-refused : (fr : List ℕ) (e : Event) (n : ℕ) (d : Desk) → frameOf f
 unfolding respond asked
 not-refused fr e n d said h z = ap (λ (y : Frame). refusalOf (answered d (frameAsks y (drop writeHead fr)) .reply)) said ∙ sym h ∙ z
 
--- and whether the event then purges is what judging found
+-- whether an event that is not refused purges is what judging found
 pub purge-found : (xs : List ℕ) (e : Event) (n : ℕ) {t : Bool} → t ≡ (purgesBy xs e && eqb n 0) → n ≡ 0 → t ≡ purgesBy xs e
 purge-found xs e n k z = k ∙ ap (λ (m : ℕ). purgesBy xs e && eqb m 0) z ∙ and-true (purgesBy xs e)

@@ -16,6 +16,7 @@ use Rattle.rules.specs.Calls.{Ask, ask}
 use Rattle.rules.specs.Calls as calls
 use Rattle.rules.specs.Desk.{Desk, on, time, fileOf, withFile, deskTime, answered}
 use Rattle.rules.specs.Allocation.{Alloc, allotAll, allocTime, allocAsked}
+use Rattle.rules.specs.Memories.{shareAt}
 use Rattle.laws.specs.Runs.{Proper, OnFile}
 use Rattle.laws.specs.Queues.{Agree}
 use Rattle.laws.specs.Entries.{Agreed}
@@ -24,7 +25,7 @@ use Rattle.laws.proofs.Proper.{ProperAsked}
 use Rattle.laws.proofs.Allocated.{happens-here}
 use Rattle.laws.proofs.Allocated as laws
 use Rattle.memory.specs.Memories.{Memories, memories}
-use Rattle.memory.specs.Stands.{Stands, shareAt, buffersAt}
+use Rattle.memory.specs.Stands.{Stands, buffersAt}
 use Rattle.memory.specs.Covers.{Covers, Alike}
 use Rattle.memory.specs.Fine.{Fine, StandsFor}
 use Rattle.memory.proofs.Once.{agreed-covers}

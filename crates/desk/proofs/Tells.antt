@@ -38,7 +38,7 @@ tells a bytes memory memory₁ memory′ k n l h m s u = record {
   size = ap₂ {C = ℕ} _+_ s u ∙ sym (length-append (answerBytes a) bytes);
 }
 
--- an answer with nothing behind it
+-- an answer without data
 pub tells-none : (a : Answer) (memory memory′ : List ℕ) (k : ℕ) → memory′ ≡ sets memory 0 (answerBytes a) → k ≡ length (answerBytes a) → Told (answers a []) memory memory′ k
 unfolding replyBytes
 tells-none a memory memory′ k m s = record {

@@ -1,4 +1,4 @@
--- A frame that is a write has its data behind its first five bytes.
+-- A frame that is a write has its data after its first five bytes.
 use Prim.Native.Nat.{ℕ, _+_, _-_, _≤_}
 use mathlib.Core.Path.{_≡_, subst}
 use mathlib.Core.List.{List}
@@ -12,7 +12,7 @@ use Rattle.words.specs.Word.{wordAt}
 use Rattle.kinds.specs.declared.Event.the-variants.{Build, Open, Read, Write, Control, Collect, Close, Time, Counts}
 use Rattle.kinds.specs.declared.Frame.{Frame}
 use Rattle.kinds.specs.declared.Frame.the-variants.{Event, Code, Shape}
-use Rattle.rules.specs.Count.{countBytes}
+use Rattle.rules.specs.TransferCounts.{countBytes}
 use Rattle.rules.specs.Frames.{controlFrame, sized, frameOf}
 use Rattle.rules.proofs.Split.{bothc}
 
@@ -63,6 +63,6 @@ module _ (fr : List ℕ) where
   unfolding Long
   write-long f p n e = subst Long e frame-long
 
-  -- all behind the first five bytes
+  -- all bytes after the first five
   pub rest-is : take (length fr - writeHead) (drop writeHead fr) ≡ drop writeHead fr
   rest-is = take-all (length fr - writeHead) (drop writeHead fr) (omega (arith, length-drop writeHead fr))

@@ -15,7 +15,7 @@ use Rattle.promises.specs.Promise.{Standing, Seen, replyOf}
 use Rattle.judges.specs.Refused.{Refuses}
 use Rattle.memory.specs.Memories.{Memories}
 
--- the operation of an event, with which its frame begins, and its answer
+-- the operation of an event, with which its frame and its answer begin
 unfoldable pub operationOf : Event → ℕ
 operationOf (Build f r b n x) = 1
 operationOf (Open f a s m) = 2
@@ -27,17 +27,17 @@ operationOf (Close f p) = 7
 operationOf (Time e) = 8
 operationOf (Counts f) = 9
 
--- two bytes are written
+-- the two bytes of a refusal are written
 pub record Twice (operation number : ℕ) (memory memory′ : List ℕ) (n : ℕ) : Type 0 where
   pub bytes : memory′ ≡ sets memory 0 (operation ∷ number ∷ [])
   pub size : n ≡ 2
 
--- what is answered to a frame that is no event: a code that is no control has its refusal, any other 30
+-- the answer to a frame that is no event: a code that is no control gets its refusal, any other frame 30
 unfoldable pub Refusal : List ℕ → Frame → List ℕ → List ℕ → ℕ → Type 0
 Refusal xs (frame.Event e) memory memory′ n = Twice 0 30 memory memory′ n
 Refusal xs (frame.Code f p) memory memory′ n = (number : ℕ) × Refuses xs (on f (control p none)) number × Twice 5 number memory memory′ n
 Refusal xs frame.Shape memory memory′ n = Twice 0 30 memory memory′ n
 
--- n is what a call is refused with, whatever the memories are seen as: 29 where they are no desk, 0 where the call is done
+-- n is the number a call is refused with, whatever the memories are seen as: 29 if they are no desk, 0 if the call is done
 abbrev pub RefusedWith : Memories → Call → ℕ → Type 0
 RefusedWith m c n = (v : Option Standing) → Seen m v → n ≡ refusalOf (replyOf v c)

@@ -1,4 +1,4 @@
-// An accepted event is done. What acts cannot refuse.
+// Does an accepted event. The acting functions cannot refuse.
 use closing::close;
 use controls::control;
 use file_counts::counts;
@@ -8,32 +8,23 @@ use kinds::limits::WRITE_HEAD;
 use opening::build;
 use opening::open;
 use timeouts::pass_time;
-use transfers::Given;
+use transfers::DataAnswer;
 use transfers::collect;
 use transfers::read;
 use transfers::write;
 ghost use mathlib.Core.Path.{_≡_};
-ghost use lib.ListN.{length};
-ghost use Rattle.kinds.specs.declared.Frame.the-variants as what;
-ghost use Rattle.rules.specs.Frames.{frameOf};
-ghost use Rattle.rules.specs.Limits.{answerRoom};
-ghost use Rattle.rules.specs.Desk.{Desk};
 ghost use Rattle.rules.specs.Desk as rules;
-ghost use Rattle.rules.specs.Allocation.{Alloc};
-ghost use Rattle.memory.specs.Memories.{memories};
-ghost use Rattle.memory.specs.Fine.{StandsFor};
-ghost use Rattle.midst.specs.Outcome.{Sound, refusalOf};
-ghost use Rattle.judges.specs.Refused.{purgesBy};
-ghost use Rattle.desk.specs.Acted.{Acting};
+ghost use Rattle.memory.specs.Memories.{lent, was, left};
+ghost use Rattle.desk.specs.Acted.{EventLent, Unrefused, Acting};
 
-// An answer with no data behind it.
-fn plain(answer: Answer) -> Given
+// An answer with no data after it.
+fn plain(answer: Answer) -> DataAnswer
     ensures { λ r. ⌜ r ≡ record { answer = answer; size = 0 } ⌝ }
 {
-    Given { answer, size: 0 }
+    DataAnswer { answer, size: 0 }
 }
 
-// The data of a record, if there are any, stand in the answer memory where the answer's own bytes will end.
+// Does an accepted event and gives its answer. A record's data, if there are any, go into the answer memory where the answer's own bytes will end.
 pub fn act(
     segment: &mut [u8],
     blocks: &mut [u8],
@@ -42,10 +33,10 @@ pub fn act(
     event: Event,
     frame: &[u8],
     purges: bool,
-) -> Given
-    requires { ⌜ Sound (memories (now segment) (now blocks) (now buffers)) × (length (now answer) ≡ answerRoom) × (frameOf (now «frame») ≡ what.Event «event») × (purges ≡ purgesBy (now segment) «event») ⌝ }
-    requires { ⌜ ((d : Desk) (s : Alloc) → StandsFor (memories (now segment) (now blocks) (now buffers)) d s → refusalOf (rules.respond d (rules.event (now «frame»)) .reply) ≡ 0) ⌝ }
-    ensures { λ r. ⌜ Acting (rules.event (now («frame» .entry))) (memories (now (segment .entry)) (now (blocks .entry)) (now (buffers .entry))) (now (answer .entry)) (memories (now (segment .exit)) (now (blocks .exit)) (now (buffers .exit))) (now (answer .exit)) (r .answer) (r .size) ⌝ }
+) -> DataAnswer
+    requires { ⌜ EventLent (lent segment blocks buffers) (now answer) (now «frame») «event» purges ⌝ }
+    requires { ⌜ Unrefused (lent segment blocks buffers) (now «frame») ⌝ }
+    ensures { λ r. ⌜ Acting (rules.event (now («frame» .entry))) (was segment blocks buffers) (now (answer .entry)) (left segment blocks buffers) (now (answer .exit)) (r .answer) (r .size) ⌝ }
 {
     match event {
         Event::Build {

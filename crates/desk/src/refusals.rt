@@ -1,4 +1,4 @@
-// A refused call is answered: operation and status, and nothing else is written.
+// Answers a refused call: writes operation and status, and nothing else.
 use frames::encode;
 use judges::control_codes::judge_code;
 use judges::judge;
@@ -10,14 +10,15 @@ ghost use mathlib.Core.List.{List};
 ghost use Prim.Native.Nat.{ℕ, _≤_};
 ghost use lib.ListN.{length};
 ghost use Rattle.rules.specs.Answers.{mostAnswer};
-ghost use Rattle.judges.specs.Refused.{Stood, Refuses};
+ghost use Rattle.judges.specs.Refused.{Refuses};
 ghost use Rattle.rules.specs.Desk.{frameAsks};
+ghost use Rattle.midst.specs.Outcome.{SoundSegment};
 ghost use Rattle.desk.specs.Refusals.{Twice, Refusal};
 
-// 30: "answer 00 1E"
+// The operation in the answer to a frame that is refused with 30: "answer 00 1E"
 const NO_EVENT: u8 = 0;
 
-// Operation and status: an event that is refused has its operation repeated.
+// Writes operation and status. A refused event has its operation repeated.
 pub fn status(operation: u8, number: u8, answer: &mut [u8]) -> usize
     requires { ⌜ mostAnswer ≤ length (now answer) ⌝ }
     ensures { λ r. ⌜ Twice operation number (now (answer .entry)) (now (answer .exit)) r ⌝ }
@@ -29,9 +30,9 @@ pub fn status(operation: u8, number: u8, answer: &mut [u8]) -> usize
     encode(refusal, answer)
 }
 
-// A frame that is no event is refused: a code that is no control when its turn has come, any other as no frame.
+// Refuses a frame that is not an event: a control event with an unknown code gets its lowest refusal, any other frame 30.
 pub fn refuse(segment: &[u8], said: Frame, answer: &mut [u8]) -> usize
-    requires { ⌜ Stood (now segment) × (mostAnswer ≤ length (now answer)) ⌝ }
+    requires { ⌜ SoundSegment (now segment) × (mostAnswer ≤ length (now answer)) ⌝ }
     ensures { λ r. ⌜ Refusal (now (segment .entry)) said (now (answer .entry)) (now (answer .exit)) r ⌝ }
 {
     let Frame::Code { file, acc } = said else {
@@ -40,9 +41,9 @@ pub fn refuse(segment: &[u8], said: Frame, answer: &mut [u8]) -> usize
     status(operations::CONTROL, judge_code(segment, file, acc), answer)
 }
 
-// The refusal number of what a frame says; 0 where it is not refused. Whatever the data of a write are.
+// The refusal number of what a frame says, 0 if it is not refused. The data of a write do not matter.
 pub fn number_of(segment: &[u8], said: Frame) -> u8
-    requires { ⌜ Stood (now segment) ⌝ }
+    requires { ⌜ SoundSegment (now segment) ⌝ }
     ensures { λ r. ⌜ ((t : List ℕ) → Refuses (now (segment .entry)) (frameAsks said t) r) ⌝ }
 {
     match said {

@@ -1,4 +1,4 @@
-// The event program: frames on standard input, a hexadecimal line each, and their answers on standard output, a line each.
+// The event program: reads frames from standard input, one hexadecimal line each, and prints their answers, one line each.
 use kinds::limits::BLOCKS_BYTES;
 use kinds::limits::BUFFERS_BYTES;
 use segment::layout::SEGMENT_BYTES;

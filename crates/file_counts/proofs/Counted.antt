@@ -7,15 +7,15 @@ use Rattle.kinds.specs.declared.Answer.the-variants.{Counted}
 use Rattle.rules.specs.Limits.{files}
 use Rattle.rules.specs.State.{Built, built, File}
 use Rattle.rules.specs.Reply.{answering}
-use Rattle.rules.specs.Counts.{dataCount, counts}
+use Rattle.rules.specs.FileCounts.{dataCount, counts}
 use Rattle.rules.specs.Requests.{writers, readers}
 use Rattle.rules.specs.Desk.{Desk, fileOf}
 use Rattle.rules.specs.Allocation.{Alloc}
+use Rattle.rules.specs.Memories.{shareAt}
 use Rattle.shares.proofs.Back.{back}
 use Rattle.laws.proofs.Room.{good-sized}
 use Rattle.segment.specs.Fields.{fileAt}
 use Rattle.records.specs.Cursor.{heldRecs}
-use Rattle.blocks.specs.Memory as memory
 use Rattle.memory.specs.Memories.{Memories}
 use Rattle.memory.specs.Fine.{StandsFor}
 use Rattle.midst.specs.declared.File as hand
@@ -23,12 +23,12 @@ use Rattle.midst.specs.File.{fileOfRow}
 use Rattle.midst.proofs.FileStands.{row-is, share-is, room}
 use Rattle.accessors.specs.Sides.{countSide}
 use Rattle.accessors.proofs.Counted.{count-writers, count-readers}
-use Rattle.accessors.proofs.Stood.{shown}
+use Rattle.accessors.proofs.Rows.{shown}
 
 -- the memories stand for a desk whose file f is b
 module _ {m : Memories} {d : Desk} {s : Alloc} (S : StandsFor m d s) (f : ℕ) (l : f < files) (b : Built) (e : fileOf d f ≡ built b) where
   -- the counts are its counts
-  pub counts-file : (x : hand.File) (ys : List ℕ) (n w r : ℕ) → x ≡ fileOfRow (fileAt (m .segment) f) → ys ≡ memory.shareAt f (m .blocks)
+  pub counts-file : (x : hand.File) (ys : List ℕ) (n w r : ℕ) → x ≡ fileOfRow (fileAt (m .segment) f) → ys ≡ shareAt f (m .blocks)
       → n ≡ dataCount (heldRecs (x .words) (x .ring) ys) → w ≡ countSide (m .segment) f 2 → r ≡ countSide (m .segment) f 1
       → counts b ≡ answering (Counted n (x .ring .held) w r) b
   unfolding counts

@@ -6,7 +6,7 @@ use mathlib.Core.List.{List}
 use native.Mathlib.Omega.{arith}
 use lib.Dec.{eqb}
 use borrow.Author.Tests.{eq-eqb, ne-eqb}
-use Rattle.rules.specs.Counts.{dataCount}
+use Rattle.rules.specs.FileCounts.{dataCount}
 use Rattle.shares.specs.Back.{recAt}
 use Rattle.ring.specs.declared.Ring.{Ring}
 use Rattle.ring.specs.Ring.{Ranged, advanced}

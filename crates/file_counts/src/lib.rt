@@ -6,7 +6,7 @@ ghost use Prim.Native.Nat.{ℕ, _≤_};
 ghost use lib.Dec.{eqb};
 ghost use Rattle.rules.specs.State.{Built, built};
 ghost use Rattle.rules.specs.Reply.{answering};
-ghost use Rattle.rules.specs.Counts as counting;
+ghost use Rattle.rules.specs.FileCounts as counting;
 ghost use Rattle.rules.specs.Desk.{Desk, fileOf};
 ghost use Rattle.rules.specs.Allocation.{Alloc};
 ghost use Rattle.ring.specs.Held.{Held};
@@ -22,7 +22,7 @@ use kinds::sides::WRITER;
 use records::cursor::first;
 use ring::Ring;
 
-// What a record of that type adds to the count.
+// What a record of that type adds to the count of data records.
 fn data_count(typ: u16) -> u16
     ensures { λ r. ⌜ (r ≡ cond (eqb typ 0) 1 0) × (r ≤ 1) ⌝ }
 {

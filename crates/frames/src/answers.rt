@@ -1,4 +1,4 @@
-// An answer to its bytes: operation and status, and what the answer holds behind them.
+// Turns an answer into its bytes: operation and status, then what the answer holds.
 ghost use mathlib.Core.Path.{_≡_};
 ghost use mathlib.Core.List.{_∷_, [], _++_};
 ghost use Prim.Native.Nat.{_≤_};
@@ -72,7 +72,7 @@ fn counted(records: u16, all: u16, writers: u16, readers: u16, out: &mut [u8]) -
     READERS_END
 }
 
-// The answer's bytes stand from the first byte of `out`; how many is the result.
+// Writes the answer's bytes, starting at the first byte of `out`, and gives their number.
 pub fn encode(answer: Answer, out: &mut [u8]) -> usize
     requires { ⌜ mostAnswer ≤ length (now out) ⌝ }
     ensures size { λ r. ⌜ r ≡ length (answerBytes answer) ⌝ }

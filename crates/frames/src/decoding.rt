@@ -1,4 +1,4 @@
-// A frame's bytes to what they say. Each kind of event has its frame's shape in a comment, as document 01 gives it.
+// Turns a frame's bytes into what they say. A comment shows the shape of each kind of frame, as document 01 gives it.
 ghost use mathlib.Core.Path.{_≡_};
 ghost use lib.ListN.{getD};
 ghost use Rattle.rules.specs.Frames.{controlFrame, frameOf};
@@ -9,7 +9,7 @@ use kinds::limits::WRITE_HEAD;
 use kinds::operations;
 use transfer_counts::count_bytes;
 
-// Where file and accessor place stand, in the frames that have them. A frame's length is where its last number ends.
+// The bytes of file and accessor place, in the frames that have them. A frame's length is where its last number ends.
 const FILE: usize = 1;
 
 const ACC: usize = 2;
@@ -106,7 +106,7 @@ fn write_frame(frame: &[u8]) -> Frame
     }
 }
 
-// The six codes.
+// The codes of the six controls.
 const TIMEOUT: u8 = 4;
 
 const VERIFY: u8 = 6;

@@ -1,4 +1,4 @@
-// The bytes of events and answers: a frame to what it says, an answer to its bytes.
+// The bytes of events and answers: decodes a frame, encodes an answer.
 mod answers;
 mod decoding;
 

@@ -1,4 +1,4 @@
--- The words of a fresh segment, one by one as the code tells them, and stored one behind another.
+-- The words of a fresh segment, one by one as the code gives them, and stored one after another.
 use Prim.Native.Nat.{ℕ, zero, suc, _+_, _-_, _*_, _/_, _%_, _≤_, _<_}
 use mathlib.Core.Path.{_≡_, refl, sym, ap, _∙_}
 use mathlib.Core.List.{List, [], _++_}
@@ -45,7 +45,7 @@ pub word-row : (k : ℕ) → readQueues ≤ k → listCount ≤ k → fileRows �
 unfolding freshWord
 word-row k l m h = rw (le-ltb k readQueues l, le-ltb k listCount m, le-ltb k fileRows h)
 
--- the bytes of the n words from word k on
+-- the bytes of the n words starting at word k
 unfoldable pub from : ℕ → ℕ → List ℕ
 from k zero = []
 from k (suc n) = word (freshWord k) ++ from (suc k) n

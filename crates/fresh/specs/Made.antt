@@ -13,7 +13,7 @@ pub record Made : Type 0 where
   pub status : ℕ
   pub memories : Memories
 
--- 29: the memories stay
+-- status 29, and memories that stay
 unfoldable pub unmade : Memories → Made
 unmade m = record { status = leastRefusal; memories = m }
 

@@ -4,7 +4,7 @@ ghost use Prim.Native.Nat.{_<_};
 ghost use lib.ListN.{length};
 ghost use Rattle.rules.specs.Limits.{entries};
 ghost use Rattle.segment.specs.Layout.{segmentWords, segmentBytes};
-ghost use Rattle.memory.specs.Memories.{memories};
+ghost use Rattle.memory.specs.Memories.{was, left};
 ghost use Rattle.memory.specs.Fresh.{freshLink, freshWord, freshSegment};
 ghost use Rattle.fresh.specs.Made.{made};
 use kinds::limits;
@@ -12,7 +12,7 @@ use kinds::refusals;
 use kinds::statuses;
 use segment::layout;
 
-// Where entry e's link leads.
+// The link of entry e in a fresh segment: the next entry, or NIL for the last.
 fn fresh_link(e: u16) -> u16
     requires { ⌜ e < entries ⌝ }
     ensures { λ r. ⌜ r ≡ freshLink e ⌝ }
@@ -44,7 +44,7 @@ fn fresh_word(k: usize) -> u16
     0
 }
 
-// The segment becomes a fresh one.
+// Makes the segment a fresh one.
 fn fresh_segment(s: &mut [u8])
     requires { ⌜ length (now s) ≡ segmentBytes ⌝ }
     ensures { λ _. ⌜ now (s .exit) ≡ freshSegment ⌝ }
@@ -57,9 +57,9 @@ fn fresh_segment(s: &mut [u8])
     }
 }
 
-// The memories become those of a fresh desk, and the status is 0; 29 where one has the wrong length, and nothing is written.
+// Makes the memories those of a fresh desk and gives status 0; gives 29 and writes nothing if a memory has the wrong length.
 pub fn fresh(segment: &mut [u8], blocks: &mut [u8], buffers: &mut [u8]) -> u8
-    ensures { λ r. ⌜ record { status = r; memories = memories (now (segment .exit)) (now (blocks .exit)) (now (buffers .exit)) } ≡ made (memories (now (segment .entry)) (now (blocks .entry)) (now (buffers .entry))) ⌝ }
+    ensures { λ r. ⌜ record { status = r; memories = left segment blocks buffers } ≡ made (was segment blocks buffers) ⌝ }
 {
     if segment.len() != layout::SEGMENT_BYTES {
         return refusals::UNSOUND;

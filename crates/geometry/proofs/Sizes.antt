@@ -64,6 +64,6 @@ in-range-is r b n x e =
     let s = and-both R B (q .0) in
     (within-is 1 mostWords r (s .0), within-is 1 mostFactor b (s .1), within-is 1 mostRecords n (q .1), within-is 1 mostExtents x (p .1))
 
--- and that they fit the memories
+-- numbers in their ranges fit the memories
 pub in-range-fits : (r b n x : ℕ) → inRange r b n x ≡ true → (r ≤ roomWords) × (b ≤ mostFactor)
 in-range-fits r b n x e = let k = in-range-is r b n x e in (le-trans (k .0 .1) words-fit, k .1 .1)

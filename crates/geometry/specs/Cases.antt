@@ -4,7 +4,7 @@ use mathlib.Core.Bool.{Bool, true, false}
 use mathlib.Core.List.{List, [], _∷_}
 use mathlib.Core.Path.{_≡_, refl}
 use Rattle.rules.specs.Geometry.{dataBlocks, capacity, blockSize, fitsShare}
-use Rattle.rules.specs.Count.{readable}
+use Rattle.rules.specs.TransferCounts.{readable}
 use Rattle.rules.specs.Desk.{program}
 use Rattle.rules.proofs.All.{All}
 use Rattle.rules.proofs.Script.{lines, Plays}
@@ -26,12 +26,12 @@ said (c ∷ cs) = c .says ∷ said cs
 unfoldable pub capacityOf : ℕ → ℕ → ℕ → ℕ
 capacityOf n b x = capacity b (dataBlocks n b x)
 
--- 1 for a number or a file that is taken, 0 for one that is refused
+-- 1 for a number or a file that is accepted, 0 for one that is refused
 unfoldable pub taken : Bool → ℕ
 taken true = 1
 taken false = 0
 
--- −n, as a count stands in its frame
+-- the count −n as it is in its frame
 unfoldable pub minus : ℕ → ℕ
 minus n = 65536 - n
 
@@ -50,12 +50,12 @@ cases =
     ∷ record { got = taken (readable 130) ∷ taken (readable (minus 260)) ∷ []; says = 1 ∷ 1 ∷ [] }
     -- "131, −261 and −32768 refused 35."
     ∷ record { got = taken (readable 131) ∷ taken (readable (minus 261)) ∷ taken (readable (minus 32768)) ∷ []; says = 0 ∷ 0 ∷ 0 ∷ [] }
-    -- and the same three as the event program answers them: built with 15, refused 38
+    -- the event program's answers to the builds: refused 38 for N 14, built with 15 data blocks for N 13
     ∷ record {
       got = program (lines ("0100008001000E01" ∷ "0100008001000D01" ∷ []));
       says = lines ("0126" ∷ "0100000F" ∷ []);
     }
-    -- counts 131, −261, −32768: 35; 130 waits, and is aborted; −260 ends with status 2
+    -- the event program's answers to reads: 35 for counts 131, −261, −32768; 130 waits, and is aborted; −260 ends with status 2
     ∷ record {
       got = program (lines ("0100000401000101" ∷ "0200000100" ∷ "0300000083" ∷ "030000FEFB" ∷ "0300008000" ∷ "0300000082" ∷ "0500002B0000" ∷ "030000FEFC" ∷ []));
       says = lines ("01000003" ∷ "0200000000" ∷ "0323" ∷ "0323" ∷ "0323" ∷ "0301" ∷ "0500" ∷ "0302" ∷ []);

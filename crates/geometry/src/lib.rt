@@ -31,7 +31,7 @@ pub fn in_range(words: u16, factor: u8, records: u16, extents: u8) -> bool
         && within(1, MOST_EXTENTS, extents as u16)
 }
 
-// How many times m holds n, rounded up.
+// n divided by m, rounded up.
 fn divided_up(n: u16, m: u16) -> u16
     requires { ⌜ (1 ≤ n) × (1 ≤ m) × (n + m ≤ 65536) ⌝ }
     ensures { λ r. ⌜ r ≡ dividedUp n m ⌝ }
@@ -40,7 +40,7 @@ fn divided_up(n: u16, m: u16) -> u16
     (n + (m - 1)) / m
 }
 
-// The data blocks of a file of so many records, B to a block, in so many extents.
+// D, the data blocks of a file of N records, B to a block, in X extents.
 pub fn data_blocks(records: u16, factor: u8, extents: u8) -> u16
     requires { ⌜ (1 ≤ records) × (records ≤ mostRecords) ⌝ }
     requires { ⌜ (1 ≤ factor) × (factor ≤ mostFactor) ⌝ }
@@ -53,7 +53,7 @@ pub fn data_blocks(records: u16, factor: u8, extents: u8) -> u16
     divided_up(blocks + 1, x) * x - 1
 }
 
-// The words of a block.
+// The number of words in a block.
 pub fn block_size(words: u16, factor: u8) -> u16
     requires { ⌜ (words ≤ roomWords) × (factor ≤ mostFactor) ⌝ }
     ensures { λ r. ⌜ r ≡ blockSize words factor ⌝ }
@@ -62,14 +62,14 @@ pub fn block_size(words: u16, factor: u8) -> u16
     (words + RECORD_HEAD_WORDS) * factor as u16 + BLOCK_HEAD_WORDS
 }
 
-// The records that fit in so many blocks, counted at 32 bits: whatever the share holds, the product does not wrap.
+// The number of records that fit in the blocks, computed in 32 bits: the product does not wrap, whatever the number of blocks.
 pub fn capacity(factor: u8, blocks: u16) -> u32
     ensures { λ r. ⌜ r ≡ capacity factor blocks ⌝ }
 {
     factor as u32 * blocks as u32
 }
 
-// Whether so many blocks, any number, fit into so many words.
+// Whether the blocks, of any number, fit into `most` words.
 pub fn fits_within(words: u16, factor: u8, blocks: u16, most: u32) -> bool
     requires { ⌜ (words ≤ roomWords) × (factor ≤ mostFactor) ⌝ }
     ensures { λ r. ⌜ r ≡ leb (blocks * blockSize words factor) most ⌝ }
@@ -78,7 +78,7 @@ pub fn fits_within(words: u16, factor: u8, blocks: u16, most: u32) -> bool
     blocks as u32 * size as u32 <= most
 }
 
-// Whether that is within what a file is judged by.
+// Whether the blocks fit into MOST_SHARE words, the limit used in judging.
 pub fn fits_share(words: u16, factor: u8, blocks: u16) -> bool
     requires { ⌜ (words ≤ roomWords) × (factor ≤ mostFactor) ⌝ }
     ensures { λ r. ⌜ r ≡ fitsShare words factor blocks ⌝ }

@@ -1,4 +1,4 @@
--- What is printed: a line behind what the output holds.
+-- What is printed: a line after what the output holds.
 use Prim.Native.Nat.{ℕ, _+_, _*_, _-_, _≤_}
 use mathlib.Core.Path.{_≡_}
 use mathlib.Core.List.{List, [], _∷_, _++_}

@@ -1,4 +1,4 @@
-// Events, "a hexadecimal frame a line": upper-case digits, two a byte, most significant first.
+// Events, "a hexadecimal frame a line": upper-case digits, two to a byte, the most significant first.
 ghost use mathlib.Core.Path.{_≡_};
 ghost use mathlib.Core.Bool.{true};
 ghost use Prim.Native.Nat.{_+_, _*_, _/_, _≤_, _<_};
@@ -6,16 +6,16 @@ ghost use lib.ListN.{length};
 ghost use lib.Seq.{sets};
 ghost use Rattle.rules.specs.Line.{digitOf, valueOf, digitsOf, allDigits, bytesOf, isLine, frameIn, lineOf};
 
-// A line ends with LF.
+// The byte that ends a line.
 pub const LF: u8 = 10;
 
-// A digit's number is below the base; `value` gives the base where the byte is no digit.
+// The base. The number of a digit is below it; `value` gives the base itself for a byte that is not a digit.
 const BASE: u8 = 16;
 
 // What the digit A stands for.
 const TEN: u8 = 10;
 
-// The number that a digit stands for.
+// The number that a digit stands for, or the base if the byte is not a digit.
 fn value(b: u8) -> u8
     ensures { λ r. ⌜ (r ≡ valueOf b) × (r ≤ 16) ⌝ }
 {
@@ -51,7 +51,7 @@ fn all_digits(s: &[u8]) -> bool
     true
 }
 
-// Whether s, without the LF that ends it, is a line of at most so many bytes.
+// Whether s, a line without its LF, says a frame of at most `most` bytes.
 pub fn is_line(s: &[u8], most: usize) -> bool
     ensures { λ r. ⌜ r ≡ isLine most (now (s .entry)) ⌝ }
 {
@@ -65,7 +65,7 @@ pub fn is_line(s: &[u8], most: usize) -> bool
     all_digits(s)
 }
 
-// The byte of two digits.
+// The byte that two digits say.
 fn pair(a: u8, b: u8) -> u8
     requires { ⌜ (valueOf a < 16) × (valueOf b < 16) ⌝ }
     ensures { λ r. ⌜ r ≡ valueOf a * 16 + valueOf b ⌝ }
@@ -75,7 +75,7 @@ fn pair(a: u8, b: u8) -> u8
     high * BASE + low
 }
 
-// The bytes that s, all digits, says stand from the first byte of `out`; an odd digit at the end is left.
+// Writes the bytes that s, all digits, says, starting at the first byte of `out`. An odd digit at the end is left out.
 fn fill(s: &[u8], out: &mut [u8])
     requires { ⌜ allDigits (now s) ≡ true ⌝ }
     requires { ⌜ length (now s) / 2 ≤ length (now out) ⌝ }
@@ -91,7 +91,7 @@ fn fill(s: &[u8], out: &mut [u8])
     }
 }
 
-// The frame that a line of at most so many bytes says stands from the first byte of `out`; its length is the result. Any other line is an empty frame.
+// Writes the frame that the line s says, if it has at most `most` bytes, starting at the first byte of `out`, and gives its length. Any other line is an empty frame.
 pub fn decode(s: &[u8], most: usize, out: &mut [u8]) -> usize
     requires { ⌜ most ≤ length (now out) ⌝ }
     ensures size { λ r. ⌜ r ≡ length (frameIn most (now (s .entry))) ⌝ }
@@ -106,7 +106,7 @@ pub fn decode(s: &[u8], most: usize, out: &mut [u8]) -> usize
     }
 }
 
-// The digits of the frame s stand from the first byte of `out`; how many is the result.
+// Writes the digits of the frame s, starting at the first byte of `out`, and gives their number.
 pub fn encode(s: &[u8], out: &mut [u8]) -> usize
     requires { ⌜ 2 * length (now s) ≤ length (now out) ⌝ }
     ensures size { λ r. ⌜ r ≡ 2 * length (now (s .entry)) ⌝ }
@@ -122,7 +122,7 @@ pub fn encode(s: &[u8], out: &mut [u8]) -> usize
     2 * i
 }
 
-// The bytes as a line at `used` of the output; where that ends.
+// Writes the bytes as a line at `used` of the output, and gives the place after it.
 pub fn line(bytes: &[u8], out: &mut [u8], used: usize) -> usize
     requires { ⌜ used + (2 * length (now bytes) + 1) ≤ length (now out) ⌝ }
     ensures end { λ r. ⌜ r ≡ used + (2 * length (now (bytes .entry)) + 1) ⌝ }

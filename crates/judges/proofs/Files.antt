@@ -8,7 +8,7 @@ use Rattle.rules.specs.Limits.{files}
 use Rattle.rules.specs.State.{Built}
 use Rattle.rules.specs.Reply.{leaves, answering, unmade}
 use Rattle.rules.specs.Calls.{Ask, build, opens, counts, refusal, askBuilt, askUnbuilt}
-use Rattle.rules.specs.Counts as counting
+use Rattle.rules.specs.FileCounts as counting
 use Rattle.rules.specs.Desk.{on, answered}
 use Rattle.midst.specs.Outcome.{refusalOf, replyStatus, statusOf}
 use Rattle.midst.proofs.Judged.{refusal-back}
@@ -17,7 +17,7 @@ use Rattle.accessors.specs.Shown.{Shown}
 use Rattle.judges.specs.Verdicts.{openRefusal}
 use Rattle.refusing.specs.Verdicts.{buildRefusal}
 use Rattle.judges.specs.Refused.{Refuses}
-use Rattle.accessors.proofs.Stood.{shown}
+use Rattle.accessors.proofs.Rows.{shown}
 use Rattle.accessors.proofs.Names.{words-low, is-built, not-built}
 use Rattle.judges.proofs.Verdicts.{build-comes, open-comes}
 use Rattle.judges.proofs.Judged.{number-high, number-built, number-unbuilt}
@@ -61,12 +61,12 @@ module _ (xs : List ℕ) (f w : ℕ) (e : w ≡ wordsAt xs f) where
         said b (shown S f (words-low xs f w e h) b k)
         ∙ sym (number-built d f (opens access share multi) b (words-low xs f w e h) k ∙ open-comes access share multi b)
 
+-- above 7
+pub high-refused : (xs : List ℕ) (f : ℕ) (q : Ask) → files ≤ f → Refuses xs (on f q) 31
+high-refused xs f q h blocks buffers d s S = sym (number-high d f q h)
+
 -- build
-
-pub build-high : (xs : List ℕ) (f r b n x : ℕ) → files ≤ f → Refuses xs (on f (build r b n x)) 31
-build-high xs f r b n x h blocks buffers d s S = sym (number-high d f (build r b n x) h)
-
-pub build-said : (xs : List ℕ) (f w : ℕ) → w ≡ wordsAt xs f → f < files → w ≡ 0 → (r b n x m : ℕ) → m ≡ buildRefusal r b n x → Refuses xs (on f (build r b n x)) m
+pub build-said : (xs : List ℕ) (f : ℕ) {w : ℕ} → w ≡ wordsAt xs f → f < files → w ≡ 0 → (r b n x : ℕ) {m : ℕ} → m ≡ buildRefusal r b n x → Refuses xs (on f (build r b n x)) m
 unfolding askUnbuilt
-build-said xs f w e h z r b n x m k blocks buffers d s S =
+build-said xs f {w} e h z r b n x k blocks buffers d s S =
     k ∙ sym (number-unbuilt d f (build r b n x) h (not-built S f w e h z) ∙ build-comes r b n x)

@@ -52,7 +52,7 @@ pub number-high : (d : Desk) (f : ℕ) (q : Ask) → files ≤ f → refusalOf (
 unfolding answered
 number-high d f q h = rw (answered, le-ltb f files h) (refusal-back q 31 (omega arith))
 
--- what a call of an accessor comes to: g says it of an open one
+-- the outcome of a call of an accessor: g gives it for an open one
 module _ (q : Ask) (p : ℕ) (body : Acc → Built → Out) (g : ℕ → ℕ → Outstanding → ℕ)
     (is : (b : Built) → askBuilt b q ≡ onAcc q p (λ a. body a b) b) (un : askUnbuilt q ≡ unmade (refusal q 31))
     (number : (a : Acc) (b : Built) → endOf (a .req) < leastRefusal → refusalOf (body a b .reply) ≡ g (b .geo .words) (sideOf (some a)) (outstandingOf (a .req))) where

@@ -4,7 +4,7 @@ use mathlib.Core.List.{List}
 use Prim.Native.Nat.{ℕ}
 use lib.ListN.{length}
 use Rattle.segment.specs.Layout.{segmentBytes}
-use Rattle.judges.specs.Refused.{Stood}
+use Rattle.midst.specs.Outcome.{SoundSegment}
 
-pub stood-size : (xs : List ℕ) → Stood xs → length xs ≡ segmentBytes
-stood-size xs (blocks, buffers, (d, s, S)) = S .stands .segment .size
+pub sound-size : (xs : List ℕ) → SoundSegment xs → length xs ≡ segmentBytes
+sound-size xs (blocks, buffers, (d, s, S)) = S .stands .segment .size

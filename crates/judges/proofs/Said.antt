@@ -19,53 +19,53 @@ use Rattle.judges.proofs.Judged.{Ends, stands-ends, read-judged, write-
 
 -- the accessor x was found, and the rules judge by g
 module _ (q : Ask) (g : ℕ → ℕ → Outstanding → ℕ) (f p : ℕ) (rules : (d : Desk) → Ends d f → refusalOf (answered d (on f q) .reply) ≡ judged g (accessorOf d f p))
-    (xs : List ℕ) (x : Accessor) (found : x ≡ accessorAt xs f p) where
-  said : (n : ℕ) → n ≡ judged g x → Refuses xs (on f q) n
-  said n e blocks buffers d s S = e ∙ ap (judged g) (found ∙ accessor-is S f p) ∙ sym (rules d (stands-ends S f))
+    (xs : List ℕ) {x : Accessor} (found : x ≡ accessorAt xs f p) {n : ℕ} where
+  said : n ≡ judged g x → Refuses xs (on f q) n
+  said e blocks buffers d s S = e ∙ ap (judged g) (found ∙ accessor-is S f p) ∙ sym (rules d (stands-ends S f))
 
-  refused : (n : ℕ) → x ≡ Refused n → Refuses xs (on f q) n
+  refused : x ≡ Refused n → Refuses xs (on f q) n
   unfolding judged
-  refused n e = said n (sym (ap (judged g) e))
+  refused e = said (sym (ap (judged g) e))
 
-  open-said : (n words side : ℕ) (o : Outstanding) → x ≡ Open words side o → n ≡ g words side o → Refuses xs (on f q) n
+  open-said : {words side : ℕ} {o : Outstanding} → x ≡ Open words side o → n ≡ g words side o → Refuses xs (on f q) n
   unfolding judged
-  open-said n words side o e k = said n (k ∙ sym (ap (judged g) e))
+  open-said e k = said (k ∙ sym (ap (judged g) e))
 
-module _ (xs : List ℕ) (f p : ℕ) (x : Accessor) (found : x ≡ accessorAt xs f p) where
-  module _ (n : ℕ) (e : x ≡ Refused n) where
+module _ (xs : List ℕ) (f p : ℕ) {x : Accessor} (found : x ≡ accessorAt xs f p) {n : ℕ} where
+  module _ (e : x ≡ Refused n) where
     pub read-refused : (k : ℕ) → Refuses xs (on f (read p k)) n
-    read-refused k = refused _ _ f p (λ d z. read-judged d f z p k) xs x found n e
+    read-refused k = refused _ _ f p (λ d z. read-judged d f z p k) xs found e
 
     pub write-refused : (k : ℕ) (t : List ℕ) → Refuses xs (on f (write p k t)) n
-    write-refused k t = refused _ _ f p (λ d z. write-judged d f z p k t) xs x found n e
+    write-refused k t = refused _ _ f p (λ d z. write-judged d f z p k t) xs found e
 
     pub control-refused : (c : Control) → Refuses xs (on f (control p (some c))) n
-    control-refused c = refused _ _ f p (λ d z. control-judged d f z p c) xs x found n e
+    control-refused c = refused _ _ f p (λ d z. control-judged d f z p c) xs found e
 
     pub code-refused : Refuses xs (on f (control p none)) n
-    code-refused = refused _ _ f p (λ d z. code-judged d f z p) xs x found n e
+    code-refused = refused _ _ f p (λ d z. code-judged d f z p) xs found e
 
     pub collect-refused : Refuses xs (on f (collect p)) n
-    collect-refused = refused _ _ f p (λ d z. collect-judged d f z p) xs x found n e
+    collect-refused = refused _ _ f p (λ d z. collect-judged d f z p) xs found e
 
     pub close-refused : Refuses xs (on f (close p)) n
-    close-refused = refused _ _ f p (λ d z. close-judged d f z p) xs x found n e
+    close-refused = refused _ _ f p (λ d z. close-judged d f z p) xs found e
 
-  module _ (n words side : ℕ) (o : Outstanding) (e : x ≡ Open words side o) where
+  module _ {words side : ℕ} {o : Outstanding} (e : x ≡ Open words side o) where
     pub read-said : (k : ℕ) → n ≡ readRefusal k side o → Refuses xs (on f (read p k)) n
-    read-said k = open-said _ _ f p (λ d z. read-judged d f z p k) xs x found n words side o e
+    read-said k = open-said _ _ f p (λ d z. read-judged d f z p k) xs found e
 
     pub write-said : (k : ℕ) (t : List ℕ) → n ≡ writeRefusal k words side o → Refuses xs (on f (write p k t)) n
-    write-said k t = open-said _ _ f p (λ d z. write-judged d f z p k t) xs x found n words side o e
+    write-said k t = open-said _ _ f p (λ d z. write-judged d f z p k t) xs found e
 
     pub control-said : (c : Control) → n ≡ controlRefusal c side o → Refuses xs (on f (control p (some c))) n
-    control-said c = open-said _ _ f p (λ d z. control-judged d f z p c) xs x found n words side o e
+    control-said c = open-said _ _ f p (λ d z. control-judged d f z p c) xs found e
 
     pub code-said : n ≡ codeRefusal o → Refuses xs (on f (control p none)) n
-    code-said = open-said _ _ f p (λ d z. code-judged d f z p) xs x found n words side o e
+    code-said = open-said _ _ f p (λ d z. code-judged d f z p) xs found e
 
     pub collect-said : n ≡ nothingRefusal o → Refuses xs (on f (collect p)) n
-    collect-said = open-said _ _ f p (λ d z. collect-judged d f z p) xs x found n words side o e
+    collect-said = open-said _ _ f p (λ d z. collect-judged d f z p) xs found e
 
     pub close-said : n ≡ closeRefusal o → Refuses xs (on f (close p)) n
-    close-said = open-said _ _ f p (λ d z. close-judged d f z p) xs x found n words side o e
+    close-said = open-said _ _ f p (λ d z. close-judged d f z p) xs found e

@@ -106,7 +106,7 @@ module _ (xs : List ℕ) (f : ℕ) (b : Built) (S : Shown xs f b) where
   used-kept access e =
       rw (purged, ruled access false e) (ap (λ (r : List ℕ). getD r 4 0 + getD r 5 0) (S .file))
 
-  -- and the room
+  -- blocking factor times blocks is the rules' capacity
   pub room-is : fileAt xs f .factor * fileAt xs f .blocks ≡ capacityOf b
   unfolding capacityOf capacity fileAt fileRowOf fileWords
   room-is = ap (λ (r : List ℕ). getD r 1 0 * getD r 2 0) (S .file)

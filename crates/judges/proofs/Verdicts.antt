@@ -1,4 +1,4 @@
--- What each call on a file comes to: refused with a number, or taken, and the number is 0.
+-- The outcome of each call on a file: refused with a number, or accepted, and the number is 0.
 use Prim.Native.Nat.{ℕ, _+_, _*_, _<_}
 use mathlib.Core.Path.{_≡_, refl}
 use mathlib.Core.Bool.{Bool, true, false, cond, _&&_}
@@ -11,7 +11,7 @@ use Rattle.kinds.specs.declared.Control.{Control}
 use Rattle.kinds.specs.declared.Control.the-variants.{Timeout, Verify, Abort, Extended, Typed, Keep}
 use Rattle.rules.specs.Limits.{places}
 use Rattle.rules.specs.Geometry.{dataBlocks, inRange, fitsShare}
-use Rattle.rules.specs.Count.{countBytes, readable}
+use Rattle.rules.specs.TransferCounts.{countBytes, readable}
 use Rattle.rules.specs.State.{Req, idle, reading, writing, readDone, writeDone, Acc, Built}
 use Rattle.rules.specs.Store.{fetch}
 use Rattle.rules.specs.Requests.{opened, writers, readers, fits, isIdle}
@@ -29,11 +29,11 @@ use Rattle.accessors.specs.Outstanding.{outstandingOf}
 use Rattle.judges.specs.Verdicts.{forbidden, openRefusal}
 use Rattle.refusing.specs.Verdicts.{free, whileFree, readRefusal, writeRefusal, switchRefusal, readerRefusal, nothingRefusal, controlRefusal, codeRefusal, closeRefusal, buildRefusal, modesInRange}
 
--- n is the refusal number of what a call comes to
+-- n is the refusal number of a call's outcome
 abbrev Comes : ℕ → Out → Type 0
 Comes n o = refusalOf (o .reply) ≡ n
 
--- a test chooses what a call comes to, and the number with it
+-- a test chooses a call's outcome, and the number with it
 tested : (P : ℕ → Out → Type 0) (t : Bool) {n m : ℕ} {x y : Out} → P n x → P m y → P (cond t n m) (elim t as (λ (b : Bool). Out) [ true ↦ x | false ↦ y ])
 tested P true h k = h
 tested P false h k = k

@@ -1,4 +1,4 @@
--- The refusal number of what is asked of a desk, as the segment shows it, 0 where it is not refused; and whether it purges then.
+-- The refusal number of a call, read from the segment (0 if the call is not refused), and whether the call then purges.
 use Prim.Native.Nat.{ℕ}
 use mathlib.Core.Path.{_≡_}
 use mathlib.Core.Bool.{Bool, false}
@@ -9,18 +9,14 @@ use Rattle.rules.specs.Desk.{Desk, Asked, answered}
 use Rattle.rules.specs.Allocation.{Alloc}
 use Rattle.memory.specs.Memories.{memories}
 use Rattle.memory.specs.Fine.{StandsFor}
-use Rattle.midst.specs.Outcome.{refusalOf, Sound}
+use Rattle.midst.specs.Outcome.{refusalOf}
 use Rattle.accessors.specs.Sides.{purgesAt}
-
--- the segment stands, with blocks and buffers, for a desk
-abbrev pub Stood : List ℕ → Type 0
-Stood xs = (blocks : List ℕ) × (buffers : List ℕ) × Sound (memories xs blocks buffers)
 
 -- n is the refusal number of q on every desk that the segment stands for
 abbrev pub Refuses : List ℕ → Asked → ℕ → Type 0
 Refuses xs q n = (blocks buffers : List ℕ) (d : Desk) (s : Alloc) → StandsFor (memories xs blocks buffers) d s → n ≡ refusalOf (answered d q .reply)
 
--- whether an event purges, if it is not refused: an open alone does
+-- whether an event purges, if it is not refused: only an open does
 unfoldable pub purgesBy : List ℕ → Event → Bool
 purgesBy xs (Build f r b n x) = false
 purgesBy xs (Open f access share multi) = purgesAt xs f access

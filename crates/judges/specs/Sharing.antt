@@ -5,7 +5,7 @@ use mathlib.Core.List.{List}
 use lib.Dec.{eqb}
 use Rattle.segment.specs.Fields.{placeAt}
 
--- an accessor with another share is open at place i; at one of the n places from place i on
+-- whether an accessor with another share is open at place i; `othersFrom`: at one of the n places starting at place i
 unfoldable pub differs : List ℕ → ℕ → ℕ → Bool
 differs s share i = cond (eqb (placeAt s i .side) 0) false (not (eqb (placeAt s i .share) share))
 

@@ -1,4 +1,4 @@
--- What a call of an accessor comes to, by the accessor that it names; and the refusal number of an open, by what is open in its file.
+-- The refusal number of a call of an accessor, given the accessor that it names; and of an open, given what is open in its file.
 use Prim.Native.Nat.{ℕ}
 use mathlib.Core.Bool.{Bool, cond, _||_}
 use lib.Dec.{ltb, leb, eqb}
@@ -11,12 +11,12 @@ use Rattle.accessors.specs.declared.Accessor.{Accessor}
 use Rattle.accessors.specs.declared.Accessor.the-variants.{Refused, Open}
 use Rattle.refusing.specs.Verdicts.{modesInRange}
 
--- a refusal, or what is said of an open accessor
+-- the number of a refused accessor, or what g says of an open one
 unfoldable pub judged : (ℕ → ℕ → Outstanding → ℕ) → Accessor → ℕ
 judged g (Refused n) = n
 judged g (Open words side request) = g words side request
 
--- multiaccess 3, another share, or a second accessor that the share forbids
+-- whether an open is forbidden: multiaccess 3, another share, or a second accessor that the share forbids
 unfoldable pub forbidden : ℕ → ℕ → ℕ → Built → Bool
 forbidden access share multi b = eqb multi 3 || ltb 0 (countAcc (otherShare (sharingOf share)) (b .accs)) || crowded (ltb 0 access) (sharingOf share) b
 

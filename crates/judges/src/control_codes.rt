@@ -1,4 +1,4 @@
-// Control: the six controls, and any other code.
+// Judges control: the six controls, and any other code.
 use accessors::Accessor;
 use accessors::accessor_of;
 use kinds::Control;
@@ -7,10 +7,11 @@ use refusing::control_refusal;
 ghost use mathlib.Core.Option.{none, some};
 ghost use Rattle.rules.specs.Calls as calls;
 ghost use Rattle.rules.specs.Desk.{on};
-ghost use Rattle.judges.specs.Refused.{Stood, Refuses};
+ghost use Rattle.midst.specs.Outcome.{SoundSegment};
+ghost use Rattle.judges.specs.Refused.{Refuses};
 
 pub fn judge_control(segment: &[u8], file: u8, acc: u8, control: Control) -> u8
-    requires { ⌜ Stood (now segment) ⌝ }
+    requires { ⌜ SoundSegment (now segment) ⌝ }
     ensures { λ r. ⌜ Refuses (now (segment .entry)) (on file (calls.control acc (some control))) r ⌝ }
 {
     let named = accessor_of(segment, file as usize, acc as usize);
@@ -24,9 +25,9 @@ pub fn judge_control(segment: &[u8], file: u8, acc: u8, control: Control) -> u8
     }
 }
 
-// A control event whose code is none of the six.
+// Judges a control event whose code is none of the six.
 pub fn judge_code(segment: &[u8], file: u8, acc: u8) -> u8
-    requires { ⌜ Stood (now segment) ⌝ }
+    requires { ⌜ SoundSegment (now segment) ⌝ }
     ensures { λ r. ⌜ Refuses (now (segment .entry)) (on file (calls.control acc none)) r ⌝ }
 {
     let named = accessor_of(segment, file as usize, acc as usize);

@@ -1,4 +1,4 @@
-// What can be refused is found out on the shared segment, before anything is changed: "the lowest that applies is given".
+// Judges events on the shared segment, before anything is changed. Of the refusals, "the lowest that applies is given".
 ghost use mathlib.Core.Path.{_≡_};
 ghost use mathlib.Core.Bool.{false, _&&_};
 ghost use mathlib.Core.List.{List};
@@ -6,7 +6,8 @@ ghost use Prim.Native.Nat.{ℕ};
 ghost use lib.Dec.{eqb};
 ghost use Rattle.kinds.specs.declared.Frame.the-variants as frame;
 ghost use Rattle.rules.specs.Desk.{frameAsks};
-ghost use Rattle.judges.specs.Refused.{Stood, Refuses, purgesBy};
+ghost use Rattle.midst.specs.Outcome.{SoundSegment};
+ghost use Rattle.judges.specs.Refused.{Refuses, purgesBy};
 use kinds::Event;
 use kinds::refusals;
 
@@ -15,13 +16,13 @@ pub mod on_accessors;
 pub mod on_files;
 mod sharing;
 
-// The refusal number of an event, 0 where it is not refused; and whether the event then purges, found here for what acts.
+// The refusal number of an event, 0 if it is not refused, and whether the event then purges, found here for the acting functions.
 pub struct Verdict {
     pub refusal: u8,
     pub purges: bool,
 }
 
-// It purges nothing.
+// The verdict with this refusal number that purges nothing.
 fn plain(refusal: u8) -> Verdict
     ensures { λ r. ⌜ r ≡ record { refusal = refusal; purges = false } ⌝ }
 {
@@ -31,9 +32,9 @@ fn plain(refusal: u8) -> Verdict
     }
 }
 
-// Whatever the data of a write are.
+// Judges an event. The data of a write do not matter.
 pub fn judge(segment: &[u8], event: Event) -> Verdict
-    requires { ⌜ Stood (now segment) ⌝ }
+    requires { ⌜ SoundSegment (now segment) ⌝ }
     ensures { λ r. ⌜ ((t : List ℕ) → Refuses (now (segment .entry)) (frameAsks (frame.Event event) t) (r .refusal)) ⌝ }
     ensures { λ r. ⌜ r .purges ≡ (purgesBy (now (segment .entry)) event && eqb (r .refusal) 0) ⌝ }
 {

@@ -1,4 +1,4 @@
-// Read, write, collect and close.
+// Judges read, write, collect and close.
 use accessors::Accessor;
 use accessors::accessor_of;
 use refusing::close_refusal;
@@ -9,10 +9,11 @@ ghost use mathlib.Core.List.{List};
 ghost use Prim.Native.Nat.{ℕ};
 ghost use Rattle.rules.specs.Calls as calls;
 ghost use Rattle.rules.specs.Desk.{on};
-ghost use Rattle.judges.specs.Refused.{Stood, Refuses};
+ghost use Rattle.midst.specs.Outcome.{SoundSegment};
+ghost use Rattle.judges.specs.Refused.{Refuses};
 
 pub fn judge_read(segment: &[u8], file: u8, acc: u8, count: u16) -> u8
-    requires { ⌜ Stood (now segment) ⌝ }
+    requires { ⌜ SoundSegment (now segment) ⌝ }
     ensures { λ r. ⌜ Refuses (now (segment .entry)) (on file (calls.read acc count)) r ⌝ }
 {
     let named = accessor_of(segment, file as usize, acc as usize);
@@ -26,9 +27,9 @@ pub fn judge_read(segment: &[u8], file: u8, acc: u8, count: u16) -> u8
     }
 }
 
-// Whatever the data are.
+// Judges a write. Its data do not matter.
 pub fn judge_write(segment: &[u8], file: u8, acc: u8, count: u16) -> u8
-    requires { ⌜ Stood (now segment) ⌝ }
+    requires { ⌜ SoundSegment (now segment) ⌝ }
     ensures { λ r. ⌜ ((t : List ℕ) → Refuses (now (segment .entry)) (on file (calls.write acc count t)) r) ⌝ }
 {
     let named = accessor_of(segment, file as usize, acc as usize);
@@ -43,7 +44,7 @@ pub fn judge_write(segment: &[u8], file: u8, acc: u8, count: u16) -> u8
 }
 
 pub fn judge_collect(segment: &[u8], file: u8, acc: u8) -> u8
-    requires { ⌜ Stood (now segment) ⌝ }
+    requires { ⌜ SoundSegment (now segment) ⌝ }
     ensures { λ r. ⌜ Refuses (now (segment .entry)) (on file (calls.collect acc)) r ⌝ }
 {
     let named = accessor_of(segment, file as usize, acc as usize);
@@ -58,7 +59,7 @@ pub fn judge_collect(segment: &[u8], file: u8, acc: u8) -> u8
 }
 
 pub fn judge_close(segment: &[u8], file: u8, acc: u8) -> u8
-    requires { ⌜ Stood (now segment) ⌝ }
+    requires { ⌜ SoundSegment (now segment) ⌝ }
     ensures { λ r. ⌜ Refuses (now (segment .entry)) (on file (calls.close acc)) r ⌝ }
 {
     let named = accessor_of(segment, file as usize, acc as usize);

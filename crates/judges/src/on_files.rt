@@ -1,4 +1,4 @@
-// Build, open and counts.
+// Judges build, open and counts.
 use crate::Verdict;
 use crate::plain;
 use crate::sharing::forbids;
@@ -25,7 +25,8 @@ ghost use Rattle.segment.specs.Layout.{segmentBytes};
 ghost use Rattle.accessors.specs.Shown.{Shown};
 ghost use Rattle.accessors.specs.Sides.{purgesAt};
 ghost use Rattle.judges.specs.Verdicts.{openRefusal};
-ghost use Rattle.judges.specs.Refused.{Stood, Refuses};
+ghost use Rattle.midst.specs.Outcome.{SoundSegment};
+ghost use Rattle.judges.specs.Refused.{Refuses};
 
 pub fn judge_build(
     segment: &[u8],
@@ -35,7 +36,7 @@ pub fn judge_build(
     records: u16,
     extents: u8,
 ) -> u8
-    requires { ⌜ Stood (now segment) ⌝ }
+    requires { ⌜ SoundSegment (now segment) ⌝ }
     ensures { λ r. ⌜ Refuses (now (segment .entry)) (on file (calls.build words factor records extents)) r ⌝ }
 {
     if FILES <= file as usize {
@@ -47,7 +48,7 @@ pub fn judge_build(
     build_refusal(words, factor, records, extents)
 }
 
-// Of a built file f. Its closed places are counted once, for 41 and for the purge.
+// Judges an open of file f, which is built. The closed places are counted once, for 41 and for the purge.
 fn open_refusal(segment: &[u8], f: usize, access: u8, share: u8, multi: u8) -> Verdict
     requires { ⌜ length (now segment) ≡ segmentBytes ⌝ }
     requires { ⌜ f < files ⌝ }
@@ -79,7 +80,7 @@ fn open_refusal(segment: &[u8], f: usize, access: u8, share: u8, multi: u8) -> V
 }
 
 pub fn judge_open(segment: &[u8], file: u8, access: u8, share: u8, multi: u8) -> Verdict
-    requires { ⌜ Stood (now segment) ⌝ }
+    requires { ⌜ SoundSegment (now segment) ⌝ }
     ensures { λ r. ⌜ Refuses (now (segment .entry)) (on file (calls.opens access share multi)) (r .refusal) ⌝ }
     ensures { λ r. ⌜ r .purges ≡ (purgesAt (now (segment .entry)) file access && eqb (r .refusal) 0) ⌝ }
 {
@@ -90,7 +91,7 @@ pub fn judge_open(segment: &[u8], file: u8, access: u8, share: u8, multi: u8) ->
 }
 
 pub fn judge_counts(segment: &[u8], file: u8) -> u8
-    requires { ⌜ Stood (now segment) ⌝ }
+    requires { ⌜ SoundSegment (now segment) ⌝ }
     ensures { λ r. ⌜ Refuses (now (segment .entry)) (on file calls.counts) r ⌝ }
 {
     if words_of(segment, file as usize) == 0 {

@@ -1,4 +1,4 @@
-// Who may be open together, and the room for an open record.
+// Tests of an open: who may be open together, and the room for an open record.
 use accessors::SINGLE;
 use accessors::sharing_of;
 use accessors::sides::count_side;
@@ -22,19 +22,19 @@ ghost use Rattle.accessors.specs.Sides.{countSide, purgesAt};
 ghost use Rattle.judges.specs.Verdicts.{forbidden};
 ghost use Rattle.accessors.specs.Shown.{Shown};
 
-// Share 2 is one reader and many writers, share 3 many of both.
+// Share 3: many readers and many writers. Share 2 is one reader and many writers.
 const MANY: u16 = 3;
 
-// Multiaccess 3 is always refused.
+// The multiaccess that is always refused.
 const NO_MULTI: u8 = 3;
 
 // The access that purges.
 const PURGING: u8 = 1;
 
-// As many closed places as a file has.
+// The number of closed places of a file that nobody has open.
 const ALL_PLACES: u16 = PLACES as u16;
 
-// The open record, and the close record that a place is kept for.
+// The records that a new writer needs room for: its open record, and the close record that a place is kept for.
 const WRITERS_RECORDS: u32 = 2;
 
 // Whether an accessor with another share is open at place i.
@@ -50,7 +50,7 @@ fn differs(segment: &[u8], i: usize, share: u16) -> bool
     row.share != share
 }
 
-// At one of the eight places of file f.
+// Whether an accessor with another share is open at one of the eight places of file f.
 fn others(segment: &[u8], f: usize, share: u16) -> bool
     requires { ⌜ length (now segment) ≡ segmentBytes ⌝ }
     requires { ⌜ f < files ⌝ }
@@ -68,7 +68,7 @@ fn others(segment: &[u8], f: usize, share: u16) -> bool
     false
 }
 
-// W, the number of open writers, for who would be one more: counted once for all that an open asks.
+// W, the open writers, for a writer's open (0 for a reader's). Counted once for all tests of an open.
 pub fn writers_for(segment: &[u8], f: usize, access: u8) -> u16
     requires { ⌜ length (now segment) ≡ segmentBytes ⌝ }
     requires { ⌜ f < files ⌝ }
@@ -80,7 +80,7 @@ pub fn writers_for(segment: &[u8], f: usize, access: u8) -> u16
     count_side(segment, f, WRITER)
 }
 
-// A second writer beside these, a second reader, that the share forbids.
+// Whether the share forbids another writer beside these.
 fn crowds_writers(share: u16, writers: u16) -> bool
     ensures { λ r. ⌜ ((b : Built) → writers ≡ requests.writers b → r ≡ crowded true share b) ⌝ }
 {
@@ -90,6 +90,7 @@ fn crowds_writers(share: u16, writers: u16) -> bool
     0 < writers
 }
 
+// Whether the share forbids another reader beside those of file f.
 fn crowds_readers(segment: &[u8], f: usize, share: u16) -> bool
     requires { ⌜ length (now segment) ≡ segmentBytes ⌝ }
     requires { ⌜ f < files ⌝ }
@@ -112,7 +113,7 @@ fn crowds(segment: &[u8], f: usize, access: u8, share: u16, writers: u16) -> boo
     crowds_readers(segment, f, share)
 }
 
-// Multiaccess 3, another share, or a second accessor the share forbids.
+// Whether an open is refused with 40: multiaccess 3, another share, or a second accessor the share forbids.
 pub fn forbids(segment: &[u8], f: usize, access: u8, share: u8, multi: u8, writers: u16) -> bool
     requires { ⌜ length (now segment) ≡ segmentBytes ⌝ }
     requires { ⌜ (f < files) × (0 < access → writers ≡ countSide (now segment) f 2) ⌝ }
@@ -128,14 +129,14 @@ pub fn forbids(segment: &[u8], f: usize, access: u8, share: u8, multi: u8, write
     crowds(segment, f, access, s, writers)
 }
 
-// Whether an open of that access purges a file with so many closed places: access 1 "purges if no accessor is open".
+// Whether an open of that access purges a file with this number of closed places: access 1 "purges if no accessor is open".
 pub fn purging(access: u8, closed: u16) -> bool
     ensures { λ r. ⌜ r ≡ (eqb access 1 && eqb closed places) ⌝ }
 {
     access == PURGING && closed == ALL_PLACES
 }
 
-// The records that count as used when an open puts its own, and purges or not.
+// The records that count as used when an open puts its record: none if it purges.
 fn used_after(segment: &[u8], f: usize, purges: bool) -> u32
     requires { ⌜ length (now segment) ≡ segmentBytes ⌝ }
     requires { ⌜ f < files ⌝ }

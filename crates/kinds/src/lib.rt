@@ -1,5 +1,5 @@
-// The types that the rules and the code share, and document 01's own numbers, each of which has its one home here.
-// The rules have the limits in Limits; their numbers for the cases stand in Frames, Answers and Calls.
+// The types that the rules and the code share, and document 01's own numbers, each defined once in the code: here.
+// The rules have the limits in Limits, and the numbers of the cases in Frames, Answers and Calls.
 pub mod limits;
 pub mod operations;
 pub mod record_types;
@@ -18,7 +18,7 @@ pub enum Control {
 }
 
 // "An event is one of nine kinds, and a control event carries one of six controls."
-// A count is as it stands in the frame, 0 to 65535; a write's data stand beside it, in the frame.
+// A count is the word in the frame, 0 to 65535. A write's data are not in the event: they stay in the frame.
 pub enum Event {
     Build {
         file: u8,
@@ -71,16 +71,16 @@ pub enum Outstanding {
     Completed,
 }
 
-// What the bytes of a frame are.
+// What the bytes of a frame say.
 pub enum Frame {
     Event(Event),
     // A control event whose code is none of the six.
     Code { file: u8, acc: u8 },
-    // None of the nine shapes, or write data not as long as its count.
+    // A frame of none of the nine shapes, or with write data not as long as its count.
     Shape,
 }
 
-// What is answered to an event; the data of a record stand beside it.
+// The answer to an event, without the data of a record.
 pub enum Answer {
     Built {
         capacity: u16,

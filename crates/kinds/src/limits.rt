@@ -1,5 +1,5 @@
-// The limits of document 01 in the code, each by its name; the rules have them under the same names, in Limits.
-// What follows from others is computed from them. What a call is judged by and how much memory there is are two things, and have names of their own.
+// The limits of document 01 as the code names them; the rules have them under the same names, in Limits.
+// A limit that follows from others is computed from them. Limits used in judging and memory sizes are separate, with names of their own.
 
 // "Eight files, 0 to 7, each with eight accessor places, 0 to 7."
 pub const FILES: usize = 8;
@@ -9,7 +9,7 @@ pub const PLACES: usize = 8;
 // "128 entries of ten 16-bit words"
 pub const ENTRIES: u16 = 128;
 
-// What calls are judged by.
+// Limits used in judging.
 
 pub const MOST_WORDS: u16 = 128;
 
@@ -19,7 +19,7 @@ pub const MOST_RECORDS: u16 = 2000;
 
 pub const MOST_EXTENTS: u16 = 32;
 
-// D × block size.
+// The most words of D × block size.
 pub const MOST_SHARE: u32 = 2048;
 
 // "C ≥ 3"
@@ -30,7 +30,7 @@ pub const MOST_TYPE: u16 = 2;
 // "access, share and multiaccess: 0 to 3"
 pub const MOST_MODE: u8 = 3;
 
-// What a read hands out: under control 46 the type and ID words, and the data.
+// The type and ID words, which a read under control 46 hands out before the data. Then the most that a read hands out, in words and in bytes.
 pub const HEADER_WORDS: u16 = 2;
 
 pub const MOST_READ_WORDS: u16 = HEADER_WORDS + MOST_WORDS;
@@ -42,10 +42,10 @@ pub const WRITE_HEAD: usize = 5;
 
 pub const LINE_BYTES: usize = WRITE_HEAD + 2 * MOST_WORDS as usize;
 
-// A sheet's lines.
+// The bytes of the longest frame that a line of a sheet holds.
 pub const SHEET_LINE_BYTES: usize = WRITE_HEAD + 2 * MOST_WORDS as usize;
 
-// How much memory there is.
+// Memory sizes.
 
 // The longest record that the memories have room for.
 pub const ROOM_WORDS: u16 = 128;
@@ -57,7 +57,7 @@ pub const SHARE_BYTES: usize = 2 * SHARE_WORDS as usize;
 
 pub const BLOCKS_BYTES: usize = FILES * SHARE_BYTES;
 
-// An accessor place's record buffer: that record, with what control 46 hands out before it.
+// An accessor place's record buffer: the longest record, and the type and ID words that control 46 hands out before it.
 pub const BUFFER_BYTES: usize = 2 * (HEADER_WORDS + ROOM_WORDS) as usize;
 
 pub const BUFFERS_BYTES: usize = FILES * PLACES * BUFFER_BYTES;

@@ -1,4 +1,4 @@
-// The nine operations. Its number stands first in an event's frame, and in the answer.
+// The nine operation numbers: the first byte of a frame and of its answer.
 pub const BUILD: u8 = 1;
 
 pub const OPEN: u8 = 2;

@@ -1,4 +1,4 @@
-// What an event that is not refused is answered, as document 01 has it: "0 done, 1 waiting, 2 end of file, 22 timed out."
+// The statuses of events that are not refused: "0 done, 1 waiting, 2 end of file, 22 timed out."
 pub const DONE: u8 = 0;
 
 pub const WAITING: u8 = 1;

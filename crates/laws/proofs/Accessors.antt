@@ -1,4 +1,4 @@
--- Accessors behind a change of one, where one enters, and where one leaves.
+-- Accessors after a change of one, where one enters, and where one leaves.
 use mathlib.Core.Path.{_≡_, refl, ap}
 use mathlib.Core.Bool.{Bool, true, false, cond, _&&_}
 use mathlib.Core.List.{List, [], _∷_}
@@ -70,7 +70,7 @@ countAcc-vacate t a (some c ∷ l) zero e = omega (arith, ap (λ (x : Acc). cond
 countAcc-vacate t a (none ∷ l) (suc p) e = countAcc-vacate t a l p e
 countAcc-vacate t a (some c ∷ l) (suc p) e = omega (arith, countAcc-vacate t a l p e)
 
--- every place behind such a change, beside what it was
+-- every place after such a change, beside what it was
 
 module _ (R : Option Acc → Option Acc → Type 0) (same : (o : Option Acc) → R o o) where
   pub alter-beside : (f : Acc → Acc) (l : List (Option Acc)) (p : ℕ) → ((a : Acc) → getD l p none ≡ some a → R (some (f a)) (some a)) → (x : ℕ) → R (getD (alter f l p) x none) (getD l x none)
@@ -99,7 +99,7 @@ module _ (R : Option Acc → Option Acc → Type 0) (same : (o : Option Acc) →
   vacate-beside (o ∷ l) (suc p) h zero = same o
   vacate-beside (o ∷ l) (suc p) h (suc x) = vacate-beside l p h x
 
--- changes that go by a test
+-- changes that depend on a test
 
 pub arm-keeps : (I : Built → Type 0) (p n : ℕ) (b : Built) → I b → I (say (arms p n ∷ []) (withTimers (armIn (record { place = p; left = n }) (b .timers)) b)) → I (arm p n b)
 unfolding arm

@@ -157,7 +157,7 @@ module _ (d : Desk) (s : Alloc) (A : Agreed d s) where
   pub two-free : (f p : ℕ) → f < files → p < places → outstanding (reqAt (accsOf (fileOf d f)) p) ≡ 0 → 2 ≤ length (s .free)
   two-free f p h k e = idle-holds f p h s s _ _ (stand d s f h A) k e .1
 
-  -- and whatever is called next, whenever an entry is taken there is one
+  -- whatever is called next, there is an entry whenever one is taken
   pub feeds : (f : ℕ) (a : Asked) → f < files → ProperAsked a → Fed f (happens f d a) s
   unfolding happens ProperAsked
   feeds f (on g q) h k = go (eqb g f) refl

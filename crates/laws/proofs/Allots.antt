@@ -27,7 +27,7 @@ free-least s i w h e =
     let all : entries ≤ length (s .free ++ taken (s .held)) = pigeons entries (s .free ++ taken (s .held)) (λ x k. omega (arith, count-append x (s .free) (taken (s .held)), w .once x, ap bit (lt-ltb x entries k))) in
     omega (arith, length-append (s .free) (taken (s .held)), length-taken-room (s .held) i (rw (w .long) h) e, w .long)
 
--- a place holds something else, and there is as much as before
+-- a place holds something else, and there are as many entries as before
 module _ (i : ℕ) (h : Held) (l : List ℕ) (s : Alloc) (w : Whole s) (k : i < files * places) where
   heldAt-holds : heldAt (holds i h l s) i ≡ h
   unfolding heldAt holds
@@ -89,7 +89,7 @@ module _ (i : ℕ) (s : Alloc) (w : Whole s) (k : i < files * places) where
   heldAt-freeTimer (own x) e = e
   heldAt-freeTimer (timed x y) e = heldAt-holds i _ _ _ (whole-withClock (withoutTimer i (s .clock)) s w) k
 
-  -- its own is freed, if there is no timer
+  -- the request's own entry is freed, if there is no timer
 
   steps-freeOwn : (h : Held) → heldAt s i ≡ h → Steps i s (freeOwn i h s)
   unfolding freeOwn entriesOf count
@@ -126,7 +126,7 @@ module _ (i : ℕ) (s : Alloc) (w : Whole s) (k : i < files * places) where
   unfolding endsAt
   heldAt-ends = heldAt-freeTimer i s w k (heldAt s i) refl
 
-  -- one is cancelled or collected
+  -- a request is cancelled or collected
   pub steps-goes : Steps i s (goesAt i s)
   unfolding goesAt
   steps-goes =
@@ -138,7 +138,7 @@ module _ (i : ℕ) (s : Alloc) (w : Whole s) (k : i < files * places) where
   unfolding goesAt
   heldAt-goes = rw heldAt-ends (heldAt-freeOwn i (endsAt i s) (steps-ends .whole) k (heldAt s i) heldAt-ends)
 
--- the clock behind it, where only a place that holds two has a timer
+-- the clock after the request of place i ends, where only a place that holds two has a timer
 pub clock-ends : (i : ℕ) (s : Alloc) → (size (heldAt s i) ≤ 1 → countT i (s .clock) ≡ 0) → endsAt i s .clock ≡ withoutTimer i (s .clock)
 unfolding endsAt
 clock-ends i s q = clock-freeTimer i (heldAt s i) s q

@@ -14,7 +14,7 @@ use Rattle.kinds.specs.declared.Control.the-variants.{Timeout, Verify, Abort, E
 use Rattle.rules.specs.Limits.{places, mostMode, mostReadWords, mostReadBytes, bufferBytes}
 use Rattle.rules.specs.State.{Req, idle, reading, writing, readDone, writeDone, Acc, Built}
 use Rattle.rules.specs.Store.{fetch}
-use Rattle.rules.specs.Count.{inWords, countBytes, readable}
+use Rattle.rules.specs.TransferCounts.{inWords, countBytes, readable}
 use Rattle.rules.specs.Requests.{countAcc, isWriter, writers, readers, opened, fits, accAt, withAccs, withQueues, withTimers, alterAcc, say, isIdle, withReq, begun, requeue, leave, cancel}
 use Rattle.rules.specs.Settle.{settle}
 use Rattle.rules.specs.Reply.{Reply, Out, leaves, answering, status}
@@ -24,7 +24,7 @@ use Rattle.rules.specs.Controls.{setTimeout, setExtended, setTyped, setKeep, sw
 use Rattle.rules.specs.Close.{close}
 use Rattle.rules.specs.Sheet.{sheet, save}
 use Rattle.rules.specs.Look.{oldest, lookFile, lookReq, look}
-use Rattle.rules.specs.Counts.{counts}
+use Rattle.rules.specs.FileCounts.{counts}
 use Rattle.rules.specs.Calls.{Ask, onAcc, askBuilt}
 use Rattle.rules.specs.Calls as calls
 use Rattle.rules.proofs.Split.{by-cases, both, opt, and-left}

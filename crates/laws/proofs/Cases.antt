@@ -18,7 +18,7 @@ use Rattle.laws.specs.Changes.{Ends, readEnds, writeEnds}
 pub reader-cases : (P : Turn → Type 0) (p : ℕ) (a : Acc) (q : Req) (b : Built) → (waitsRead q ≡ 0 → serveReader p a q b ≡ still b → P (still b))
     → ((x : Wanted) → q ≡ reading x → fetch (b .geo) (a .typed) (x .keep) (b .store) .got ≡ none → P (still (behind p (fetch (b .geo) (a .typed) (x .keep) (b .store)) b)))
     → ((x : Wanted) (r : Rec) → q ≡ reading x → fetch (b .geo) (a .typed) (x .keep) (b .store) .got ≡ some r
-    → P (onward (finish p 0 (readResult (x .words) (handed (a .typed) (x .limit) r)) (behind p (fetch (b .geo) (a .typed) (x .keep) (b .store)) b))))
+    → P (onward (finish p 0 (readResult (x .byWords) (handed (a .typed) (x .limit) r)) (behind p (fetch (b .geo) (a .typed) (x .keep) (b .store)) b))))
     → P (serveReader p a q b)
 unfolding serveReader waitsRead
 reader-cases P p a (reading q) b i n s = opt P (fetch (b .geo) (a .typed) (q .keep) (b .store) .got) (n q refl) (λ r. s q r refl)

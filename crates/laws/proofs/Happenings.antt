@@ -1,4 +1,4 @@
--- What happens at a place of file f, in the file and in the allocation: the two agree behind it, and the other files have what they had.
+-- What happens at a place of file f, in the file and in the allocation: the two agree after it, and the other files have what they had.
 use mathlib.Core.Path.{_≡_, refl, sym, ap, ap₂, _∙_}
 use mathlib.Core.List.{List}
 use mathlib.Core.Option.{Option, none, some, Option·none-ne-some}
@@ -27,9 +27,10 @@ use Rattle.laws.proofs.Allots.{free-least, whole-withClock, heldAt-with
 
 -- places
 
-place-below : (f p : ℕ) → f < files → p < places → placeOf f p < files * places
+-- A place of a file is one of the desk's.
+pub place-of-desk : (f p : ℕ) → f < files → p < places → placeOf f p < files * places
 unfolding placeOf
-place-below f p hf hp = omega arith
+place-of-desk f p hf hp = omega arith
 
 pub place-file : (f p : ℕ) → p < places → placeOf f p / places ≡ f
 unfolding placeOf
@@ -79,7 +80,7 @@ module _ (f p : ℕ) (hf : f < files) (s t : Alloc) (l : List (Option Acc)) (ts 
     idle-holds e =
         let n : countT p ts ≡ 0 = omega (arith, M .agrees .timed p) in
         let h = is-nothing (heldAt t i) (omega (arith, M .agrees .holds p hp)) in
-        (h, free-least t i (M .whole) (place-below f p hf hp) h, n)
+        (h, free-least t i (M .whole) (place-of-desk f p hf hp) h, n)
 
     -- only a place that holds two has a timer on the clock
     one-timer : outstanding (reqAt l p) ≡ 1 → size (heldAt t i) ≤ 1 → countT i (t .clock) ≡ 0
@@ -91,7 +92,7 @@ module _ (f p : ℕ) (hf : f < files) (s t : Alloc) (l : List (Option Acc)) (ts 
     hp = open-below l p a (M .agrees .eight) e
 
     hi : i < files * places
-    hi = place-below f p hf hp
+    hi = place-of-desk f p hf hp
 
     was : (n : ℕ) → outstanding (a .req) ≡ n → outstanding (reqAt l p) ≡ n
     unfolding reqOf
@@ -100,7 +101,7 @@ module _ (f p : ℕ) (hf : f < files) (s t : Alloc) (l : List (Option Acc)) (ts 
     new : reqAt (alter (withReq q) l p) p ≡ q
     new = reqs-same q a l p e
 
-    -- it begins to wait
+    -- the request begins to wait
     pub matches-waits : outstanding (a .req) ≡ 0 → outstanding q ≡ 1 → Matches f s (allot f (waits p) t) (alter (withReq q) l p) ts
     unfolding allot entriesOf
     matches-waits o k =
@@ -113,7 +114,7 @@ module _ (f p : ℕ) (hf : f < files) (s t : Alloc) (l : List (Option Acc)) (ts 
         (omega (arith, k, ap outstanding new, ap size (heldAt-takeOwn i t (M .whole) hi), z .2))
         (omega (arith, z .2))
 
-    -- it leaves its queue, and its timer goes
+    -- the request leaves its queue, and its timer goes
     matches-leaves : (u : Alloc) → Steps i t u → u .clock ≡ withoutTimer i (t .clock) → size (heldAt u i) ≡ outstanding q → Matches f s u (alter (withReq q) l p) (withoutTimer p ts)
     matches-leaves u c d h =
         let z = countT-withoutTimer-same p ts in
@@ -142,7 +143,7 @@ module _ (f p : ℕ) (hf : f < files) (s t : Alloc) (l : List (Option Acc)) (ts 
   pub matches-arms : (n : ℕ) → p < places → awaits (reqAt l p) ≡ 1 → outstanding (reqAt l p) ≡ 1 → countT p ts ≡ 0 → 1 ≤ length (t .free) → Matches f s (allot f (arms p n) t) l (armIn (record { place = p; left = n }) ts)
   unfolding allot entriesOf
   matches-arms n b w o z k =
-      let hi : i < files * places = place-below f p hf b in
+      let hi : i < files * places = place-of-desk f p hf b in
       let new : Timer = record { place = i; left = n } in
       let h : heldAt t i ≡ own (ownEntry (heldAt t i)) = is-own (heldAt t i) (omega (arith, M .agrees .holds p b)) in
       let u : Alloc = takeTimer i (heldAt t i) t in
@@ -167,6 +168,6 @@ matches-alike f s t l m ts n h M = record {
   apart = M .apart;
 }
 
--- from here on
+-- allocation and file match where nothing has happened yet
 pub matches-now : (f : ℕ) (t : Alloc) (l : List (Option Acc)) (ts : List Timer) → Agrees f t l ts → Whole t → Clock (t .clock) → Matches f t t l ts
 matches-now f t l ts a w c = record { agrees = a; whole = w; clock = c; apart = record { held = λ i d. refl; clock = λ g d. refl } }

@@ -41,7 +41,7 @@ from-next n [] = refl
 from-next n (none ∷ l) = from-next n l
 from-next n (some a ∷ l) = omega (arith, one-from (a .writer) n (a .ident), from-next n l)
 
--- as many steps as writers hold n or more
+-- k steps are enough if at most k writers hold n or more
 smallest-from : (k n : ℕ) (l : List (Option Acc)) → countAcc (holdsFrom n) l ≤ k → Smallest l n (freeIdFrom k n l)
 unfolding freeIdFrom
 smallest-from zero n l c = record { from = omega arith; free = omega (arith, from-next n l); held = λ m a b. absurd (omega (arith, a, b)) }

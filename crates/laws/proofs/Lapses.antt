@@ -112,7 +112,7 @@ unfolding OnFile fileTime hushed
 ages-calm e unbuilt = tt
 ages-calm e (built b) = refl
 
--- and nothing is taken
+-- nothing is taken from the free list
 
 pub ages-fed : (f e : ℕ) (s : Alloc) (x : File) → Calm x → Fed f (timeHaps e x) s
 unfolding OnFile timeHaps lapse lessen withTimers

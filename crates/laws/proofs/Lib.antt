@@ -1,37 +1,44 @@
-pub mod Proper
+-- Lists, counts and cases
 pub mod Lists
-pub mod EightFiles
-pub mod Isolation
+pub mod Counts
+pub mod Cases
 pub mod Files
 pub mod Accessors
-pub mod Cases
+pub mod EightFiles
+pub mod Proper
+-- From each change to every run
 pub mod Walk
 pub mod Calls
 pub mod Made
 pub mod Lift
-pub mod Counts
-pub mod Clock
-pub mod Outstanding
-pub mod Ids
+-- A file after any run
+mod Ids
 pub mod Places
-pub mod Bounds
-pub mod Stores
-pub mod Room
-pub mod Shares
-pub mod Queues
-pub mod Settled
-pub mod Rest
-pub mod Apart
 pub mod Sides
+pub mod Outstanding
+mod One
+pub mod Bounds
 pub mod Records
-pub mod One
+mod Stores
+pub mod Room
+mod Shares
+pub mod Queues
+-- Settling
+pub mod Settled
+mod Rest
+mod Apart
+-- Timers
+pub mod Clock
 pub mod Timers
 pub mod Sieve
-pub mod Taken
+-- The allocation of entries
+mod Taken
 pub mod Allots
 pub mod Happenings
 pub mod Midst
 pub mod Comes
 pub mod Lapses
 pub mod Allocated
-pub mod Told
+mod Told
+-- Isolation
+pub mod Isolation

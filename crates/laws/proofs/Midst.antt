@@ -104,7 +104,7 @@ module _ (f : ℕ) (hf : f < files) (s : Alloc) where
     free = let h = idle-holds f p hf s (so b) (b .accs) (b .timers) (m .matches) hp (outstanding-idle _ (ap reqOf e ∙ i)) in (h .1, h .2)
 
     module _ (c : Built) (x : c .past ≡ b .past ++ (waits p ∷ [])) (y : c .accs ≡ alter (withReq q) (b .accs) p) (z : c .timers ≡ b .timers) where
-      -- with its entry
+      -- the midst after a request begins to wait, with its entry
       mid-waits : Mid f s c
       unfolding accAt draws
       mid-waits =
@@ -119,7 +119,7 @@ module _ (f : ℕ) (hf : f < files) (s : Alloc) where
       unfolding accAt
       now = rw y (reqs-same q a (b .accs) p e)
 
-      -- and its timer's
+      -- the midst after a request waits, with its entry and its timer's
       pub mid-wait : Mid f s (arm p n c)
       unfolding arm say withTimers draws
       mid-wait =

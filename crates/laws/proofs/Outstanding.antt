@@ -1,4 +1,4 @@
--- What requests count for, and the requests of a file's places behind a change of its accessors.
+-- What requests count for, and the requests of a file's places after a change of its accessors.
 use mathlib.Core.Path.{_≡_, refl, sym, ap, subst, _∙_}
 use mathlib.Core.List.{List}
 use mathlib.Core.Option.{Option, none, some}
@@ -41,7 +41,7 @@ pub reqs-none : (x : ℕ) → reqAt (replicate places none) x ≡ idle
 unfolding reqOf
 reqs-none x = ap reqOf (getD-replicate-same none places x)
 
--- what goes by the requests at a file's places, as accessors change beside their requests, come and go
+-- what depends on the requests at a file's places, as accessors change beside their requests, come and go
 
 abbrev pub ByRequests : (Built → Type 0) → Type 0
 ByRequests K = (l : List (Option Acc)) (b : Built) → length l ≡ length (b .accs) → ((x : ℕ) → reqAt l x ≡ reqAt (b .accs) x) → K b → K (withAccs l b)

@@ -1,4 +1,4 @@
--- Each built file has eight places: there is no accessor from place 8 on, after any run from a fresh desk.
+-- Each built file has eight places: there is no accessor at place 8 or above, after any run from a fresh desk.
 use mathlib.Core.Path.{_≡_, refl, _∙_}
 use mathlib.Core.Bool.{true, false}
 use mathlib.Core.List.{List}
@@ -51,7 +51,7 @@ eight-starts = record { built = λ g _. refl; loads = λ s _. refl }
 pub eight-places : (f : ℕ) (cs : List Call) → OnFile Eight (fileOf (after freshDesk cs) f)
 eight-places f cs = lifted Eight (λ n. Eight) eight-walks (lapsed Eight (λ n. Eight) eight-walks (λ e b s. unfold lessen withTimers in s)) eight-starts (λ b s. unfold hushed in s) f cs
 
--- no accessor from place 8 on
+-- no accessor is at place 8 or above
 pub accAt-high : (b : Built) (p : ℕ) → Eight b → places ≤ p → accAt b p ≡ none
 unfolding accAt
 accAt-high b p s h = List·getD-eq-default (b .accs) none (omega (arith, s))
@@ -59,6 +59,6 @@ accAt-high b p s h = List·getD-eq-default (b .accs) none (omega (arith, s))
 pub no-accessor : (f : ℕ) (cs : List Call) → OnFile (λ b. (p : ℕ) → places ≤ p → accAt b p ≡ none) (fileOf (after freshDesk cs) f)
 no-accessor f cs = on-file Eight (λ b. (p : ℕ) → places ≤ p → accAt b p ≡ none) (λ b s p h. accAt-high b p s h) (fileOf (after freshDesk cs) f) (eight-places f cs)
 
--- so the ID that a writer gets is the smallest that no writer holds
+-- the ID that a writer gets is the smallest that no writer holds
 pub smallest-ids : (f : ℕ) (cs : List Call) → OnFile (λ b. Smallest (b .accs) 1 (freeId (b .accs))) (fileOf (after freshDesk cs) f)
 smallest-ids f cs = on-file Eight (λ b. Smallest (b .accs) 1 (freeId (b .accs))) (λ b s. smallest-id (b .accs) (omega (arith, s))) (fileOf (after freshDesk cs) f) (eight-places f cs)

@@ -9,7 +9,7 @@ use borrow.Author.Tests.{eqb-true}
 use Rattle.rules.specs.Limits.{writeHead}
 use Rattle.words.specs.Word.{wordAt}
 use Rattle.kinds.specs.declared.Frame.{Frame}
-use Rattle.rules.specs.Count.{countBytes}
+use Rattle.rules.specs.TransferCounts.{countBytes}
 use Rattle.rules.specs.Frames.{controlFrame, sized, frameOf}
 use Rattle.rules.specs.Desk.{Call, event, look, save, load, Asked, on, time, bad, frameAsks, asked}
 use Rattle.rules.proofs.Split.{bothc}

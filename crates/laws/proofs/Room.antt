@@ -160,6 +160,6 @@ roomy f cs =
     (lapsed Sound Owed sound-walks (λ e b s. (bounds-lessen e b (s .0), unfold lessen withTimers writers in s .1))) sound-starts
     (λ b s. (bounds-hushed b (s .0), unfold hushed writers in s .1)) f cs)
 
--- so a close record always has its place
+-- a close record always has its place
 pub close-fits : (f : ℕ) (cs : List Call) → OnFile (λ b. used (b .store) + writers b ≤ capacityOf b) (fileOf (after freshDesk cs) f)
 close-fits f cs = on-file Roomy (λ b. used (b .store) + writers b ≤ capacityOf b) (λ b k. unfold capacityOf in k .places) (fileOf (after freshDesk cs) f) (roomy f cs)

@@ -1,4 +1,4 @@
--- Settling ends by itself: as many turns as requests wait are enough, and behind them nothing can be done.
+-- Settling ends by itself: as many turns as requests wait are enough, and after them nothing can be done.
 use mathlib.Core.Path.{_≡_, refl, sym, ap, ap₂, _∙_}
 use mathlib.Core.Bool.{true, false, true≢false}
 use mathlib.Core.List.{List, [], _∷_, append-nil}
@@ -142,7 +142,7 @@ unfolding settleFor still
 settleFor-still zero b e = refl
 settleFor-still (suc n) b e = pick-false (turn b .moved) _ _ (ap (λ (m : Turn). m .moved) e) ∙ ap (λ (m : Turn). m .file) e
 
--- and more turns change nothing
+-- more turns change nothing
 settleFor-more : (n k : ℕ) (b : Built) → many b ≤ n → settleFor (n + k) b ≡ settleFor n b
 settleFor-more zero k b h = let t = idle-turn b h in settleFor-still (0 + k) b t ∙ sym (settleFor-still 0 b t)
 settleFor-more (suc n) k b h = rw (suc-add n k) (by-cases (turn b .moved)

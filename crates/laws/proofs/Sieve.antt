@@ -51,7 +51,7 @@ sorted-sieves (t ∷ ts) c h = (own (decLt (t .place) (files * places)), c .sort
 
 -- a timer is armed in its file
 
--- one that has less left than any goes in front
+-- a timer that has less left than any goes in front
 armIn-front : (t : Timer) (lo : ℕ) (ts : List Timer) → Sorted lo ts → t .left < lo → armIn t ts ≡ t ∷ ts
 unfolding Sorted
 armIn-front t lo [] s h = unfold armIn in refl
@@ -69,7 +69,7 @@ sieve-armIn f t lo (u ∷ ts) e s = go (decLe (u .left) (t .left)) (ℕ-discrete
         rw (armIn-here t u ts (omega arith), sieve-in f t (u ∷ ts) e)
         (sym (armIn-front (local t) (u .left) (sieve f (u ∷ ts)) (sorted-sieve f (u .left) (u ∷ ts) (unfold Sorted in (omega arith, s .1))) (unfold local in omega arith)))
 
--- and is none of another's
+-- the timer of one file is not among those of another
 pub sieve-armIn-other : (f : ℕ) (t : Timer) (ts : List Timer) → (t .place / places ≡ f → ⊥) → sieve f (armIn t ts) ≡ sieve f ts
 sieve-armIn-other f t [] e = unfold armIn in sieve-out f t [] e
 sieve-armIn-other f t (u ∷ ts) e = go (decLe (u .left) (t .left)) (ℕ-discrete (u .place / places) f) (sieve-armIn-other f t ts e)

@@ -105,7 +105,7 @@ timed-walks = record {
   closes = λ n b s. (agree-walks .closes n b (s .0), s .1);
 }
 
--- those that are due go, so the others have more than e left
+-- the due timers go, so the others have more than e left
 ticking-lapse : (e : ℕ) (b : Built) → Timed b → Ticking (lapse e b)
 unfolding lapse lessen withTimers
 ticking-lapse e b s =

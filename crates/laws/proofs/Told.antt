@@ -1,4 +1,4 @@
--- What is told of the desk is, of each file, what happens to it; and the allocation is a fold over it. So the order over files is said once, by the
+-- The happenings of the desk are, for each file, what happens to it; and the allocation is a fold over them. So the order over files is said once, by the
 -- desk's clock.
 use mathlib.Core.Path.{_≡_, refl, sym, ap, _∙_}
 use mathlib.Core.List.{List, [], _∷_, _++_, map, append-assoc, append-nil}
@@ -26,7 +26,7 @@ use Rattle.laws.proofs.Cases.{fail-cases}
 use Rattle.laws.proofs.Sieve.{here-in, here-out, here-due}
 use Rattle.laws.proofs.Allocated.{answers, agreed-fresh}
 
--- what is told, file by file
+-- the happenings, file by file
 
 in-file : (f : ℕ) (t : Happening) (ts : List Happening) → t .file ≡ f → toldOf f (t ∷ ts) ≡ t .hap ∷ toldOf f ts
 unfolding toldOf
@@ -143,6 +143,6 @@ annals-on (c ∷ cs) d s f h A =
     let ih = annals-on cs (answered d (asked c) .desk) (allocAsked d (asked c) s) f h (answers d s (asked c) (asked-proper c) A) in
     rw (toldOf-append f (told d s (asked c)) (annals (answered d (asked c) .desk) cs (allocAsked d (asked c) s)), told-of d s (asked c) f h A, ih)
 
--- what happened to a file in a run is what is told of it in the desk's annals
+-- what happened to a file in a run is its part of the desk's annals
 pub annals-of : (cs : List Call) (f : ℕ) → f < files → toldOf f (annals freshDesk cs freshAlloc) ≡ history f freshDesk cs
 annals-of cs f h = annals-on cs freshDesk freshAlloc f h agreed-fresh

@@ -59,7 +59,7 @@ unfolding lapse
 lapses-rest I R st e b z = st .lessens e _ (fails-all R (λ p s q a r c _ _ _. st .finishes p s q c) 22 (due e (b .timers)) b z (omega arith))
 
 module _ (I : Built → Type 0) (J : ℕ → Built → Type 0) (w : Walks I J) where
-  -- and for I, which calls keep
+  -- time keeps I, which calls keep
   pub lapsed : ((e : ℕ) (b : Built) → I b → I (lessen e b)) → (e : ℕ) (b : Built) → I b → I (lapse e b)
   unfolding lapse
   lapsed h e b s = h e _ (fails-all I (w .finishes) 22 (due e (b .timers)) b s (omega arith))

@@ -4,6 +4,6 @@ use mathlib.Core.List.{List, [], _∷_}
 use Prim.Native.Nat.{ℕ}
 use Rattle.rules.specs.State.{Built}
 
--- where a reader waits no writer does
+-- no writer waits where a reader waits
 abbrev pub Apart : Built → Type 0
 Apart b = (p : ℕ) (l : List ℕ) → b .rq ≡ p ∷ l → b .wq ≡ []

@@ -1,11 +1,11 @@
--- What a request holds fits its accessor's record buffer, and a waiting write's data its record; what it completed with is no refusal's number.
+-- What a request holds fits its accessor's record buffer, a waiting write's data fit a record, and the status of a completed one is no refusal number.
 use Prim.Native.Nat.{ℕ, _*_, _≤_, _<_}
 use lib.ListN.{length}
 use Rattle.rules.specs.Limits.{bufferBytes}
 use Rattle.rules.specs.State.{Req, idle, reading, writing, readDone, writeDone, Built}
 use Rattle.laws.specs.Outstanding.{reqAt}
 
--- the numbers of refusals begin here; what a request completes with, 0, 2 or 22, is below
+-- the least refusal number; what a request completes with, 0, 2 or 22, is below it
 abbrev pub leastRefusal : ℕ
 leastRefusal = 29
 

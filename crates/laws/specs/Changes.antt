@@ -1,4 +1,4 @@
--- The small changes of which every call is made, and what a law has to show of each to hold over all runs.
+-- The small changes that make up every call, and what a law has to show of each to hold over all runs.
 use mathlib.Core.Path.{_≡_}
 use mathlib.Core.Bool.{Bool, true, false}
 use mathlib.Core.List.{List}
@@ -42,16 +42,16 @@ pub record GoodSheet (s : Sheet) : Type 0 where
 unfoldable pub Mild : (Acc → Acc) → Type 0
 Mild f = (a : Acc) → (isWriter (f a) ≡ isWriter a) × (f a .ident ≡ a .ident) × (f a .sharing ≡ a .sharing) × (f a .req ≡ a .req)
 
--- a waiting request, and what it may complete as, with a status, which is no refusal's number
+-- a waiting request, and what it may complete as with status st, which is no refusal number
 pub data Ends (st : ℕ) : Req → Req → Type 0 where
   readEnds : {x : Wanted} {y : Brought} → y .status ≡ st → length (y .bytes) ≤ x .limit → st < leastRefusal → Ends st (reading x) (readDone y)
   writeEnds : {x : Offered} {y : Wrote} → y .status ≡ st → st < leastRefusal → Ends st (writing x) (writeDone y)
 
--- what a waiting request that completes keeps
+-- I is kept when a waiting request completes
 abbrev pub Finishes : (Built → Type 0) → Type 0
 Finishes I = (p st : ℕ) (q : Req) (a : Acc) (r : Req) (b : Built) → accAt b p ≡ some a → a .req ≡ r → Ends st r q → I b → I (finish p st q b)
 
--- what every change that a call makes keeps: I, and J n while the close record of a writer with the ID n is owed
+-- every change that a call makes keeps I, or J n while the close record of a writer with the ID n is owed
 pub record Walks (I : Built → Type 0) (J : ℕ → Built → Type 0) : Type 0 where
   pub mild : (p : ℕ) (f : Acc → Acc) (b : Built) → Mild f → I b → I (alterAcc p f b)
   pub finishes : Finishes I
@@ -72,7 +72,7 @@ pub record Walks (I : Built → Type 0) (J : ℕ → Built → Type 0) : Type 0 
   pub endings : (n : ℕ) → Finishes (J n)
   pub closes : (n : ℕ) (b : Built) → J n b → I (putRec (closeRec n) b)
 
--- what holds of a file that has settled, and stays where a call does not settle
+-- R holds of a file that has settled, and changes of calls that do not settle keep it
 pub record Settles (I R : Built → Type 0) : Type 0 where
   pub rests : (b : Built) → I (settle b) → R (settle b)
   pub milds : (p : ℕ) (f : Acc → Acc) (b : Built) → Mild f → R b → R (alterAcc p f b)
@@ -81,7 +81,7 @@ pub record Settles (I R : Built → Type 0) : Type 0 where
   pub frees : (p : ℕ) (b : Built) → R b → R (freed p b)
   pub lessens : (e : ℕ) (b : Built) → R b → R (lessen e b)
 
--- what a new file has
+-- I holds of a new file
 pub record Starts (I : Built → Type 0) : Type 0 where
   pub built : (g : Geo) → GoodGeo g → I (newFile g emptyStore)
   pub loads : (s : Sheet) → GoodSheet s → I (loaded s)

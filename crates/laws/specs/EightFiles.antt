@@ -1,4 +1,4 @@
--- "Eight files, 0 to 7": that a desk has them, and the desk that is made of eight.
+-- "Eight files, 0 to 7": that a desk has eight, and the desk made of eight.
 use Prim.Native.Nat.{ℕ}
 use mathlib.Core.Path.{_≡_}
 use mathlib.Core.List.{map}
@@ -11,6 +11,6 @@ use Rattle.rules.specs.Allocation.{upFrom}
 unfoldable pub EightFiles : Desk → Type 0
 EightFiles d = length (d .files) ≡ files
 
--- the desk of x 0 to x 7
+-- the desk of the files x 0 to x 7
 unfoldable pub deskOf : (ℕ → File) → Desk
 deskOf x = record { files = map x (upFrom 0 files) }

@@ -1,4 +1,4 @@
--- The terms in which the laws of the allocation speak: where each entry is, what the places of a file hold, the clock file by file, and that the
+-- The terms of the allocation's laws: where each entry is, what the places of a file hold, the clock file by file, and that the
 -- free list is never dry when an entry is taken.
 use mathlib.Core.Path.{_≡_}
 use mathlib.Core.Bool.{cond}
@@ -20,7 +20,7 @@ use Rattle.laws.specs.Timers.{Clock}
 
 -- each entry in exactly one place
 
--- what a place holds, its request's entry before its timer's; what all places hold
+-- the entries that a place holds, its request's before its timer's; `taken` has those of all places
 unfoldable pub entriesOf : Held → List ℕ
 entriesOf nothing = []
 entriesOf (own e) = e ∷ []
@@ -33,12 +33,12 @@ taken (h ∷ l) = entriesOf h ++ taken l
 abbrev pub size : Held → ℕ
 size h = length (entriesOf h)
 
--- each entry stands once, in the free list or at one of the places, and no other number does
+-- each entry occurs once, in the free list or at one of the places, and no other number occurs
 pub record Whole (s : Alloc) : Type 0 where
   pub once : (x : ℕ) → count x (s .free) + count x (taken (s .held)) ≡ bit (ltb x entries)
   pub long : length (s .held) ≡ files * places
 
--- a timer of the desk as its file has it, and of the desk's timers those of file f
+-- a timer of the desk as its file has it; `sieve` has those of the desk's timers that are of file f
 unfoldable pub local : Timer → Timer
 local t = record { place = t .place % places; left = t .left }
 
@@ -46,7 +46,7 @@ unfoldable pub sieve : ℕ → List Timer → List Timer
 sieve f [] = []
 sieve f (t ∷ ts) = cond (eqb (t .place / places) f) (local t ∷ sieve f ts) (sieve f ts)
 
--- a file, its places and its timers
+-- the places of a file; `timersOf` has its timers
 
 unfoldable pub accsOf : File → List (Option Acc)
 accsOf unbuilt = replicate places none
@@ -56,18 +56,18 @@ unfoldable pub timersOf : File → List Timer
 timersOf unbuilt = []
 timersOf (built b) = b .timers
 
--- with the accessors l and the timers ts of file f: an entry for each outstanding request and for each timer; a timer only where a request waits
+-- the allocation agrees with accessors l and timers ts of file f: an entry for each outstanding request and each timer; a timer only where a request waits
 pub record Agrees (f : ℕ) (s : Alloc) (l : List (Option Acc)) (ts : List Timer) : Type 0 where
   pub holds : (p : ℕ) → p < places → size (heldAt s (placeOf f p)) ≡ outstanding (reqAt l p) + countT p ts
   pub timed : (p : ℕ) → countT p ts ≤ awaits (reqAt l p)
   pub clock : sieve f (s .clock) ≡ ts
   pub eight : length l ≡ places
 
--- between calls nothing is left to tell
+-- a file between calls, with no happenings kept
 abbrev pub Calm : File → Type 0
 Calm x = OnFile (λ b. b .past ≡ []) x
 
--- desk and allocation
+-- desk and allocation agree
 pub record Agreed (d : Desk) (s : Alloc) : Type 0 where
   pub eight : EightFiles d
   pub whole : Whole s
@@ -97,7 +97,7 @@ draws (ends p st) = 0
 draws (cancels p) = 0
 draws (collects p) = 0
 
--- before each happening in file f the free list has what it draws
+-- the free list has, before each happening in file f, as many entries as the happening draws
 unfoldable pub Fed : ℕ → List Hap → Alloc → Type 0
 Fed f [] s = Unit {0}
 Fed f (h ∷ hs) s = (draws h ≤ length (s .free)) × Fed f hs (allot f h s)

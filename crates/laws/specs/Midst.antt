@@ -1,4 +1,4 @@
--- What the proofs of the allocation's laws speak of in between: one step, the midst of a call, and what a call comes to.
+-- Terms of the proofs of the allocation's laws: one step, the midst of a call, and the outcome of a call.
 use mathlib.Core.Path.{_≡_}
 use mathlib.Core.Bool.{cond}
 use mathlib.Core.List.{List, [], _∷_}
@@ -23,29 +23,29 @@ pub record Steps (i : ℕ) (s t : Alloc) : Type 0 where
   pub whole : Whole t
   pub others : (j : ℕ) → (j ≡ i → ⊥) → heldAt t j ≡ heldAt s j
 
--- of places of the desk those of file f, as the file has them
+-- the places of file f among those of the desk, as the file numbers them
 unfoldable pub here : ℕ → List ℕ → List ℕ
 here f [] = []
 here f (i ∷ l) = cond (eqb (i / places) f) (i % places ∷ here f l) (here f l)
 
--- from s to t nothing changes for files other than f
+-- nothing changes from s to t for files other than f
 pub record Elsewhere (f : ℕ) (s t : Alloc) : Type 0 where
   pub held : (i : ℕ) → (i / places ≡ f → ⊥) → heldAt t i ≡ heldAt s i
   pub clock : (g : ℕ) → (g ≡ f → ⊥) → sieve g (t .clock) ≡ sieve g (s .clock)
 
--- the allocation t, in a call of file f that began with s, when the file has the accessors l and the timers ts
+-- the allocation t matches the accessors l and the timers ts of file f, in a call that began with s
 pub record Matches (f : ℕ) (s t : Alloc) (l : List (Option Acc)) (ts : List Timer) : Type 0 where
   pub agrees : Agrees f t l ts
   pub whole : Whole t
   pub clock : Clock (t .clock)
   pub apart : Elsewhere f s t
 
--- in the midst of a call of file f that began with the allocation s
+-- the midst of a call of file f that began with the allocation s
 pub record Mid (f : ℕ) (s : Alloc) (b : Built) : Type 0 where
   pub matches : Matches f s (allotAll f (b .past) s) (b .accs) (b .timers)
   pub fed : Fed f (b .past) s
 
--- what a call of file f comes to
+-- the outcome of a call of file f that began with the allocation s
 pub record Comes (f : ℕ) (s : Alloc) (o : Out) : Type 0 where
   pub matches : Matches f s (allotAll f (o .haps) s) (accsOf (o .file)) (timersOf (o .file))
   pub fed : Fed f (o .haps) s

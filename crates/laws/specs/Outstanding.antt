@@ -5,7 +5,7 @@ use Prim.Native.Nat.{ℕ, _+_}
 use lib.ListN.{getD}
 use Rattle.rules.specs.State.{Req, idle, reading, writing, readDone, writeDone, Acc}
 
--- the request of an accessor, and at a place: idle where there is none
+-- the request of an accessor, idle if there is none; `reqAt` is the request at a place
 unfoldable pub reqOf : Option Acc → Req
 reqOf none = idle
 reqOf (some a) = a .req
@@ -13,7 +13,7 @@ reqOf (some a) = a .req
 abbrev pub reqAt : List (Option Acc) → ℕ → Req
 reqAt l x = reqOf (getD l x none)
 
--- 1 where a read waits, 1 where a write waits, 1 where a request is completed and not yet collected
+-- 1 if a read waits; `waitsWrite`: 1 if a write waits; `uncollected`: 1 if a request is completed and not yet collected
 unfoldable pub waitsRead : Req → ℕ
 waitsRead idle = 0
 waitsRead (reading q) = 1
@@ -35,7 +35,7 @@ uncollected (writing q) = 0
 uncollected (readDone q) = 1
 uncollected (writeDone q) = 1
 
--- 1 where a request waits; 1 where one is outstanding
+-- 1 if a request waits; `outstanding`: 1 if a request is outstanding
 abbrev pub awaits : Req → ℕ
 awaits q = waitsRead q + waitsWrite q
 

@@ -7,7 +7,7 @@ use Rattle.occurrences.specs.Count.{count}
 use Rattle.laws.specs.Counts.{countT}
 use Rattle.laws.specs.Outstanding.{reqAt, waitsRead, waitsWrite, awaits}
 
--- a place x with the request q stands in a queue exactly when q waits there, once, and has at most one timer, only then
+-- place x, with the request q, is in a queue exactly when q waits there, and then once; it has a timer only if q waits, and at most one
 pub record Queued (x : ℕ) (rq wq : List ℕ) (ts : List Timer) (q : Req) : Type 0 where
   pub reads : count x rq ≡ waitsRead q
   pub writes : count x wq ≡ waitsWrite q

@@ -1,5 +1,5 @@
--- The records of the blocks that are held, those spent too, are such that a sheet takes them: types 0 to 2, IDs from 1, no data in open and close
--- records.
+-- Every record of a held block, spent ones too, is one that a sheet takes: its type is 0 to 2, its ID is 1 or more, and open and close records have
+-- no data.
 use Rattle.rules.specs.State.{Built}
 use Rattle.shares.specs.Groups.{All}
 use Rattle.shares.specs.Laid.{GoodRec}

@@ -1,4 +1,4 @@
--- A file at rest: where a reader waits it is empty, where a writer waits no record fits.
+-- A file at rest: it is empty if a reader waits, and no record fits if a writer waits.
 use mathlib.Core.Path.{_≡_}
 use mathlib.Core.Bool.{Bool, false}
 use mathlib.Core.List.{List, [], _∷_}

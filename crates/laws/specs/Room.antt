@@ -12,12 +12,12 @@ pub record Kept (g : Geo) (s : Store) (w : ℕ) : Type 0 where
   pub geo : GoodGeo g
   pub holds : Holds g s
   pub places : used s + w ≤ capacity (g .factor) (g .blocks)
-  -- and an empty one has room for a data record
+  -- an empty store has room for a data record beside them
   pub one-more : w + 1 ≤ capacity (g .factor) (g .blocks)
 
 abbrev pub Roomy : Built → Type 0
 Roomy b = Kept (b .geo) (b .store) (writers b)
 
--- while the close record of one more is owed
+-- room in a file while the close record of one more writer is owed
 abbrev pub Owing : ℕ → Built → Type 0
 Owing n b = Kept (b .geo) (b .store) (suc (writers b))

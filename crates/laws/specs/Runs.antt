@@ -1,4 +1,4 @@
--- What a run holds for one file: the calls that name it and the passages of time; and what its callers hear.
+-- The part of a run that is one file's: the calls that name it and the passages of time; and the replies to those calls.
 use mathlib.Core.Path.{_≡_}
 use mathlib.Core.Bool.{Bool, true, false}
 use mathlib.Core.List.{List, [], _∷_, _++_}
@@ -6,7 +6,7 @@ use Prim.Native.Nat.{ℕ}
 use lib.Dec.{eqb}
 use lib.ListN.{length}
 use Rattle.rules.specs.State.{Built, File, unbuilt, built}
-use Rattle.rules.specs.Count.{countBytes}
+use Rattle.rules.specs.TransferCounts.{countBytes}
 use Rattle.rules.specs.Reply.{Reply}
 use Rattle.rules.specs.Calls.{Ask, build, opens, read, write, control, collect, close, counts, load, save, look}
 use Rattle.rules.specs.Desk.{Call, Asked, on, time, bad, asked}
@@ -20,7 +20,7 @@ mine f (on g q) = elim (eqb g f) [ true ↦ call q ∷ [] | false ↦ [] ]
 mine f (time e) = wait e ∷ []
 mine f bad = []
 
--- of a run, the calls naming f and the passages of time, in order
+-- the calls of a run that name f and the passages of time, in order
 unfoldable pub only : ℕ → List Call → List Own
 only f [] = []
 only f (c ∷ cs) = mine f (asked c) ++ only f cs
@@ -30,18 +30,18 @@ names f (on g q) = eqb g f
 names f (time e) = false
 names f bad = false
 
--- of a run's replies, those to the calls that name f
+-- the replies of a run to the calls that name f
 unfoldable pub theirs : ℕ → List Call → List Reply → List Reply
 theirs f [] rs = []
 theirs f (c ∷ cs) [] = []
 theirs f (c ∷ cs) (r ∷ rs) = elim (names f (asked c)) [ true ↦ r ∷ theirs f cs rs | false ↦ theirs f cs rs ]
 
--- what holds of a file if it is built
+-- I holds of a file if it is built
 unfoldable pub OnFile : (Built → Type 0) → File → Type 0
 OnFile I unbuilt = Unit {0}
 OnFile I (built b) = I b
 
--- a write's data are as long as its count
+-- what is asked is proper: a write's data are as long as its count
 unfoldable pub Proper : Ask → Type 0
 Proper (build r b n x) = Unit {0}
 Proper (opens a s m) = Unit {0}

@@ -6,7 +6,7 @@ use Prim.Native.Nat.{ℕ, _≤_}
 use Rattle.rules.specs.State.{Req, idle, reading, writing, readDone, writeDone, Acc, Built}
 use Rattle.rules.specs.Requests.{accAt}
 
--- a request that a writer may have, or a reader
+-- the request is one that a writer, or else a reader, may have
 unfoldable pub Fitting : Bool → Req → Type 0
 Fitting writer idle = Unit {0}
 Fitting writer (reading q) = writer ≡ false

@@ -8,17 +8,17 @@ use Rattle.rules.specs.Time.{minus}
 use Rattle.rules.specs.Desk.{Asked, on, time, bad}
 use Rattle.rules.specs.Allocation.{Alloc, Happening, withClock, allot}
 
--- what is told of file f
+-- the happenings of file f among those of the desk
 unfoldable pub toldOf : ℕ → List Happening → List Hap
 toldOf f [] = []
 toldOf f (t ∷ ts) = cond (eqb (t .file) f) (t .hap ∷ toldOf f ts) (toldOf f ts)
 
--- one happening of the desk after the other
+-- the allocation after happenings of the desk, one after the other
 unfoldable pub allotTold : List Happening → Alloc → Alloc
 allotTold [] s = s
 allotTold (t ∷ ts) s = allotTold ts (allot (t .file) (t .hap) s)
 
--- time takes e off what is left of the timers that stay; no other call does
+-- the allocation after time has taken e off what is left of the timers that stay; no other call does that
 unfoldable pub aged : Asked → Alloc → Alloc
 aged (on f q) s = s
 aged (time e) s = withClock (map (minus e) (s .clock)) s

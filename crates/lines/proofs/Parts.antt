@@ -9,7 +9,7 @@ use Rattle.rules.specs.Line.{lineFrame, lineOf}
 use Rattle.lines.specs.Asked.{Gives, Asked}
 use Rattle.memory.specs.Memories.{Memories}
 
--- a part from the first byte on
+-- a part that starts at the first byte
 pub front : (n : ℕ) (l : List ℕ) → take (n - 0) l ≡ take n l
 front n l =
     let e : n - 0 ≡ n = omega arith in

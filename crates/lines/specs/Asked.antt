@@ -15,11 +15,11 @@ use Rattle.memory.specs.Memories.{Memories}
 abbrev pub answerLine : ℕ
 answerLine = 2 * answerRoom + 1
 
--- the event call of a frame on a zero answer memory, which gives so many bytes of answer
+-- the event call of a frame on a zero answer memory gives `size` bytes of answer
 abbrev pub Gives : Memories → List ℕ → Memories → List ℕ → ℕ → Type 0
 Gives m frame m′ answer size = Promise m (host.event (zeros answerRoom) frame) (host.answer size answer) m′
 
--- an event call of the line's frame, whose answer stands as a line from byte `used` of the output on and ends before byte r; the rest of the output is as it was
+-- an event call of the line's frame: its answer is the line of the output from byte `used` to before byte r; the rest of the output is as it was
 pub record Asked (m : Memories) (line out : List ℕ) (m′ : Memories) (out′ : List ℕ) (used r : ℕ) : Type 0 where
   pub answer : List ℕ
   pub size : ℕ

@@ -1,12 +1,12 @@
-// A line of hexadecimal digits, asked of the desk and answered by a line.
+// Sends a line of hexadecimal digits to the desk, and writes the answer as a line.
 ghost use Prim.Native.Nat.{_+_, _≤_, _<_};
 ghost use lib.ListN.{length};
 ghost use Rattle.lines.specs.Asked.{Asked, answerLine};
-ghost use Rattle.memory.specs.Memories.{memories};
+ghost use Rattle.memory.specs.Memories.{was, left};
 use kinds::limits::ANSWER_ROOM;
 use kinds::limits::LINE_BYTES;
 
-// The answer to a line, which is here without its LF, as a line at `used` of the output; where that ends.
+// Answers a line, given without its LF: writes the answer as a line at `used` of the output, and gives the place after it.
 pub fn answer_line(
     segment: &mut [u8],
     blocks: &mut [u8],
@@ -17,7 +17,7 @@ pub fn answer_line(
 ) -> usize
     requires { ⌜ used + answerLine ≤ length (now out) ⌝ }
     ensures bound { λ r. ⌜ (used < r) × (r ≤ used + answerLine) ⌝ }
-    ensures asked { λ r. ⌜ Asked (memories (now (segment .entry)) (now (blocks .entry)) (now (buffers .entry))) (now (line .entry)) (now (out .entry)) (memories (now (segment .exit)) (now (blocks .exit)) (now (buffers .exit))) (now (out .exit)) used r ⌝ }
+    ensures asked { λ r. ⌜ Asked (was segment blocks buffers) (now (line .entry)) (now (out .entry)) (left segment blocks buffers) (now (out .exit)) used r ⌝ }
 {
     let mut frame = [0u8; LINE_BYTES];
     let mut answer = [0u8; ANSWER_ROOM];

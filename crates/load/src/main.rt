@@ -1,5 +1,4 @@
-// load FILE SHEET < SESSION: FILE of a fresh desk is loaded from SHEET; then the frames of standard input are answered as the event program answers
-// them.
+// load FILE SHEET < SESSION: loads FILE of a fresh desk from SHEET, then answers the frames of standard input as the event program does.
 use arguments::NO_FILE;
 use arguments::TEXT_BYTES;
 use arguments::refused;

@@ -83,7 +83,7 @@ module _ (d : Desk) (f : ℕ) (t : List ℕ) where
       file (yes h) = stands h (fileOf d f) refl
       file (no h) = inr (omega (arith, load-high (omega arith)))
 
--- it is what the judge says, on each way out
+-- the refusal number is what the judge says, on each way out
 module _ (m : Memories) (f : ℕ) (t : List ℕ) where
   abbrev pub Judges : ℕ → Type 0
   Judges r = (v : Option Standing) → Seen m v → r ≡ replyStatus (replyOf v (load f t))

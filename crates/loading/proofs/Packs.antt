@@ -1,4 +1,4 @@
--- In the midst of packing: so many frames of the text are left, and with their records put too the store in the share is the whole.
+-- The midst of packing: `left` frames of the text are left, and with their records put too the store in the share is the whole.
 use Prim.Native.Nat.{ℕ, _+_, _-_, _*_, _≤_, _<_}
 use mathlib.Core.Bool.{true}
 use mathlib.Core.Path.{_≡_, refl, sym, ap, subst, _∙_}
@@ -13,6 +13,7 @@ use Rattle.rules.specs.Limits.{files, shareBytes, sheetLineBytes}
 use Rattle.rules.specs.State.{Rec, Geo, Store}
 use Rattle.rules.specs.Geometry.{capacity}
 use Rattle.rules.specs.Store.{used, recordWords, emptyStore, put, putAll}
+use Rattle.rules.specs.Memories.{shareAt}
 use Rattle.shares.specs.Holds.{Holds}
 use Rattle.shares.proofs.Image.{recordWords-most}
 use Rattle.shares.proofs.Holds.{holds-empty}
@@ -24,7 +25,7 @@ use Rattle.ring.specs.declared.Ring.{Ring}
 use Rattle.ring.specs.Ring as ring
 use Rattle.ring.specs.Ring.{ringOf}
 use Rattle.blocks.specs.Writing.{Ready, inscribed}
-use Rattle.blocks.specs.Memory.{blocksBytes, shareAt}
+use Rattle.blocks.specs.Memory.{blocksBytes}
 use Rattle.ring.proofs.Stores.{ring-put}
 use Rattle.blocks.proofs.writing.Stores.{ready, inscribed-put}
 use Rattle.reader.specs.declared.Next.{Next}
@@ -61,7 +62,7 @@ module _ {g : Geo} {whole : Store} {f : ℕ} {start t : List ℕ} {at left : ℕ
       → Handed (g .words) t frame at left n
   packs-handed zs frame n more e z k l = handed (g .words) t zs frame at left n more e z (omega arith) (P .good)
 
-  -- its record is put
+  -- the record of the frame is put
   module _ (frame : List ℕ) (n : Next) (H : Handed (g .words) t frame at left n) (more : 0 < left) where
     abbrev rec : Rec
     rec = recIn frame (n .size)
@@ -106,7 +107,7 @@ module _ {g : Geo} {whole : Store} {f : ℕ} {start t : List ℕ} {at left : ℕ
   pub packs-blocks : left ≤ 0 → blocks ≡ sets start (shareBytes * f) (whole .share)
   packs-blocks z = P .share ∙ ap (λ (s : Store). sets start (shareBytes * f) (s .share)) (packs-all z)
 
--- the store with the n records from a cursor on
+-- the store with the n records starting at a cursor
 abbrev pub wholeOf : Geo → List ℕ → ℕ → ℕ → Store
 wholeOf g t at n = putAll g (recsFrom t at n) emptyStore
 

@@ -15,7 +15,7 @@ use Rattle.memory.specs.Image.{fileWords}
 abbrev pub ringOfHead : Head → Ring
 ringOfHead h = record { factor = h .factor; blocks = h .blocks; block = 0; spent = 0; held = 0 }
 
--- file f's row, share and record buffers are those of b, which has no accessor
+-- the memories m, but with the row, share and record buffers of b, which has no accessor, as those of file f
 unfoldable pub laidOut : ℕ → Built → Memories → Memories
 laidOut f b m =
     record {

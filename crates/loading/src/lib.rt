@@ -1,4 +1,4 @@
-// Load: a file that is not built is built from a sheet's text. What can be refused is found out first, on shared memory.
+// Load: builds a file that is not built from a sheet's text. Judging comes first, on shared memory.
 ghost use mathlib.Core.Path.{_≡_};
 ghost use mathlib.Core.Option.{Option, some};
 ghost use Prim.Native.Nat.{_*_, _<_};
@@ -12,7 +12,7 @@ ghost use Rattle.midst.specs.Outcome.{replyStatus};
 ghost use Rattle.promises.specs.Promise.{status, Standing, Seen, replyOf, Promise};
 ghost use Rattle.promises.specs.Promise as host;
 ghost use Rattle.loading.specs.LaidOut.{laidOut};
-ghost use Rattle.memory.specs.Memories.{memories};
+ghost use Rattle.memory.specs.Memories.{was, left};
 
 mod packing;
 
@@ -26,9 +26,9 @@ use packing::pack;
 use reader::is_sheet;
 use sound::sound;
 
-// The status, 0 where load is not refused.
+// The status of a load: 0 if it is not refused.
 fn judge_load(segment: &[u8], blocks: &[u8], buffers: &[u8], file: usize, text: &[u8]) -> u8
-    ensures { λ r. ⌜ ((v : Option Standing) → Seen (memories (now (segment .entry)) (now (blocks .entry)) (now (buffers .entry))) v → r ≡ replyStatus (replyOf v (rules.load file (now («text» .entry))))) ⌝ }
+    ensures { λ r. ⌜ ((v : Option Standing) → Seen (was segment blocks buffers) v → r ≡ replyStatus (replyOf v (rules.load file (now («text» .entry))))) ⌝ }
 {
     if !sound(segment, blocks, buffers) {
         return refusals::UNSOUND;
@@ -45,11 +45,11 @@ fn judge_load(segment: &[u8], blocks: &[u8], buffers: &[u8], file: usize, text: 
     refusals::NONE
 }
 
-// File f becomes what the sheet says: "Build and load zero the share", and its buffers too, of which nothing is known before.
+// Makes file f what the sheet says. "Build and load zero the share"; the buffers are zeroed too, since nothing is known of them before.
 fn lay_out(segment: &mut [u8], blocks: &mut [u8], buffers: &mut [u8], f: usize, text: &[u8])
     requires { ⌜ (length (now segment) ≡ segmentBytes) × (length (now blocks) ≡ blocksBytes) × (length (now buffers) ≡ places * bufferBytes * files) × (f < files) ⌝ }
     requires { ⌜ ((s : Sheet) × (readSheet (now «text») ≡ some s)) ⌝ }
-    ensures { λ _. ⌜ ((s : Sheet) → readSheet (now («text» .entry)) ≡ some s → memories (now (segment .exit)) (now (blocks .exit)) (now (buffers .exit)) ≡ laidOut f (loaded s) (memories (now (segment .entry)) (now (blocks .entry)) (now (buffers .entry)))) ⌝ }
+    ensures { λ _. ⌜ ((s : Sheet) → readSheet (now («text» .entry)) ≡ some s → left segment blocks buffers ≡ laidOut f (loaded s) (was segment blocks buffers)) ⌝ }
 {
     let mut frame = [0u8; SHEET_LINE_BYTES];
     let file = pack(blocks, f, text, &mut frame);
@@ -57,7 +57,7 @@ fn lay_out(segment: &mut [u8], blocks: &mut [u8], buffers: &mut [u8], f: usize, 
     put_file(segment, f, file);
 }
 
-// A file that is not built is built from a sheet's text; the status.
+// Builds a file that is not built from a sheet's text, and gives the status.
 pub fn load(
     segment: &mut [u8],
     blocks: &mut [u8],
@@ -65,7 +65,7 @@ pub fn load(
     file: usize,
     text: &[u8],
 ) -> u8
-    ensures { λ r. ⌜ Promise (memories (now (segment .entry)) (now (blocks .entry)) (now (buffers .entry))) (host.load file (now («text» .entry))) (status r) (memories (now (segment .exit)) (now (blocks .exit)) (now (buffers .exit))) ⌝ }
+    ensures { λ r. ⌜ Promise (was segment blocks buffers) (host.load file (now («text» .entry))) (status r) (left segment blocks buffers) ⌝ }
 {
     let status = judge_load(segment, blocks, buffers, file, text);
     if status != 0 {

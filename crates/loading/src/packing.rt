@@ -18,14 +18,15 @@ ghost use lib.Seq.{sets};
 ghost use Rattle.words.specs.Word.{zeros};
 ghost use Rattle.rules.specs.Limits.{files, shareBytes, sheetLineBytes};
 ghost use Rattle.rules.specs.Sheet.{Sheet, readSheet, loaded};
+ghost use Rattle.rules.specs.Memories.{shareAt};
 ghost use Rattle.ring.specs.Ring as spec;
 ghost use Rattle.blocks.specs.Writing.{Ready, inscribed};
-ghost use Rattle.blocks.specs.Memory.{blocksBytes, shareAt};
+ghost use Rattle.blocks.specs.Memory.{blocksBytes};
 ghost use Rattle.reader.specs.Frames.{recIn};
 ghost use Rattle.midst.specs.File.{inHand};
 ghost use Rattle.loading.specs.LaidOut.{ringOfHead};
 
-// The empty ring of a sheet's head; file f's share is zeroed.
+// Zeroes file f's share, and gives the empty ring that a sheet's head describes.
 fn begin(blocks: &mut [u8], f: usize, head: Head) -> Ring
     requires { ⌜ (length (now blocks) ≡ blocksBytes) × (f < files) ⌝ }
     ensures { λ r. ⌜ (r ≡ ringOfHead head) × (now (blocks .exit) ≡ sets (now (blocks .entry)) (shareBytes * f) (zeros shareBytes)) ⌝ }
@@ -40,7 +41,7 @@ fn begin(blocks: &mut [u8], f: usize, head: Head) -> Ring
     }
 }
 
-// The record in the first bytes of `frame` is put behind the others of file f.
+// Puts the record in the first `size` bytes of `frame` after the others of file f, and gives the ring with it.
 fn put_frame(blocks: &mut [u8], f: usize, words: u16, ring: Ring, frame: &[u8], size: usize) -> Ring
     requires { ⌜ (length (now blocks) ≡ blocksBytes) × (f < files) × (4 ≤ size) × (size ≤ length (now frame)) × Ready words ring (shareAt f (now blocks)) (length (recIn (now frame) size .body)) ⌝ }
     ensures { λ r. ⌜ (r ≡ spec.put ring) × (now (blocks .exit) ≡ sets (now (blocks .entry)) (shareBytes * f) (inscribed words ring (recIn (now (frame .entry)) size) (shareAt f (now (blocks .entry))))) ⌝ }
@@ -53,7 +54,7 @@ fn put_frame(blocks: &mut [u8], f: usize, words: u16, ring: Ring, frame: &[u8], 
     behind
 }
 
-// All records of a sheet, packed into file f's share, and the file in hand. `frame` takes one frame after another: the head's first.
+// Packs all records of a sheet into file f's share, and gives the file in hand. `frame` takes one frame after another, the head's first.
 pub fn pack(blocks: &mut [u8], f: usize, text: &[u8], frame: &mut [u8]) -> File
     requires { ⌜ (length (now blocks) ≡ blocksBytes) × (f < files) × (sheetLineBytes ≤ length (now frame)) × ((s : Sheet) × (readSheet (now text) ≡ some s)) ⌝ }
     ensures { λ r. ⌜ ((s : Sheet) → readSheet (now («text» .entry)) ≡ some s → (r ≡ inHand (loaded s)) × (now (blocks .exit) ≡ sets (now (blocks .entry)) (shareBytes * f) (loaded s .store .share))) ⌝ }

@@ -13,6 +13,7 @@ use Rattle.rules.specs.Reply.{leaves}
 use Rattle.rules.specs.Look.{oldest, lookFile}
 use Rattle.rules.specs.Desk.{Desk, fileOf}
 use Rattle.rules.specs.Allocation.{Alloc}
+use Rattle.rules.specs.Memories.{shareAt}
 use Rattle.shares.specs.Back.{recAt}
 use Rattle.shares.specs.Places.{placeOf}
 use Rattle.laws.proofs.Room.{good-sized}
@@ -24,10 +25,8 @@ use Rattle.ring.specs.Ring.{geo}
 use Rattle.ring.specs.Held.{Held}
 use Rattle.records.specs.Reading.{Readable, headerOf}
 use Rattle.records.specs.Fetch.{oldestOf}
-use Rattle.blocks.specs.Memory as memory
 use Rattle.ring.proofs.Held.{held-long}
 use Rattle.memory.specs.Memories.{memories}
-use Rattle.memory.specs.Stands.{shareAt}
 use Rattle.memory.specs.Fine.{StandsFor}
 use Rattle.midst.specs.declared.File as hand
 use Rattle.midst.specs.File.{fileOfRow}
@@ -40,7 +39,7 @@ use Rattle.looking.specs.declared.finding.Shown.the-variants.{Refused, B
 use Rattle.looking.specs.Shown.{partShown, statusShown, Inside, OfFile, Finds}
 use Rattle.looking.proofs.Oldest.{oldest-place, oldest-some, oldest-none}
 
-module _ (xs blocks : List ℕ) (f : ℕ) (x : hand.File) (ys : List ℕ) (row : x ≡ fileOfRow (fileAt xs f)) (own : ys ≡ memory.shareAt f blocks) where
+module _ (xs blocks : List ℕ) (f : ℕ) (x : hand.File) (ys : List ℕ) (row : x ≡ fileOfRow (fileAt xs f)) (own : ys ≡ shareAt f blocks) where
   -- what the search asks
   pub file-asks : FileStands xs blocks f → Held (x .words) (x .ring) ys
   file-asks P = held-file (P .stands) f (P .file) (P .b) (P .is) x ys row own
@@ -53,16 +52,15 @@ module _ (xs blocks : List ℕ) (f : ℕ) (x : hand.File) (ys : List ℕ) (row :
       omega (arith, n, k .low, k .inside, held-long _ _ _ (file-asks P))
 
   module _ {buffers : List ℕ} {d : Desk} {s : Alloc} (S : StandsFor (memories xs blocks buffers) d s) (h : f < files) (b : Built) (is : fileOf d f ≡ built b) where
-    -- it was made in the file's own store
+    -- the search was made in the file's own store
     searched : (z : Found) → z ≡ oldestOf (geo (x .words) (x .ring)) ys (x .ring .block) (x .ring .spent) (x .ring .held)
         → oldestOf (b .geo) (b .store .share) (b .store .block) (b .store .spent) (length (b .store .recs)) ≡ z
-    unfolding shareAt
     searched z e = let M = mid-begin S f b h is in sym (rw (row ∙ M .row, own ∙ M .share) at e)
 
     -- a data record at q of the share, or none
     at-part : (q : ℕ) → oldestOf (geo (x .words) (x .ring)) ys (x .ring .block) (x .ring .spent) (x .ring .held) ≡ At q
         → (ofFile f b ≡ ofBlocks (shareBytes * f + q + 6) (length (recAt ys q .body))) × (replyStatus (lookFile b .reply) ≡ 0)
-    unfolding shareAt ofFile lookFile leaves replyStatus
+    unfolding ofFile lookFile leaves replyStatus
     at-part q e =
         let M = mid-begin S f b h is in
         let o = good-sized (b .geo) (M .good .room .geo) in

@@ -8,8 +8,7 @@ use lib.Dec.{eqb}
 use lib.ListN.{length, take, drop}
 use lib.Seq.{take-take, drop-drop}
 use Rattle.rules.specs.Limits.{files, shareBytes, bufferBytes}
-use Rattle.rules.specs.State.{Rec, Req, idle, reading, writing, readDone, writeDone, Acc, Built, built}
-use Rattle.rules.specs.Requests.{accAt}
+use Rattle.rules.specs.State.{Rec, Req, idle, reading, writing, readDone, writeDone, Built, built}
 use Rattle.rules.specs.Memories.{lies}
 use Rattle.rules.specs.Reply.{leaves}
 use Rattle.rules.specs.Look.{oldest, lookFile, lookReq}
@@ -21,9 +20,9 @@ use Rattle.laws.specs.Bounds.{Bounded}
 use Rattle.laws.proofs.Bounds.{bounds-at}
 use Rattle.laws.proofs.Room.{good-sized}
 use Rattle.memory.specs.Memories.{Memories}
-use Rattle.memory.specs.Stands.{shareAt}
 use Rattle.memory.specs.Fine.{StandsFor}
 use Rattle.midst.proofs.Begins.{mid-begin}
+use Rattle.transfers.proofs.Named.{Named, begin-mid}
 use Rattle.transfers.proofs.Ports.{taken}
 use Rattle.accessors.specs.declared.Accessor.{Accessor}
 use Rattle.accessors.specs.Accessors.{accessorOf}
@@ -32,7 +31,7 @@ use Rattle.promises.specs.Parts.{bytesOf, before, ofFile, ofReq, partOn, partOf
 use Rattle.looking.proofs.Oldest.{oldest-body}
 use Rattle.looking.proofs.Looked.{Refuses, Looked, refused, writer, reader, looked}
 
--- so many bytes of a part, from a place in it on
+-- n bytes of a part, starting at a place in it
 inner : (n q k : ℕ) (l : List ℕ) → q + n ≤ k → take n (drop q (take k l)) ≡ take n (drop q l)
 inner n zero k l h = take-take n k l (omega arith)
 inner n (suc q) zero l h = absurd (omega arith)
@@ -46,7 +45,7 @@ module _ {m : Memories} {d : Desk} {s : Alloc} (S : StandsFor m d s) where
   module _ (f : ℕ) (h : f < files) (b : Built) (is : fileOf d f ≡ built b) where
     -- the oldest data record
     file-fits : bytesOf (ofFile f b) (m .blocks) (m .buffers) ≡ replyBytes (lookFile b .reply)
-    unfolding bytesOf ofFile lookFile leaves replyBytes shareAt
+    unfolding bytesOf ofFile lookFile leaves replyBytes
     file-fits = go (oldest (b .store .recs)) refl
       where
         go : (o : Option Rec) → oldest (b .store .recs) ≡ o → bytesOf (ofFile f b) (m .blocks) (m .buffers) ≡ replyBytes (lookFile b .reply)
@@ -58,19 +57,23 @@ module _ {m : Memories} {d : Desk} {s : Alloc} (S : StandsFor m d s) where
             rw (ofFile, lookFile, e)
             (within (length (r .body)) (shareBytes * f) q shareBytes (m .blocks) (k .0) ∙ (ap (λ (ys : List ℕ). take (length (r .body)) (drop q ys)) (M .share) ∙ k .1))
 
-    -- what lies in a reader's buffer
-    req-fits : (p : ℕ) (a : Acc) → accAt b p ≡ some a → (q : Req) → a .req ≡ q → bytesOf (ofReq f p q b) (m .blocks) (m .buffers) ≡ replyBytes (lookReq q b .reply)
+  -- what lies in a reader's buffer
+  module _ {f p : ℕ} (N : Named d f p) where
+    abbrev of-file : bytesOf (ofFile f (N .b)) (m .blocks) (m .buffers) ≡ replyBytes (lookFile (N .b) .reply)
+    of-file = file-fits f (N .file) (N .b) (N .stands)
+
+    req-fits : (q : Req) → N .a .req ≡ q → bytesOf (ofReq f p q (N .b)) (m .blocks) (m .buffers) ≡ replyBytes (lookReq q (N .b) .reply)
     unfolding bytesOf ofReq lookReq leaves replyBytes lies Bounded
-    req-fits p a at idle e = file-fits
-    req-fits p a at (reading q) e = file-fits
-    req-fits p a at (writing q) e = file-fits
-    req-fits p a at (readDone q) e =
+    req-fits idle e = of-file
+    req-fits (reading q) e = of-file
+    req-fits (writing q) e = of-file
+    req-fits (readDone q) e =
         by-cases (eqb (q .status) 0)
         (λ z. rw (ofReq, lookReq, z)
-        (sym (take-take (length (q .bytes)) bufferBytes (drop (bufferBytes * placeOf f p) (m .buffers)) (bounds-at p a (readDone q) b at e (mid-begin S f b h is .good .bounds) .0))
-        ∙ taken S f p h b is a at (q .bytes) (ap lies e)))
-        (λ z. rw (ofReq, lookReq, z) file-fits)
-    req-fits p a at (writeDone q) e = file-fits
+        (sym (take-take (length (q .bytes)) bufferBytes (drop (bufferBytes * placeOf f p) (m .buffers)) (bounds-at p (N .a) (readDone q) (N .b) (N .at) e (begin-mid S N refl .good .bounds) .0))
+        ∙ taken S N (q .bytes) (ap lies e)))
+        (λ z. rw (ofReq, lookReq, z) of-file)
+    req-fits (writeDone q) e = of-file
 
   -- whoever looks
   pub fits : (f p : ℕ) → bytesOf (partOn d f p) (m .blocks) (m .buffers) ≡ replyBytes (respond d (look f p) .reply)
@@ -83,9 +86,9 @@ module _ {m : Memories} {d : Desk} {s : Alloc} (S : StandsFor m d s) where
       go : (x : Accessor) → Looked d f p x → bytesOf (partOn d f p) (m .blocks) (m .buffers) ≡ replyBytes (respond d (look f p) .reply)
       go x (refused n R) = none-shown n R
       go x (writer w q R) = none-shown 34 R
-      go x (reader w q R) = rw (R .part, R .reply) (req-fits f (R .file) (R .b) (R .is) p (R .a) (R .at) (R .a .req) refl)
+      go x (reader w q R) = rw (R .part, R .reply) (req-fits (R .named) (R .named .a .req) refl)
 
--- and whatever the memories are seen as
+-- what is shown fits, whatever the memories are seen as
 pub seen-fits : (m : Memories) (v : Option Standing) → Seen m v → (f p : ℕ)
     → bytesOf (partOf v f p) (m .blocks) (m .buffers) ≡ replyBytes (replyOf v (look f p))
 unfolding bytesOf partOn partOf replyOf replyBytes

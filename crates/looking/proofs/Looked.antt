@@ -1,4 +1,4 @@
--- What look comes to on a desk, by the accessor that it names: refused, or shown to a reader.
+-- What look gives on a desk, by the accessor that it names: refused, or shown to a reader.
 use Prim.Native.Nat.{ℕ, _+_, _<_}
 use mathlib.Core.Path.{_≡_, refl, ap, _∙_}
 use mathlib.Core.Bool.{Bool, true, false}
@@ -23,6 +23,7 @@ use Rattle.accessors.specs.Outstanding.{outstandingOf}
 use Rattle.accessors.specs.Sides.{sideOf}
 use Rattle.accessors.specs.Accessors.{accessorIn, accessorOn, accessorOf}
 use Rattle.occurrences.specs.Count.{bit}
+use Rattle.transfers.proofs.Named.{Named}
 use Rattle.promises.specs.Parts.{nothing, ofReq, ofReader, partOn}
 
 -- refused with n
@@ -32,15 +33,11 @@ pub record Refuses (d : Desk) (f p n : ℕ) : Type 0 where
 
 -- an open reader
 pub record Reads (d : Desk) (f p : ℕ) (q : Outstanding) : Type 0 where
-  pub file : f < files
-  pub b : Built
-  pub is : fileOf d f ≡ built b
-  pub a : Acc
-  pub at : accAt b p ≡ some a
-  pub side : a .writer ≡ false
-  pub request : outstandingOf (a .req) ≡ q
-  pub part : partOn d f p ≡ ofReq f p (a .req) b
-  pub reply : respond d (look f p) .reply ≡ lookReq (a .req) b .reply
+  pub named : Named d f p
+  pub side : named .a .writer ≡ false
+  pub request : outstandingOf (named .a .req) ≡ q
+  pub part : partOn d f p ≡ ofReq f p (named .a .req) (named .b)
+  pub reply : respond d (look f p) .reply ≡ lookReq (named .a .req) (named .b) .reply
 
 -- by the accessor that f and p name; 34 to a writer
 pub data Looked (d : Desk) (f p : ℕ) : Accessor → Type 0 where
@@ -59,11 +56,7 @@ module _ (d : Desk) (f p : ℕ) where
       go true j = rw j (writer (b .geo .words) (outstandingOf (a .req)) (record { part = e ∙ rw (ofReader, i, j); reply = k ∙ rw (onAcc, i, looking.look, j) }))
       go false j =
           rw j (reader (b .geo .words) (outstandingOf (a .req)) (record {
-            file = h;
-            b = b;
-            is = is;
-            a = a;
-            at = i;
+            named = record { file = h; b = b; stands = is; a = a; at = i };
             side = j;
             request = refl;
             part = e ∙ rw (ofReader, i, j);

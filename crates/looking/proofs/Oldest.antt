@@ -25,7 +25,7 @@ use Rattle.records.proofs.reading.Stores.{legible, found-oldest}
 use Rattle.records.proofs.fetch.Search.{at-same, at-none}
 use Rattle.promises.specs.Parts.{before}
 
--- it is one of the records
+-- the oldest data record is one of the records
 before-low : (l : List Rec) (r : Rec) → oldest l ≡ some r → before l < length l
 unfolding oldest before
 before-low [] r e = absurd (false≢true cc)
@@ -38,7 +38,7 @@ module _ (g : Geo) (s : Store) (o : Sized g) (h : Holds g s) where
   abbrev xs : List ℕ
   xs = s .share
 
-  -- of the records from the i-th held on
+  -- the oldest data record among those starting at the i-th held
   place-from : (l : List Rec) (i : ℕ) → drop i (s .recs) ≡ l → (q : ℕ) → oldestOf g (s .share) (s .block) (s .spent + i) (length l) ≡ At q
       → q ≡ placeOf g (s .share) (s .block) (s .spent + (i + before l))
   unfolding oldestOf before recAt
@@ -59,7 +59,7 @@ module _ (g : Geo) (s : Store) (o : Sized g) (h : Holds g s) where
       let u : i + 1 + before l ≡ i + suc (before l) = omega arith in
       place-from l (i + 1) c q w ∙ ap (λ (m : ℕ). placeOf g xs (s .block) (s .spent + m)) (u ∙ ap (λ (m : ℕ). i + m) (sym (pick-false (eqb (r .typ) 0) _ _ z))))
 
-  -- it has so many records before it, those that are spent with them
+  -- the place of the oldest data record: the spent records and those before it come first
   pub oldest-place : (q : ℕ) → oldestOf g (s .share) (s .block) (s .spent) (length (s .recs)) ≡ At q → q ≡ placeOf g (s .share) (s .block) (s .spent + before (s .recs))
   oldest-place q k =
       let z : s .spent + 0 ≡ s .spent = omega arith in
@@ -75,7 +75,7 @@ module _ (g : Geo) (s : Store) (o : Sized g) (h : Holds g s) where
   unfolding found
   oldest-none k = sym (found-oldest g s o h) ∙ ap (found xs) k
 
-  -- and stands there
+  -- the oldest data record stands at its place
   pub oldest-stands : (r : Rec) → oldest (s .recs) ≡ some r → recAt (s .share) (placeOf g (s .share) (s .block) (s .spent + before (s .recs))) ≡ r
   unfolding found
   oldest-stands r e = go (oldestOf g xs (s .block) (s .spent) (length (s .recs))) refl (found-oldest g s o h ∙ e)
@@ -85,7 +85,7 @@ module _ (g : Geo) (s : Store) (o : Sized g) (h : Holds g s) where
       go (At q) k w = ap (recAt xs) (sym (oldest-place q k)) ∙ cc
       go Nothing k w = absurd (false≢true cc)
 
-  -- with its data behind three words
+  -- the data of the oldest data record lie after three words
   pub oldest-body : (r : Rec) → oldest (s .recs) ≡ some r → let q : ℕ = placeOf g (s .share) (s .block) (s .spent + before (s .recs)) in
       (q + 6 + length (r .body) ≤ shareBytes) × (take (length (r .body)) (drop (q + 6) (s .share)) ≡ r .body)
   unfolding recAt

@@ -7,7 +7,7 @@ use mathlib.Core.Option.{Option}
 use lib.ListN.{length, take, drop}
 use Rattle.rules.specs.Desk.{look, replyBytes}
 use Rattle.words.specs.Word.{Bytes}
-use Rattle.midst.specs.Outcome.{replyStatus}
+use Rattle.midst.specs.Outcome.{replyStatus, SoundBlocks}
 use Rattle.sound.specs.Sound.{soundly}
 use Rattle.decision.proofs.desk.Both.{sound-stands}
 use Rattle.promises.specs.Promise.{Standing, Seen, replyOf}
@@ -16,7 +16,7 @@ use Rattle.promises.proofs.Seen.{seen-none, seen-some}
 use Rattle.words.proofs.Parts.{span}
 use Rattle.looking.specs.declared.finding.Shown.{Shown}
 use Rattle.looking.specs.declared.finding.Shown.the-variants.{Refused, Block, Buffer}
-use Rattle.looking.specs.Shown.{partShown, statusShown, Inside, Tells, OfReader, Finds, Stood}
+use Rattle.looking.specs.Shown.{partShown, statusShown, Inside, Tells, OfReader, Finds}
 use Rattle.looking.proofs.Fits.{seen-fits}
 use Rattle.memory.specs.Memories.{Memories}
 
@@ -24,7 +24,7 @@ use Rattle.memory.specs.Memories.{Memories}
 abbrev pub Shows : Memories → ℕ → ℕ → Shown → Type 0
 Shows m f p x = (v : Option Standing) → Seen m v → Tells (partOf v f p) (replyOf v (look f p)) x
 
-pub sound-stood : (m : Memories) → Bytes (m .segment) → Bytes (m .blocks) → Bytes (m .buffers) → soundly m ≡ true → Stood (m .segment) (m .blocks)
+pub sound-stood : (m : Memories) → Bytes (m .segment) → Bytes (m .blocks) → Bytes (m .buffers) → soundly m ≡ true → SoundBlocks (m .segment) (m .blocks)
 sound-stood m bs bb bf e = (m .buffers, sound-stands m bs bb bf e)
 
 module _ (m : Memories) (f p : ℕ) where
@@ -65,7 +65,7 @@ module _ (blocks buffers : List ℕ) (x : Shown) where
   unfolding partShown bytesOf
   buffer-part at size e = rw (e, span at size)
 
--- they are what look promises, and so is the status
+-- the parts are what look promises, and so is the status
 module _ (m : Memories) (f p : ℕ) (x : Shown) (F : Shows m f p x) where
   pub given : (ys : List ℕ) → ys ≡ bytesOf (partShown x) (m .blocks) (m .buffers)
       → ((v : Option Standing) → Seen m v → ys ≡ bytesOf (partOf v f p) (m .blocks) (m .buffers))

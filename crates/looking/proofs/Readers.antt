@@ -16,15 +16,15 @@ use Rattle.laws.specs.Outstanding.{uncollected}
 use Rattle.laws.specs.Sides.{Fitting}
 use Rattle.laws.specs.Bounds.{Bounded}
 use Rattle.laws.proofs.Bounds.{bounds-at}
+use Rattle.laws.proofs.Happenings.{place-of-desk}
 use Rattle.segment.specs.declared.Entry.{Entry}
 use Rattle.segment.specs.Layout.{replyPort}
 use Rattle.segment.specs.Table.{nth}
-use Rattle.segment.specs.Fields.{entryOf, entryAt}
+use Rattle.segment.specs.Fields.{entryWords, entryOf, entryAt}
 use Rattle.memory.specs.Memories.{memories}
 use Rattle.memory.specs.Image.{reqWords}
 use Rattle.memory.specs.Fine.{StandsFor}
-use Rattle.midst.specs.Outcome.{replyStatus}
-use Rattle.midst.proofs.Lists.{place-under}
+use Rattle.midst.specs.Outcome.{replyStatus, SoundBlocks}
 use Rattle.kinds.specs.declared.Outstanding.{Outstanding}
 use Rattle.kinds.specs.declared.Outstanding.the-variants.{Completed}
 use Rattle.accessors.specs.declared.Accessor.{Accessor}
@@ -33,13 +33,14 @@ use Rattle.accessors.specs.Outstanding.{outstandingOf}
 use Rattle.accessors.specs.Accessors.{accessorAt, accessorOf}
 use Rattle.accessors.proofs.Names.{accessor-is}
 use Rattle.accessors.proofs.Waits.{fine-at}
+use Rattle.transfers.proofs.Named.{Named}
 use Rattle.transfers.proofs.Fits.{Fit, fit}
 use Rattle.transfers.proofs.Ports.{port-full, port-entry}
 use Rattle.midst.specs.FileStands.{FileStands}
 use Rattle.promises.specs.Parts.{ofBuffers, ofFile, ofReq}
 use Rattle.looking.specs.declared.finding.Shown.{Shown}
 use Rattle.looking.specs.declared.finding.Shown.the-variants as shown
-use Rattle.looking.specs.Shown.{partShown, statusShown, Inside, OfFile, OfReader, Finds, Stood, Opens}
+use Rattle.looking.specs.Shown.{partShown, statusShown, Inside, OfFile, OfReader, Finds, Opens}
 use Rattle.looking.proofs.Looked.{Refuses, Reads, Looked, refused, writer, reader, looked}
 
 -- the accessor is known
@@ -73,7 +74,7 @@ module _ (xs blocks : List ℕ) (f p : ℕ) where
     tells = λ buffers d s S. refuses-tells d f p n (as-refused d f p (accessorOf d f p) n (sym (e ∙ accessor-is S f p) ∙ k) (looked d f p));
   }
 
-  pub opens : (x : Accessor) → x ≡ accessorAt xs f p → Stood xs blocks → (w side : ℕ) (q : Outstanding) → x ≡ Open w side q → Opens xs blocks f p side q
+  pub opens : (x : Accessor) → x ≡ accessorAt xs f p → SoundBlocks xs blocks → (w side : ℕ) (q : Outstanding) → x ≡ Open w side q → Opens xs blocks f p side q
   opens x e S w side q k = record { stood = S; words = w; named = sym e ∙ k }
 
 -- an open accessor
@@ -93,20 +94,20 @@ module _ {xs blocks : List ℕ} {f p side : ℕ} {q : Outstanding} (O : Opens xs
     reader-file =
         let S = O .stood .1 .2 in
         let R = reads S in
-        record { file = R .file; buffers = _; d = _; s = _; b = R .b; stands = S; is = R .is }
+        record { file = R .named .file; buffers = _; d = _; s = _; b = R .named .b; stands = S; is = R .named .stands }
 
     pub reader-fit : Fit (memories xs blocks (O .stood .0)) f p
-    reader-fit = let S = O .stood .1 .2 in let R = reads S in fit S f p (R .file) (R .b) (R .is) (R .a) (R .at)
+    reader-fit = let S = O .stood .1 .2 in fit S (reads S .named)
 
     -- whose read brought no record: that of the file is shown
     file-finds : (x : Shown) → ((buffers : List ℕ) (d : Desk) (s : Alloc) (S : StandsFor (memories xs blocks buffers) d s)
-        → (ofReq f p (reads S .a .req) (reads S .b) ≡ ofFile f (reads S .b)) × (lookReq (reads S .a .req) (reads S .b) ≡ lookFile (reads S .b)))
+        → (ofReq f p (reads S .named .a .req) (reads S .named .b) ≡ ofFile f (reads S .named .b)) × (lookReq (reads S .named .a .req) (reads S .named .b) ≡ lookFile (reads S .named .b)))
         → Finds (OfFile f) xs blocks x → Finds (OfReader f p) xs blocks x
     file-finds x same F = record {
       inside = F .inside;
       tells = λ buffers d s S.
           let R = reads S in
-          let t = F .tells buffers d s S (R .b) (R .is) in
+          let t = F .tells buffers d s S (R .named .b) (R .named .stands) in
           let e = same buffers d s S in
           record { shows = t .shows ∙ sym (R .part ∙ e .0); status = t .status ∙ sym (ap replyStatus (R .reply) ∙ ap (λ o. replyStatus (o .reply)) (e .1)) };
     }
@@ -123,7 +124,7 @@ not-done f p b (writeDone q) h = absurd (h refl)
 pub waiting-finds : {xs blocks : List ℕ} {f p side : ℕ} {q : Outstanding} → Opens xs blocks f p side q → (side ≡ 2 → ⊥) → (q ≡ Completed → ⊥) → (x : Shown)
     → Finds (OfFile f) xs blocks x → Finds (OfReader f p) xs blocks x
 waiting-finds {f = f} {p = p} O n h x F =
-    file-finds O n x (λ buffers d s S. let R = reads O n S in not-done f p (R .b) (R .a .req) (λ e. h (sym (R .request) ∙ e))) F
+    file-finds O n x (λ buffers d s S. let R = reads O n S in not-done f p (R .named .b) (R .named .a .req) (λ e. h (sym (R .request) ∙ e))) F
 
 -- a completed one of a reader is a read's
 done-read : (q : Req) → Fitting false q → outstandingOf q ≡ Completed → (x : Brought) × (q ≡ readDone x)
@@ -139,31 +140,32 @@ module _ {xs blocks : List ℕ} {f p side : ℕ} (O : Opens xs blocks f p side C
     abbrev R : Reads d f p Completed
     R = reads O n S
 
-    done : (x : Brought) × (R .a .req ≡ readDone x)
-    done = done-read (R .a .req) (subst (λ (w : Bool). Fitting w (R .a .req)) (R .side) (fine-at S f (R .file) (R .b) (R .is) .sides p (R .a) (R .at) .request)) (R .request)
+    abbrev N : Named d f p
+    N = R .named
 
-    ended : uncollected (R .a .req) ≡ 1
+    done : (x : Brought) × (N .a .req ≡ readDone x)
+    done = done-read (N .a .req) (subst (λ (w : Bool). Fitting w (N .a .req)) (R .side) (fine-at S f (N .file) (N .b) (N .stands) .sides p (N .a) (N .at) .request)) (R .request)
+
+    ended : uncollected (N .a .req) ≡ 1
     unfolding uncollected
     ended = ap uncollected (done .1)
 
     size-low : length (done .0 .bytes) ≤ bufferBytes
     unfolding Bounded
-    size-low = bounds-at p (R .a) (readDone (done .0)) (R .b) (R .at) (done .1) (fine-at S f (R .file) (R .b) (R .is) .bounds) .0
+    size-low = bounds-at p (N .a) (readDone (done .0)) (N .b) (N .at) (done .1) (fine-at S f (N .file) (N .b) (N .stands) .bounds) .0
 
   -- the entry at its reply port
   pub port-low : (e : ℕ) → e ≡ nth xs (replyPort (placeOf f p)) → e < entries
   port-low e port =
       let S = O .stood .1 .2 in
-      let r = reads O n S in
-      rw port (port-full S f p (r .file) (r .b) (r .is) (r .a) (r .at) (ended S))
+      rw port (port-full S (N S) (ended S))
 
   module _ (e : ℕ) (port : e ≡ nth xs (replyPort (placeOf f p))) (m : Entry) (entry : m ≡ entryAt xs e) where
     entry-is : {buffers : List ℕ} {d : Desk} {s : Alloc} (S : StandsFor (memories xs blocks buffers) d s) → (m .status ≡ done S .0 .status) × (m .size ≡ length (done S .0 .bytes))
-    unfolding entryOf reqWords
+    unfolding entryOf reqWords entryWords
     entry-is S =
-        let r = reads O n S in
         let k : m ≡ entryOf (reqWords (placeOf f p) (readDone (done S .0))) =
-        entry ∙ (ap (entryAt xs) port ∙ (port-entry S f p (r .file) (r .b) (r .is) (r .a) (r .at) (ended S) ∙ ap (λ (q : Req). entryOf (reqWords (placeOf f p) q)) (done S .1))) in
+        entry ∙ (ap (entryAt xs) port ∙ (port-entry S (N S) (ended S) ∙ ap (λ (q : Req). entryOf (reqWords (placeOf f p) q)) (done S .1))) in
         (ap (λ (t : Entry). t .status) k, ap (λ (t : Entry). t .size) k)
 
     -- the read brought a status alone
@@ -172,14 +174,14 @@ module _ {xs blocks : List ℕ} {f p side : ℕ} (O : Opens xs blocks f p side C
     ended-finds h x F = file-finds O n x (λ buffers d s S. same S) F
       where
         same : {buffers : List ℕ} {d : Desk} {s : Alloc} (S : StandsFor (memories xs blocks buffers) d s)
-            → (ofReq f p (reads O n S .a .req) (reads O n S .b) ≡ ofFile f (reads O n S .b)) × (lookReq (reads O n S .a .req) (reads O n S .b) ≡ lookFile (reads O n S .b))
+            → (ofReq f p (N S .a .req) (N S .b) ≡ ofFile f (N S .b)) × (lookReq (N S .a .req) (N S .b) ≡ lookFile (N S .b))
         same S = let z = ne-eqb (done S .0 .status) 0 (λ k. h (entry-is S .0 ∙ k)) in (rw (done S .1, ofReq, z), rw (done S .1, lookReq, z))
 
-    -- or a record
+    -- a completed read that brought a record shows it
     pub brought-finds : m .status ≡ 0 → Finds (OfReader f p) xs blocks (shown.Buffer (bufferBytes * placeOf f p) (m .size))
     unfolding Inside partShown statusShown ofReq lookReq leaves replyStatus
     brought-finds h = record {
-      inside = let S = O .stood .1 .2 in omega (arith, entry-is S .1, size-low S, place-under f p (reader-fit O n .file) (reader-fit O n .place));
+      inside = let S = O .stood .1 .2 in omega (arith, entry-is S .1, size-low S, place-of-desk f p (reader-fit O n .file) (reader-fit O n .place));
       tells = λ buffers d s S. tells S;
     }
       where

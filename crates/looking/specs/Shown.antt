@@ -1,4 +1,4 @@
--- What was found to be shown, and how a desk of the rules bears it out.
+-- What look was found to show, and that a desk of the rules shows the same.
 use Prim.Native.Nat.{ℕ, _+_, _≤_}
 use mathlib.Core.Path.{_≡_}
 use mathlib.Core.List.{List}
@@ -11,7 +11,7 @@ use Rattle.blocks.specs.Memory.{blocksBytes}
 use Rattle.buffers.specs.Buffer.{buffersBytes}
 use Rattle.memory.specs.Memories.{memories}
 use Rattle.memory.specs.Fine.{StandsFor}
-use Rattle.midst.specs.Outcome.{replyStatus, Sound}
+use Rattle.midst.specs.Outcome.{replyStatus, SoundBlocks}
 use Rattle.kinds.specs.declared.Outstanding.{Outstanding}
 use Rattle.accessors.specs.declared.Accessor.the-variants.{Open}
 use Rattle.accessors.specs.Accessors.{accessorAt}
@@ -30,39 +30,35 @@ statusShown (Refused n) = n
 statusShown (Block at size) = 0
 statusShown (Buffer at size) = 0
 
--- it lies within so many bytes of blocks, and of record buffers
+-- what is shown lies within the given numbers of bytes of blocks and of record buffers
 unfoldable pub Inside : ℕ → ℕ → Shown → Type 0
 Inside blocks buffers (Refused n) = Unit {0}
 Inside blocks buffers (Block at size) = at + size ≤ blocks
 Inside blocks buffers (Buffer at size) = at + size ≤ buffers
 
--- it is that part, with that reply's status
+-- what is shown is the given part, with the status of the given reply
 pub record Tells (part : Part) (r : Reply) (x : Shown) : Type 0 where
   pub shows : partShown x ≡ part
   pub status : statusShown x ≡ replyStatus r
 
--- so it is for file f of a desk, and for the reader that f and p name
+-- x is what look shows of file f of a desk; `OfReader`: of the reader that f and p name
 abbrev pub OfFile : ℕ → Desk → Shown → Type 0
 OfFile f d x = (b : Built) → fileOf d f ≡ built b → Tells (ofFile f b) (lookFile b .reply) x
 
 abbrev pub OfReader : ℕ → ℕ → Desk → Shown → Type 0
 OfReader f p d x = Tells (partOn d f p) (respond d (look f p) .reply) x
 
--- on every desk that the memories, with some buffers, stand for
+-- x is what look shows on every desk that segment and blocks stand for, with any buffers
 pub record Finds (Of : Desk → Shown → Type 0) (xs blocks : List ℕ) (x : Shown) : Type 0 where
   pub inside : Inside blocksBytes buffersBytes x
   pub tells : (buffers : List ℕ) (d : Desk) (s : Alloc) → StandsFor (memories xs blocks buffers) d s → Of d x
 
--- the memories, with some buffers, stand for a desk
-abbrev pub Stood : List ℕ → List ℕ → Type 0
-Stood xs blocks = (buffers : List ℕ) × Sound (memories xs blocks buffers)
-
--- and the accessor that f and p name is open, on that side and with that outstanding
+-- segment and blocks stand for a desk, and the accessor that f and p name is open, on the given side and with the given request
 pub record Opens (xs blocks : List ℕ) (f p side : ℕ) (request : Outstanding) : Type 0 where
-  pub stood : Stood xs blocks
+  pub stood : SoundBlocks xs blocks
   pub words : ℕ
   pub named : accessorAt xs f p ≡ Open words side request
 
--- a reader
+-- segment and blocks stand for a desk, and the reader that f and p name is open, with the given request
 abbrev pub ReaderOpens : List ℕ → List ℕ → ℕ → ℕ → Outstanding → Type 0
 ReaderOpens xs blocks f p request = (side : ℕ) × Opens xs blocks f p side request × (side ≡ 2 → ⊥)

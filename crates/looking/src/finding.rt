@@ -1,4 +1,4 @@
-// What look shows, found as numbers: a refusal, or where the bytes lie and how many there are.
+// Finds what look shows, as numbers: a refusal, or where the bytes lie and how many there are.
 use accessors::Accessor;
 use accessors::accessor_of;
 use kinds::Outstanding;
@@ -12,11 +12,12 @@ use ring::layout::RECORD_HEAD;
 use segment::layout;
 ghost use Rattle.kinds.specs.declared.Outstanding.the-variants.{Completed};
 ghost use Rattle.midst.specs.FileStands.{FileStands};
-ghost use Rattle.looking.specs.Shown.{OfFile, OfReader, Finds, Stood, Opens, ReaderOpens};
+ghost use Rattle.midst.specs.Outcome.{SoundBlocks};
+ghost use Rattle.looking.specs.Shown.{OfFile, OfReader, Finds, Opens, ReaderOpens};
 
 pub enum Shown {
     Refused(u8),
-    // so many bytes of the blocks, or of the record buffers, from a place on
+    // `size` bytes of the blocks, or of the record buffers, starting at `at`
     Block { at: usize, size: usize },
     Buffer { at: usize, size: usize },
 }
@@ -41,7 +42,7 @@ fn of_file(segment: &[u8], blocks: &[u8], f: usize) -> Shown
     }
 }
 
-// "the record lying in that reader's buffer as it will be answered"; where the read brought none, that of the file.
+// "the record lying in that reader's buffer as it will be answered"; if the read brought none, the file's oldest data record.
 fn of_completed(segment: &[u8], blocks: &[u8], f: usize, acc: usize) -> Shown
     requires { ⌜ ReaderOpens (now segment) (now blocks) f acc Completed ⌝ }
     ensures { λ r. ⌜ Finds (OfReader f acc) (now (segment .entry)) (now (blocks .entry)) r ⌝ }
@@ -58,7 +59,7 @@ fn of_completed(segment: &[u8], blocks: &[u8], f: usize, acc: usize) -> Shown
     }
 }
 
-// Of an open accessor.
+// What look shows to an open accessor.
 fn of_accessor(
     segment: &[u8],
     blocks: &[u8],
@@ -80,9 +81,9 @@ fn of_accessor(
     }
 }
 
-// Of the accessor that the call names.
+// What look shows to the accessor that the call names.
 pub fn find(segment: &[u8], blocks: &[u8], file: usize, reader: usize) -> Shown
-    requires { ⌜ Stood (now segment) (now blocks) ⌝ }
+    requires { ⌜ SoundBlocks (now segment) (now blocks) ⌝ }
     ensures { λ r. ⌜ Finds (OfReader file reader) (now (segment .entry)) (now (blocks .entry)) r ⌝ }
 {
     let named = accessor_of(segment, file, reader);

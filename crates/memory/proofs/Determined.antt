@@ -1,4 +1,4 @@
--- Desk and allocation determine the bytes of all three memories, but for those of files that are not built.
+-- Desk and allocation determine the bytes of all three memories, except for those of files that are not built.
 use Prim.Native.Nat.{ℕ}
 use mathlib.Core.Path.{_≡_, refl, sym, _∙_}
 use mathlib.Core.List.{List}

@@ -12,22 +12,22 @@ use lib.Seq.{sets, drop-drop, take-nil, take-take, length-take-le}
 use Rattle.rules.specs.Limits.{files, places, shareBytes, bufferBytes}
 use Rattle.rules.specs.State.{Acc, File}
 use Rattle.rules.specs.Desk.{Desk, fileOf, withFile}
-use Rattle.rules.specs.Memories.{parts, buffer, fileBuffers}
+use Rattle.rules.specs.Memories.{bufferAt, shareAt, parts, buffer, fileBuffers}
 use Rattle.laws.specs.EightFiles.{EightFiles}
 use Rattle.laws.proofs.EightFiles.{file-other, file-same}
 use Rattle.memory.specs.Memories.{Memories}
-use Rattle.memory.specs.Stands.{shareAt, buffersAt, bufferAt, FileBytes, Bodies}
+use Rattle.memory.specs.Stands.{buffersAt, FileBytes, Bodies}
 use Rattle.words.specs.Word.{Bytes}
 use Rattle.memory.proofs.Parts.{part, parts-all, part-parts, part-sets, part-sets-other}
 
 -- stores in the share of file f
 module _ (f a : ℕ) (vs x : List ℕ) (h : a + length vs ≤ shareBytes) where
   pub shareAt-sets : shareAt f (sets x (shareBytes * f + a) vs) ≡ sets (shareAt f x) a vs
-  unfolding shareAt part
+  unfolding part
   shareAt-sets = part-sets shareBytes f a vs x h
 
   pub shareAt-sets-other : (g : ℕ) → (g ≡ f → ⊥) → shareAt g (sets x (shareBytes * f + a) vs) ≡ shareAt g x
-  unfolding shareAt part
+  unfolding part
   shareAt-sets-other g d = part-sets-other shareBytes g (shareBytes * f + a) vs x (go (decLt f g))
     where
       go : Dec (f < g) → (shareBytes * f + a + length vs ≤ shareBytes * g) ⊎ (shareBytes * g + shareBytes ≤ shareBytes * f + a)
@@ -37,11 +37,11 @@ module _ (f a : ℕ) (vs x : List ℕ) (h : a + length vs ≤ shareBytes) where
 -- stores in the buffer of place i
 module _ (i a : ℕ) (vs x : List ℕ) (h : a + length vs ≤ bufferBytes) where
   pub bufferAt-sets : bufferAt i (sets x (bufferBytes * i + a) vs) ≡ sets (bufferAt i x) a vs
-  unfolding bufferAt part
+  unfolding part
   bufferAt-sets = part-sets bufferBytes i a vs x h
 
   pub bufferAt-sets-other : (j : ℕ) → (j ≡ i → ⊥) → bufferAt j (sets x (bufferBytes * i + a) vs) ≡ bufferAt j x
-  unfolding bufferAt part
+  unfolding part
   bufferAt-sets-other j d = part-sets-other bufferBytes j (bufferBytes * i + a) vs x (go (decLt i j))
     where
       go : Dec (i < j) → (bufferBytes * i + a + length vs ≤ bufferBytes * j) ⊎ (bufferBytes * j + bufferBytes ≤ bufferBytes * i + a)
@@ -65,7 +65,7 @@ abbrev pub fileBytes : ℕ
 fileBytes = places * bufferBytes
 
 buffersAt-part : (f p : ℕ) (x : List ℕ) → p < places → part bufferBytes p (buffersAt f x) ≡ bufferAt (8 * f + p) x
-unfolding part buffersAt bufferAt
+unfolding part buffersAt
 buffersAt-part f p x h =
     let m : ℕ = fileBytes - bufferBytes * p in
     let e : fileBytes ≡ bufferBytes * p + m = omega arith in

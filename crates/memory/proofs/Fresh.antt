@@ -24,7 +24,7 @@ use Rattle.rules.specs.Allocation.{upFrom, freshAlloc, queueOf, portOf, timerLi
 use Rattle.memory.specs.Image.{accOf, placeAcc, fileWords, placeWords, rowOf, rqOf, wqOf, listOf, queueWords, portWords, boxOf}
 use Rattle.laws.specs.Outstanding.{reqOf}
 use Rattle.laws.proofs.EightFiles.{fresh-file}
-use Rattle.memory.specs.Stands.{Segment, shareAt, buffersAt, FileBytes, Bodies, Stands}
+use Rattle.memory.specs.Stands.{Segment, buffersAt, FileBytes, Bodies, Stands}
 use Rattle.memory.specs.Covers.{Covers, Blank}
 use Rattle.memory.specs.Fresh.{table, freshLink, freshWord, freshSegment, freshBlocks, freshBuffers, freshMemories}
 use Rattle.memory.proofs.Image.{rowOf-file, rowOf-place, each-row, listOf-free, listOf-read, listOf-write, listOf-port, listOf-timers, boxOf-free, boxOf-read, boxOf-write, boxOf-port, boxOf-timers, each-list}
@@ -110,7 +110,7 @@ fresh-data e h = row-zero freshSegment (dataAt e) dataWords (λ j a b. fresh-zer
 fresh-row : (k n : ℕ) → fileRows ≤ k → k + n ≤ segmentWords → row freshSegment k n ≡ replicate n 0
 fresh-row k n a b = row-zero freshSegment k n (λ j c d. fresh-zero j (omega arith) (omega arith) (λ h _. omega arith))
 
--- the free list: n entries from e on
+-- the free list: n entries starting at e
 
 up-chain : (n e p : ℕ) → e + n ≡ entries → nth freshSegment p ≡ cond (ltb e entries) e nil → Chain freshSegment p (upFrom e n)
 unfolding upFrom Chain
@@ -227,7 +227,7 @@ part-zeros : (n at m : ℕ) → at + n ≤ m → take n (drop at (zeros m)) ≡ 
 part-zeros n at m h = rw (drop-zeros at m (m - at) (omega arith)) (take-zeros n (m - at) (omega arith))
 
 pub fresh-blank : Blank freshDesk freshMemories
-unfolding shareAt buffersAt freshBlocks freshBuffers
+unfolding buffersAt freshBlocks freshBuffers
 fresh-blank f h e = (
   part-zeros shareBytes (shareBytes * f) (shareBytes * files) (omega arith),
   part-zeros (places * bufferBytes) (places * bufferBytes * f) (places * bufferBytes * files) (omega arith),

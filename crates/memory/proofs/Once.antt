@@ -75,7 +75,7 @@ acc-at unbuilt p = go places p
     go (suc n) (suc q) = go n q
 acc-at (built b) p = refl
 
--- an allocation that agrees with the files, but for the rule itself
+-- an allocation that agrees with the files, except for the rule itself
 module _ (d : Desk) (s : Alloc) (long : length (s .held) ≡ files * places) (within : (i : ℕ) → files * places ≤ i → countT i (s .clock) ≡ 0)
     (agrees : (f : ℕ) → f < files → Agrees f s (accsOf (fileOf d f)) (timersOf (fileOf d f))) (Q : (f : ℕ) → f < files → OnFile Agree (fileOf d f)) (x : ℕ) where
   -- whether x is the entry of place i's request, or of its timer
@@ -188,7 +188,7 @@ module _ (d : Desk) (s : Alloc) (long : length (s .held) ≡ files * places) (wi
       ∙ sum-lists (λ l. count x (listOf d s l))
       ∙ omega (arith, ap (count x) (listOf-free d s), reads-count, writes-count, ports-count, timers-count, held-all)
 
--- of a desk and an allocation that agree, as they do after every run
+-- desk and allocation agree, as they do after every run
 module _ (d : Desk) (s : Alloc) (A : Agreed d s) (Q : (f : ℕ) → f < files → OnFile Agree (fileOf d f)) where
   pub agreed-once : Once d s
   agreed-once x = lists-taken d s (A .whole .long) (A .clock .within) (A .agrees) Q x ∙ A .whole .once x

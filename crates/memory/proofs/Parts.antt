@@ -1,4 +1,4 @@
--- A memory in parts of n bytes: it is its parts, one behind another, and a store changes the one that it falls in.
+-- A memory in parts of n bytes: it is its parts, one after another, and a store changes the one that it falls in.
 use Prim.Native.Nat.{ℕ, zero, suc, _+_, _*_, _-_, _≤_, _<_}
 use mathlib.Core.Path.{_≡_, refl, sym, ap, ap₂, _∙_}
 use mathlib.Core.List.{List, [], _∷_, _++_}
@@ -7,9 +7,10 @@ use native.Mathlib.Omega.{arith}
 use native.Mathlib.Nat.{add-suc, mul-suc, mul-zero}
 use lib.ListN.{length, set, take, drop, length-drop, take-append-drop}
 use lib.Seq.{sets, drop-drop, take-at, drop-at, length-take-le, take-set-le, take-set-lt, drop-set-lt, drop-set-add}
+use Rattle.words.proofs.Parts.{length-zero}
 use Rattle.rules.specs.Memories.{parts}
 
--- a run of stores behind the first k, before them, within them
+-- a run of stores after the first k, before them, within them
 
 drop-sets : (k a : ℕ) (vs xs : List ℕ) → drop k (sets xs (k + a) vs) ≡ sets (drop k xs) a vs
 drop-sets k a [] xs = refl
@@ -40,7 +41,7 @@ module _ (n : ℕ) where
   unfolding part
   first x = rw (mul-zero n)
 
-  -- behind the first part
+  -- the parts after the first
   part-rest : (f : ℕ) (x : List ℕ) → part f (drop n x) ≡ part (suc f) x
   unfolding part
   part-rest f x = let e : n + n * f ≡ n * suc f = omega (arith, mul-suc n f) in rw (drop-drop (n * f) n x, e)
@@ -50,11 +51,7 @@ module _ (n : ℕ) where
 
   pub parts-all : (m : ℕ) (x : List ℕ) (g : ℕ → List ℕ) → length x ≡ n * m → ((f : ℕ) → f < m → part f x ≡ g f) → x ≡ parts m g
   unfolding parts
-  parts-all zero x g e h = none x (e ∙ mul-zero n)
-    where
-      none : (l : List ℕ) → length l ≡ 0 → l ≡ []
-      none [] u = refl
-      none (v ∷ l) u = absurd (omega arith)
+  parts-all zero x g e h = length-zero x (e ∙ mul-zero n)
   parts-all (suc m) x g e h =
       sym (take-append-drop n x)
       ∙ ap₂ {C = List ℕ} (λ a b. a ++ b) (sym (first x) ∙ h 0 (omega arith))
@@ -63,7 +60,7 @@ module _ (n : ℕ) where
   pub parts-same : (m : ℕ) (x y : List ℕ) → length x ≡ n * m → length y ≡ n * m → ((f : ℕ) → f < m → part f x ≡ part f y) → x ≡ y
   parts-same m x y e k h = parts-all m x (λ f. part f y) e h ∙ sym (parts-all m y (λ f. part f y) k (λ f _. refl))
 
-  -- and back
+  -- part f of m parts put together is the f-th of them
   pub part-parts : (m : ℕ) (g : ℕ → List ℕ) → ((f : ℕ) → f < m → length (g f) ≡ n) → (f : ℕ) → f < m → part f (parts m g) ≡ g f
   unfolding parts
   part-parts zero g e f h = absurd (omega arith)

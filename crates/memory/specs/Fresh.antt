@@ -13,11 +13,11 @@ unfoldable pub table : ℕ → (ℕ → ℕ) → List ℕ
 table zero w = []
 table (suc n) w = word (w 0) ++ table n (λ k. w (suc k))
 
--- an entry's link leads to the next entry, the last one's nowhere
+-- the link of entry e: the next entry, or nil for the last
 unfoldable pub freshLink : ℕ → ℕ
 freshLink e = cond (ltb (suc e) entries) (suc e) nil
 
--- word k: "the free list in order of entry number", the other lists empty, all else zero
+-- word k of a fresh segment: "the free list in order of entry number", the other lists empty, all else zero
 unfoldable pub freshWord : ℕ → ℕ
 freshWord k =
     cond (ltb k readQueues) 0

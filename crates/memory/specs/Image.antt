@@ -1,4 +1,4 @@
--- What the words of the segment are for a desk of the rules and an allocation of entries.
+-- The words of the segment for a desk of the rules and an allocation of entries.
 use Prim.Native.Nat.{ℕ, _+_, _-_, _/_, _%_}
 use mathlib.Core.Bool.{cond}
 use mathlib.Core.List.{List, [], _∷_, map}
@@ -8,7 +8,7 @@ use lib.ListN.{length, replicate}
 use Rattle.occurrences.specs.Count.{bit}
 use Rattle.segment.specs.Layout.{readQueues, writeQueues, replyPorts, listCount, dataWords, fileWidth, placeWidth, rowCount}
 use Rattle.segment.specs.Layout as layout
-use Rattle.segment.specs.Fields.{spared}
+use Rattle.segment.specs.Fields.{entryWords, waitingRead, waitingWrite, completedRequest, runningTimer, spared}
 use Rattle.rules.specs.Limits.{files, places}
 use Rattle.rules.specs.State.{Req, idle, reading, writing, readDone, writeDone, Acc, Timer, File, unbuilt, built}
 use Rattle.rules.specs.Requests.{accAt}
@@ -20,21 +20,21 @@ unfoldable pub accOf : File → ℕ → Option Acc
 accOf unbuilt p = none
 accOf (built b) p = accAt b p
 
--- the place i of the desk
+-- the accessor at place i of the desk
 unfoldable pub placeAcc : Desk → ℕ → Option Acc
 placeAcc d i = accOf (fileOf d (i / places)) (i % places)
 
--- the data of entries: place, unit, limit, keep, status, log, size, seconds, and a word to spare
+-- the data of entries: place, unit, limit, keep, status, log, size, seconds, and a spare word
 
 unfoldable pub reqWords : ℕ → Req → List ℕ
 reqWords i idle = replicate dataWords 0
-reqWords i (reading q) = i ∷ bit (q .words) ∷ q .limit ∷ bit (q .keep) ∷ 0 ∷ 0 ∷ 0 ∷ 0 ∷ 0 ∷ []
-reqWords i (writing q) = i ∷ bit (q .words) ∷ 0 ∷ 0 ∷ 0 ∷ 0 ∷ length (q .bytes) ∷ 0 ∷ 0 ∷ []
-reqWords i (readDone q) = i ∷ 0 ∷ 0 ∷ 0 ∷ q .status ∷ q .log ∷ length (q .bytes) ∷ 0 ∷ 0 ∷ []
-reqWords i (writeDone q) = i ∷ 0 ∷ 0 ∷ 0 ∷ q .status ∷ q .log ∷ 0 ∷ 0 ∷ 0 ∷ []
+reqWords i (reading q) = entryWords (waitingRead i (bit (q .byWords)) (q .limit) (bit (q .keep)))
+reqWords i (writing q) = entryWords (waitingWrite i (bit (q .byWords)) (length (q .bytes)))
+reqWords i (readDone q) = entryWords (completedRequest i (q .status) (q .log) (length (q .bytes)))
+reqWords i (writeDone q) = entryWords (completedRequest i (q .status) (q .log) 0)
 
 unfoldable pub timerWords : Timer → List ℕ
-timerWords t = t .place ∷ 0 ∷ 0 ∷ 0 ∷ 0 ∷ 0 ∷ 0 ∷ t .left ∷ 0 ∷ []
+timerWords t = entryWords (runningTimer (t .place) (t .left))
 
 -- rows
 
@@ -62,7 +62,7 @@ unfoldable pub wqOf : File → List ℕ
 wqOf unbuilt = []
 wqOf (built b) = b .wq
 
--- of five things the one for list l: for the free list, a file's read queue, its write queue, a place's reply port, the timer list
+-- the one of five things that is for list l: for the free list, a file's read queue, its write queue, a place's reply port, the timer list
 unfoldable pub atList : {A : Type 0} → A → (ℕ → A) → (ℕ → A) → (ℕ → A) → A → ℕ → A
 atList free reads writes port timers l =
     cond (ltb l readQueues) free
@@ -93,7 +93,7 @@ boxOf d s l =
     (λ i. portWords i (reqOf (placeAcc d i)))
     (map timerWords (s .clock)) l
 
--- all lists, all contents, all rows, in order
+-- all lists, in order; `boxesOf`: all contents; `rowsOf`: all rows
 
 unfoldable pub listsOf : Desk → Alloc → List (List ℕ)
 listsOf d s = map (listOf d s) (upFrom 0 listCount)

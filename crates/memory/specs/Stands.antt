@@ -9,13 +9,13 @@ use Rattle.ports.specs.Lists.{Chain}
 use Rattle.rules.specs.Limits.{files, places, shareBytes, bufferBytes}
 use Rattle.rules.specs.State.{File, unbuilt, built}
 use Rattle.rules.specs.Desk.{Desk, fileOf}
-use Rattle.rules.specs.Memories.{fileBuffers}
+use Rattle.rules.specs.Memories.{shareAt, fileBuffers}
 use Rattle.rules.specs.Allocation.{Alloc}
 use Rattle.memory.specs.Memories.{Memories}
 use Rattle.memory.specs.Image.{listOf, boxOf, rowOf}
 use Rattle.words.specs.Word.{Bytes}
 
--- the segment: each list leads through its entries, these hold what they should, and each row is as it should be
+-- the segment stands for a desk and an allocation: each list leads through its entries, these hold what they should, and each row is as it should be
 pub record Segment (xs : List ℕ) (d : Desk) (s : Alloc) : Type 0 where
   pub bytes : Bytes xs
   pub size : length xs ≡ segmentBytes
@@ -23,18 +23,11 @@ pub record Segment (xs : List ℕ) (d : Desk) (s : Alloc) : Type 0 where
   pub boxes : (l : ℕ) → l < listCount → map (dataOf xs) (listOf d s l) ≡ boxOf d s l
   pub rows : (i : ℕ) → i < rowCount → row xs (rowAt i) (rowWidth i) ≡ rowOf d i
 
--- file f's share of the blocks, and its eight record buffers
-unfoldable pub shareAt : ℕ → List ℕ → List ℕ
-shareAt f xs = take shareBytes (drop (shareBytes * f) xs)
-
+-- The eight record buffers of file f.
 unfoldable pub buffersAt : ℕ → List ℕ → List ℕ
 buffersAt f xs = take (places * bufferBytes) (drop (places * bufferBytes * f) xs)
 
--- the record buffer of place i of the desk
-unfoldable pub bufferAt : ℕ → List ℕ → List ℕ
-bufferAt i xs = take bufferBytes (drop (bufferBytes * i) xs)
-
--- of a file that is not built nothing is asked: no call reads its share or its buffers
+-- the share and the buffers are those of the file; nothing is asked if it is not built, since no call reads them then
 unfoldable pub FileBytes : File → List ℕ → List ℕ → Type 0
 FileBytes unbuilt share buffers = Unit {0}
 FileBytes (built b) share buffers = (share ≡ b .store .share) × (buffers ≡ fileBuffers (b .accs))
@@ -46,7 +39,7 @@ pub record Bodies (m : Memories) (d : Desk) : Type 0 where
   pub buffers-size : length (m .buffers) ≡ places * bufferBytes * files
   pub each : (f : ℕ) → f < files → FileBytes (fileOf d f) (shareAt f (m .blocks)) (buffersAt f (m .buffers))
 
--- the memories together
+-- the memories together stand for a desk and an allocation
 pub record Stands (m : Memories) (d : Desk) (s : Alloc) : Type 0 where
   pub segment : Segment (m .segment) d s
   pub bodies : Bodies m d

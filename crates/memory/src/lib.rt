@@ -1,1 +1,1 @@
-// No code: when the lent memories stand for a desk of the rules.
+// No code: specs/ defines when the lent memories stand for a desk of the rules; proofs/ has the laws.

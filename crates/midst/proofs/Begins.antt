@@ -15,7 +15,7 @@ use Rattle.rules.specs.Limits.{files, places}
 use Rattle.rules.specs.State.{Hap, Built, File, unbuilt, built}
 use Rattle.rules.specs.Requests.{accAt}
 use Rattle.rules.specs.Reply.{hushed}
-use Rattle.rules.specs.Memories.{fileBuffers}
+use Rattle.rules.specs.Memories.{shareAt, fileBuffers}
 use Rattle.rules.specs.Desk.{Desk, fileOf, withFile}
 use Rattle.rules.specs.Allocation.{Alloc, placeOf, allotAll}
 use Rattle.laws.specs.Runs.{OnFile}
@@ -29,7 +29,7 @@ use Rattle.laws.proofs.EightFiles.{file-here, file-other, file-same, files-same
 use Rattle.memory.specs.Memories.{Memories, memories}
 use Rattle.memory.specs.Image.{accOf, placeAcc, fileWords, rowOf, rqOf, wqOf, listsOf, boxesOf, rowsOf}
 use Rattle.memory.specs.Image as image
-use Rattle.memory.specs.Stands.{Segment, FileBytes, Bodies, Stands, shareAt, buffersAt}
+use Rattle.memory.specs.Stands.{Segment, FileBytes, Bodies, Stands, buffersAt}
 use Rattle.words.specs.Word.{Bytes}
 use Rattle.memory.specs.Fine.{Fine, StandsFor}
 use Rattle.memory.proofs.Segments.{segment-file}
@@ -42,7 +42,7 @@ use Rattle.midst.specs.File.{fileOfRow, fileRowWords, inHand}
 use Rattle.midst.specs.Seg.{Seg}
 use Rattle.midst.specs.Mid.{Start, Mid, start}
 use Rattle.midst.proofs.Alike.{Alike, lists-alike, boxes-alike}
-use Rattle.midst.proofs.Rows.{place-below}
+use Rattle.midst.proofs.Rows.{place-row-below}
 
 -- it begins
 
@@ -113,11 +113,11 @@ module _ {I : Built → Type 0} {f : ℕ} {o : Start} {m : Memories} {x : hand.F
   pub mid-row : (p : ℕ) → p < places → row (m .segment) (placeRowAt (placeOf f p)) placeWidth ≡ image.placeWords (accAt b p)
   unfolding accOf
   mid-row p k =
-      sym (words-place (m .segment) (placeOf f p)) ∙ M .segment .boxes .rows (placeRow (placeOf f p)) (place-below f p (M .file) k)
-      ∙ M .segment .same (placeRow (placeOf f p)) (place-below f p (M .file) k) (λ e. unfold placeOf in omega (arith, e, M .file))
+      sym (words-place (m .segment) (placeOf f p)) ∙ M .segment .boxes .rows (placeRow (placeOf f p)) (place-row-below f p (M .file) k)
+      ∙ M .segment .same (placeRow (placeOf f p)) (place-row-below f p (M .file) k) (λ e. unfold placeOf in omega (arith, e, M .file))
       ∙ rowOf-acc (withFile (o .desk) f (built b)) f p k ∙ ap (λ z. image.placeWords (accOf z p)) mid-file
 
-  -- the same as a row
+  -- the accessor at place p as a row
   pub mid-place : (p : ℕ) → p < places → placeAt (m .segment) (placeOf f p) ≡ placeRowOf (image.placeWords (accAt b p))
   unfolding placeAt
   mid-place p k = ap placeRowOf (mid-row p k)

@@ -113,7 +113,7 @@ module _ {s hand : List ℕ} {hm : List (List ℕ)} {ls : ℕ → List ℕ} {ms 
       became B _ _ _ freeList _ _ (omega arith)
       (rw (← B .lists freeList (omega arith), ← B .holds freeList (omega arith)) (released-boxes (B .boxes)))
 
-  -- it gets the data n and goes to the front of list l
+  -- the entry gets the data n and goes to the front of list l
   pub posted-boxed : (n : List ℕ) (l : ℕ) → length n ≡ dataWords → l < listCount
       → Boxed (insert (putData s e n) l e) hand hm (over l (e ∷ ls l) ls) (over l (n ∷ ms l) ms) rs
   unfolding putIn

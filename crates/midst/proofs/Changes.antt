@@ -44,7 +44,7 @@ pub record Knows (I : Built → Type 0) : Type 0 where
 pub fine-knows : Knows Fine
 fine-knows = record { agree = λ b h. h .queues; bounds = λ b h. h .bounds; words = λ b h. h .room .geo .words-high }
 
--- of every other file of the desk that the call began with, the members of its queues are places
+-- the members of the queues of every other file of the desk that the call began with are places
 abbrev pub Rest : ℕ → Start → Type 0
 Rest f o = (g : ℕ) → g < files → (g ≡ f → ⊥) → Low (fileOf (o .desk) g)
 
@@ -52,7 +52,7 @@ pub stands-rest : {m : Memories} {d : Desk} {s : Alloc} → StandsFor m d s → 
     → Rest f (start d s m)
 stands-rest {d = d} {s = s} S f g h n = agreed-low d s (S .agreed) (λ g k. fine-agree (fileOf d g) (S .fine g k)) g h
 
--- c is b, its request at p q now, but for queues, timers and what has happened
+-- c is b with its request at p now q, except for queues, timers and what has happened
 pub record Asks (p : ℕ) (q : Req) (b c : Built) : Type 0 where
   pub geo : c .geo ≡ b .geo
   pub store : c .store ≡ b .store

@@ -35,7 +35,7 @@ module _ {f p : ℕ} {d : Desk} {b : Built} {a : Acc} {t : Alloc} (P : Placed f 
   abbrev i : ℕ
   i = placeOf f p
 
-  -- its entry
+  -- the entry of the request
   abbrev e : ℕ
   e = ownEntry (heldAt t i)
 

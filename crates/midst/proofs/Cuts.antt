@@ -98,7 +98,7 @@ module _ (p : ℕ) where
   pub place-at : (l : List ℕ) → count p l ≡ 1 → getD l (index (λ x. eqb x p) l) 0 ≡ p
   place-at l e = eqb-true _ p (index-at is 0 l (place-in l e))
 
-  -- those before p
+  -- the places before p
   pub place-before : {B : Type 0} (F : ℕ → B) (ys zs : List ℕ) → count p ys ≡ 0 → take (index (λ x. eqb x p) (ys ++ p ∷ zs)) (map F (ys ++ p ∷ zs)) ≡ map F ys
   unfolding index count
   place-before F [] zs e = rw (eq-eqb p p refl) refl
@@ -146,7 +146,7 @@ module _ (i : ℕ) where
   pub timer-at : (l : List Timer) (u : Timer) → countT i l ≡ 1 → getD l (index (λ t. eqb (t .place) i) l) u .place ≡ i
   timer-at l u e = eqb-true _ i (index-at of u l (timer-in l e))
 
-  -- what goes by the place, of timers of other places
+  -- what depends on the place, for timers of other places
   pub map-timers : {B : Type 0} (F G : ℕ → B) → ((x : ℕ) → (x ≡ i → ⊥) → F x ≡ G x) → (l : List Timer)
       → map (λ t. F (t .place)) (withoutTimer i l) ≡ map (λ t. G (t .place)) (withoutTimer i l)
   unfolding withoutTimer

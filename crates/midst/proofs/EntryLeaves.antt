@@ -61,7 +61,7 @@ module _ {f p : ℕ} {d : Desk} {b : Built} {a : Acc} {t : Alloc} (P : Placed f 
   abbrev i : ℕ
   i = placeOf f p
 
-  -- its entry
+  -- the entry of the request
   abbrev e : ℕ
   e = ownEntry (heldAt t i)
 
@@ -117,7 +117,7 @@ module _ {f p : ℕ} {d : Desk} {b : Built} {a : Acc} {t : Alloc} (P : Placed f 
             (P .holds),
       )
 
-  -- it stands behind those that wait before it
+  -- the request's slot comes after those that wait before it
   pub seg-slot : (ys zs : List ℕ) → sideQueue writer b ≡ ys ++ p ∷ zs → count p ys ≡ 0 → slotOf xs (queueAt writer f) (placeOf f p) ≡ slotAt (queueAt writer f) (entriesIn f t ys)
   unfolding slotOf
   seg-slot ys zs q z =
@@ -191,7 +191,7 @@ module _ {f p : ℕ} {d : Desk} {b : Built} {a : Acc} {t : Alloc} (P : Placed f 
               z .1 ∙ left-rest (boxOf d t) l _ _ _ low high _ (λ x. omega (arith, m .0)) (λ x. omega (arith, m .1)) (sides-apart writer f (P .file)) ∙ r .1,
             )
 
-    -- it completes as q
+    -- the request completes as q
     pub seg-complete : uncollected q ≡ 1 → (entryOf xs (queueAt writer f) (placeOf f p) < entries)
         × Seg (completed xs (slotOf xs (queueAt writer f) (placeOf f p)) (placeOf f p) (reqWords (placeOf f p) q)) (withFile d f (built c)) (endsAt (placeOf f p) t) k
     unfolding completed entryOf out ownEntry
@@ -214,7 +214,7 @@ module _ {f p : ℕ} {d : Desk} {b : Built} {a : Acc} {t : Alloc} (P : Placed f 
               (λ j _ n. (over-other (replyPort i) _ (lists v) j n, over-other (replyPort i) _ (datas v) j n))),
         )
 
-    -- it is cancelled
+    -- the request is cancelled
     pub seg-cancel : q ≡ idle → Seg (cancelled xs (slotOf xs (queueAt writer f) (placeOf f p)) (placeOf f p)) (withFile d f (built c)) (goesAt (placeOf f p) t) k
     unfolding cancelled entryOf out uncollected
     seg-cancel z =

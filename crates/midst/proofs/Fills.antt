@@ -13,17 +13,17 @@ use Rattle.words.proofs.Parts.{sets-whole}
 use Rattle.rules.specs.Limits.{files, places, bufferBytes}
 use Rattle.rules.specs.State.{Req, Acc}
 use Rattle.rules.specs.Requests.{alter, withReq}
-use Rattle.rules.specs.Memories.{lies, buffer, fileBuffers}
+use Rattle.rules.specs.Memories.{bufferAt, lies, buffer, fileBuffers}
 use Rattle.rules.specs.Allocation.{placeOf}
 use Rattle.laws.proofs.Accessors.{length-alter, getD-alter-same, getD-alter-other, alter-beside}
 use Rattle.buffers.specs.Buffer.{filled}
 use Rattle.buffers.proofs.Filled.{length-filled, buffer-some}
 use Rattle.laws.specs.Outstanding.{reqOf}
-use Rattle.memory.specs.Stands.{buffersAt, bufferAt}
+use Rattle.memory.specs.Stands.{buffersAt}
 use Rattle.memory.proofs.Parts.{part, part-sets-other}
 use Rattle.memory.proofs.Frames.{bufferAt-sets, bufferAt-sets-other, buffersAt-are, bufferAt-is}
 
--- a buffer goes by what lies there
+-- a buffer depends on what lies there
 
 pub buffer-is : (o : Option Acc) → buffer o ≡ filled (lies (reqOf o))
 unfolding buffer filled reqOf lies
@@ -70,7 +70,7 @@ module _ (f p : ℕ) (ys : List ℕ) (l : List (Option Acc)) (a : Acc) (q : Req)
   here =
       let i : ℕ = 8 * f + p in
       let z : bufferBytes * i ≡ bufferBytes * i + 0 = omega arith in
-      let w : length (bufferAt i ys) ≡ bufferBytes = unfold bufferAt in length-take-le bufferBytes (drop (bufferBytes * i) ys) (rw (length-drop (bufferBytes * i) ys) (omega arith)) in
+      let w : length (bufferAt i ys) ≡ bufferBytes = length-take-le bufferBytes (drop (bufferBytes * i) ys) (rw (length-drop (bufferBytes * i) ys) (omega arith)) in
       ap (λ k. bufferAt i (sets ys k (filled (lies q)))) z
       ∙ bufferAt-sets i 0 (filled (lies q)) ys (omega (arith, length-filled (lies q) fits))
       ∙ sets-whole (bufferAt i ys) (filled (lies q)) (length-filled (lies q) fits ∙ sym w)

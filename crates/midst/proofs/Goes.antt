@@ -15,6 +15,7 @@ use Rattle.laws.specs.Entries.{entriesOf, size}
 use Rattle.segment.specs.Layout.{freeList, dataWords}
 use Rattle.segment.specs.Layout as layout
 use Rattle.segment.specs.Table.{nth}
+use Rattle.segment.specs.Fields.{entryWords}
 use Rattle.ports.specs.Slots.{seek, has}
 use Rattle.ports.specs.Index.{cut, index}
 use Rattle.ports.proofs.Index.{index-map}
@@ -48,7 +49,7 @@ module _ {s hand : List ℕ} {hm : List (List ℕ)} {ls : ℕ → List ℕ} {ms 
   at = index (λ x. eqb (x .place) i) (t .clock)
 
   sought : index (has 0 i) (ms layout.timerList) ≡ at
-  unfolding timerWords
+  unfolding timerWords entryWords
   sought = ap (index (has 0 i)) em ∙ index-map (has 0 i) timerWords (t .clock)
 
   long : length (ms layout.timerList) ≡ length (t .clock)

@@ -12,6 +12,7 @@ use borrow.Author.Tests.{lt-ltb, le-ltb}
 use Rattle.occurrences.specs.Count.{count}
 use Rattle.segment.specs.Layout.{listCount, dataWords, freeList, timerList, fileRow}
 use Rattle.segment.specs.Table.{nth}
+use Rattle.segment.specs.Fields.{entryWords}
 use Rattle.ports.specs.Slots.{over, taken}
 use Rattle.ports.specs.Index.{putIn, index}
 use Rattle.ports.specs.Lists.{Boxes}
@@ -51,7 +52,7 @@ lists-left d t = set (listsOf d t) freeList (drop 1 (t .free))
 abbrev boxes-left : Desk → Alloc → List (List (List ℕ))
 boxes-left d t = set (boxesOf d t) freeList (drop 1 (getD (boxesOf d t) freeList []))
 
--- it is in hand, with the data m
+-- the entry is in hand, with the data m
 module _ {xs : List ℕ} {d : Desk} {t : Alloc} {k : ℕ} (S : Seg xs d t k) (room : 1 ≤ length (t .free)) (m : List ℕ) (n : length m ≡ dataWords) where
   free-is : getD (listsOf d t) freeList [] ≡ front t ∷ drop 1 (t .free)
   unfolding front
@@ -64,7 +65,7 @@ module _ {xs : List ℕ} {d : Desk} {t : Alloc} {k : ℕ} (S : Seg xs d t k) (ro
 pub seg-free : {xs : List ℕ} {d : Desk} {t : Alloc} {k : ℕ} → Seg xs d t k → 1 ≤ length (t .free) → nth xs freeList < entries
 seg-free S room = let w = seg-taken S room (replicate dataWords 0) refl in rw (w .0) (w .1)
 
--- the free list behind it
+-- the free list after the entry is taken
 module _ (d e : Desk) (t u : Alloc) (x : u .free ≡ drop 1 (t .free)) where
   free-list : drop 1 (t .free) ≡ listOf e u freeList
   free-list = sym (listOf-free e u ∙ x)
@@ -74,7 +75,7 @@ module _ (d e : Desk) (t u : Alloc) (x : u .free ≡ drop 1 (t .free)) where
       ap (drop 1) (getD-boxesOf d t freeList (omega arith) ∙ boxOf-free d t) ∙ sym (map-drop (λ _. replicate dataWords 0) 1 (t .free))
       ∙ sym (boxOf-free e u ∙ ap (map (λ _. replicate dataWords 0)) x)
 
--- and the others
+-- the other lists
 module _ (d : Desk) (t : Alloc) (l : ℕ) (h : l < listCount) (k : l ≡ freeList → ⊥) where
   left-list : getD (lists-left d t) l [] ≡ listOf d t l
   left-list = getD-set-other (listsOf d t) freeList l _ [] k ∙ getD-listsOf d t l h
@@ -150,7 +151,7 @@ arm-at r (x ∷ ts) = go (decLe (x .left) (r .left)) (arm-at r ts)
 
 -- where the code looks for it
 arm-index : (n : ℕ) (ts : List Timer) → index (over 7 n) (map timerWords ts) ≡ index (λ x. ltb n (x .left)) ts
-unfolding timerWords
+unfolding timerWords entryWords
 arm-index n ts = index-map (over 7 n) timerWords ts
 
 -- the timer of place j takes an entry and goes onto the clock, with n left
@@ -198,7 +199,7 @@ module _ {f p : ℕ} (n : ℕ) {d : Desk} {t : Alloc} {b c : Built} (C : Change 
       ∙ sym (map-putIn entry at new (t .clock)) ∙ sym (listOf-timers g v ∙ ap (map entry) clock-is)
 
   timer-box : putIn at (timer j n) (getD (boxes-left d t) timerList []) ≡ boxOf g v timerList
-  unfolding timer timerWords
+  unfolding timerWords entryWords
   timer-box =
       ap (putIn at (timer j n)) (left-box d t timerList (omega arith) (λ z. omega arith) ∙ boxOf-timers d t)
       ∙ sym (map-putIn timerWords at new (t .clock)) ∙ sym (boxOf-timers g v ∙ ap (map timerWords) clock-is)
@@ -220,5 +221,5 @@ module _ {f p : ℕ} (n : ℕ) {d : Desk} {t : Alloc} {b c : Built} (C : Change 
       → placeWords (accAt c p) ≡ placeWords (accAt b p) → Seg xs d t k → Seg (armed xs j n) g v k
   unfolding armed
   seg-arm {xs} k room fw pw S =
-      let T = seg-taken S room (timer j n) (unfold timer in refl) in
+      let T = seg-taken S room (timer j n) (unfold entryWords in refl) in
       rw (T .0) (seg-again S g v (placed-boxes (T .2) (over 7 n) timerList at (omega arith) found) (every-list (S .boxes) (T .2)) (same-rows C k fw (λ _. pw)))

@@ -14,7 +14,7 @@ use Rattle.kinds.specs.declared.Control.the-variants.{Timeout, Verify, Abort, E
 use Rattle.rules.specs.Limits.{places, mostMode}
 use Rattle.rules.specs.Geometry.{dataBlocks, inRange, fitsShare}
 use Rattle.rules.specs.State.{Req, idle, reading, writing, readDone, writeDone, Acc, Built}
-use Rattle.rules.specs.Count.{countBytes, readable}
+use Rattle.rules.specs.TransferCounts.{countBytes, readable}
 use Rattle.rules.specs.Requests.{countAcc, opened, accAt, alterAcc, isIdle}
 use Rattle.rules.specs.Reply.{Reply, Out, leaves, answering, status, unmade}
 use Rattle.rules.specs.Open.{sharingOf, otherShare, crowded, purged, openReader, openWriter, roomToOpen, openFile, build}
@@ -29,7 +29,7 @@ use Rattle.rules.proofs.Split.{both, opt, and-true}
 use Rattle.laws.specs.Bounds.{leastRefusal}
 use Rattle.laws.specs.Outstanding.{waitsRead, waitsWrite, awaits, uncollected, outstanding}
 use Rattle.midst.specs.Outcome.{statusOf, replyStatus, refusalOf}
-use Rattle.midst.specs.Accepted.{ReadKnown, WriteKnown, CollectKnown, CloseKnown, AbortKnown, ControlKnown, OpenKnown, BuildKnown, Known, KnownNew, Verdict, refuses, accepts}
+use Rattle.midst.specs.Accepted.{ReadKnown, WriteKnown, CollectKnown, CloseKnown, AbortKnown, ControlKnown, OpenKnown, BuildKnown, Known, KnownNew, Judging, refuses, accepts}
 use Rattle.laws.proofs.Calls.{is-idle}
 
 -- a request that is outstanding is not idle
@@ -56,8 +56,8 @@ refusal-back (calls.load t) n h = rw (le-ltb n leastRefusal h)
 refusal-back (calls.save m) n h = rw (le-ltb n leastRefusal h)
 refusal-back (calls.look p) n h = rw (le-ltb n leastRefusal h)
 
--- of what passes, K is known
-pub passed : (q : Ask) (x : Reply → Out) (K : Out → Type 0) (o : Out) → ((r : Reply) → x r .reply ≡ r) → Verdict q x K o → refusalOf (o .reply) ≡ 0 → K o
+-- K is known of what passes
+pub passed : (q : Ask) (x : Reply → Out) (K : Out → Type 0) (o : Out) → ((r : Reply) → x r .reply ≡ r) → Judging q x K o → refusalOf (o .reply) ≡ 0 → K o
 passed q x K o h (refuses n l e) z =
     absurd (omega (arith, l, sym (refusal-back q n l) ∙ ap refusalOf (sym (h (refusal q n))) ∙ ap (λ (y : Out). refusalOf (y .reply)) (sym e) ∙ z))
 passed q x K o h (accepts k) z = k
@@ -69,33 +69,33 @@ module _ (b : Built) where
   Left r = leaves r b
 
   -- an accessor that is open
-  judged-acc : (q : Ask) (p : ℕ) (K : Out → Type 0) (f : Acc → Out) → ((a : Acc) → accAt b p ≡ some a → Verdict q Left K (f a)) → Verdict q Left K (onAcc q p f b)
+  judged-acc : (q : Ask) (p : ℕ) (K : Out → Type 0) (f : Acc → Out) → ((a : Acc) → accAt b p ≡ some a → Judging q Left K (f a)) → Judging q Left K (onAcc q p f b)
   unfolding onAcc
-  judged-acc q p K f h = opt (Verdict q Left K) (accAt b p) (λ _. refuses 32 (omega arith) refl) h
+  judged-acc q p K f h = opt (Judging q Left K) (accAt b p) (λ _. refuses 32 (omega arith) refl) h
 
-  judged-read : (p n : ℕ) (a : Acc) → accAt b p ≡ some a → Verdict (calls.read p n) Left (ReadKnown p n b) (read p a n b)
+  judged-read : (p n : ℕ) (a : Acc) → accAt b p ≡ some a → Judging (calls.read p n) Left (ReadKnown p n b) (read p a n b)
   unfolding read status answering refusal
   judged-read p n a e =
-      both (Verdict (calls.read p n) Left (ReadKnown p n b)) (isIdle (a .req))
-      (λ i. both (Verdict (calls.read p n) Left (ReadKnown p n b)) (a .writer)
+      both (Judging (calls.read p n) Left (ReadKnown p n b)) (isIdle (a .req))
+      (λ i. both (Judging (calls.read p n) Left (ReadKnown p n b)) (a .writer)
       (λ _. refuses 34 (omega arith) refl)
-      (λ w. both (Verdict (calls.read p n) Left (ReadKnown p n b)) (readable n)
+      (λ w. both (Judging (calls.read p n) Left (ReadKnown p n b)) (readable n)
       (λ t. accepts (record { a = a; at = e; idles = is-idle (a .req) i; side = w; count = t; out = refl }))
       (λ _. refuses 35 (omega arith) refl)))
       (λ _. refuses 33 (omega arith) refl)
 
-  judged-write : (p n : ℕ) (d : List ℕ) (a : Acc) → accAt b p ≡ some a → Verdict (calls.write p n d) Left (WriteKnown p n d b) (write p a n d b)
+  judged-write : (p n : ℕ) (d : List ℕ) (a : Acc) → accAt b p ≡ some a → Judging (calls.write p n d) Left (WriteKnown p n d b) (write p a n d b)
   unfolding write status answering refusal
   judged-write p n d a e =
-      both (Verdict (calls.write p n d) Left (WriteKnown p n d b)) (isIdle (a .req))
-      (λ i. both (Verdict (calls.write p n d) Left (WriteKnown p n d b)) (a .writer)
-      (λ w. both (Verdict (calls.write p n d) Left (WriteKnown p n d b)) (leb (countBytes n) (2 * b .geo .words))
+      both (Judging (calls.write p n d) Left (WriteKnown p n d b)) (isIdle (a .req))
+      (λ i. both (Judging (calls.write p n d) Left (WriteKnown p n d b)) (a .writer)
+      (λ w. both (Judging (calls.write p n d) Left (WriteKnown p n d b)) (leb (countBytes n) (2 * b .geo .words))
       (λ t. accepts (record { a = a; at = e; idles = is-idle (a .req) i; side = w; count = t; out = refl }))
       (λ _. refuses 35 (omega arith) refl))
       (λ _. refuses 34 (omega arith) refl))
       (λ _. refuses 33 (omega arith) refl)
 
-  judged-collect : (p : ℕ) (a : Acc) (q : Req) → accAt b p ≡ some a → a .req ≡ q → Verdict (calls.collect p) Left (CollectKnown p b) (collect p q b)
+  judged-collect : (p : ℕ) (a : Acc) (q : Req) → accAt b p ≡ some a → a .req ≡ q → Judging (calls.collect p) Left (CollectKnown p b) (collect p q b)
   unfolding collect status answering refusal waitsRead waitsWrite uncollected
   judged-collect p a idle e r = refuses 39 (omega arith) refl
   judged-collect p a (reading u) e r = accepts (record { a = a; at = e; outstands = λ i. busy i (ap outstanding r); out = sym (ap (λ (q : Req). collect p q b) r) })
@@ -104,7 +104,7 @@ module _ (b : Built) where
   judged-collect p a (writeDone u) e r = accepts (record { a = a; at = e; outstands = λ i. busy i (ap outstanding r); out = sym (ap (λ (q : Req). collect p q b) r) })
 
   -- a request by its kind
-  judged-close : (p : ℕ) (a : Acc) (q : Req) → accAt b p ≡ some a → a .req ≡ q → Verdict (calls.close p) Left (CloseKnown p b) (close p a q b)
+  judged-close : (p : ℕ) (a : Acc) (q : Req) → accAt b p ≡ some a → a .req ≡ q → Judging (calls.close p) Left (CloseKnown p b) (close p a q b)
   unfolding close status answering refusal waitsRead waitsWrite uncollected
   judged-close p a idle e r =
       accepts (record { a = a; at = e; collected = ap uncollected r; idles = λ _. refl; waits = λ h. absurd (omega (arith, h, ap awaits r)); out = sym (ap (λ (q : Req). close p a q b) r) })
@@ -115,7 +115,7 @@ module _ (b : Built) where
   judged-close p a (readDone q) e r = refuses 33 (omega arith) refl
   judged-close p a (writeDone q) e r = refuses 33 (omega arith) refl
 
-  judged-abort : (p : ℕ) (c : Option Control) (a : Acc) (q : Req) → accAt b p ≡ some a → a .req ≡ q → Verdict (calls.control p c) Left (AbortKnown p b) (abort p q b)
+  judged-abort : (p : ℕ) (c : Option Control) (a : Acc) (q : Req) → accAt b p ≡ some a → a .req ≡ q → Judging (calls.control p c) Left (AbortKnown p b) (abort p q b)
   unfolding abort status answering refusal waitsRead waitsWrite uncollected
   judged-abort p c a idle e r = refuses 39 (omega arith) refl
   judged-abort p c a (reading u) e r =
@@ -128,19 +128,19 @@ module _ (b : Built) where
       accepts (record { a = a; at = e; outstands = λ i. busy i (ap outstanding r); waits = λ h. absurd (omega (arith, h, ap awaits r)); completed = λ _. refl; out = sym (ap (λ (q : Req). abort p q b) r) })
 
   -- the tests of the controls
-  judged-idle : (p : ℕ) (c : Option Control) (K : Out → Type 0) (a : Acc) (o : Out) → (a .req ≡ idle → Verdict (calls.control p c) Left K o) → Verdict (calls.control p c) Left K (whileIdle a b o)
+  judged-idle : (p : ℕ) (c : Option Control) (K : Out → Type 0) (a : Acc) (o : Out) → (a .req ≡ idle → Judging (calls.control p c) Left K o) → Judging (calls.control p c) Left K (whileIdle a b o)
   unfolding whileIdle status answering refusal
-  judged-idle p c K a o h = both (Verdict (calls.control p c) Left K) (isIdle (a .req)) (λ i. h (is-idle (a .req) i)) (λ _. refuses 33 (omega arith) refl)
+  judged-idle p c K a o h = both (Judging (calls.control p c) Left K) (isIdle (a .req)) (λ i. h (is-idle (a .req) i)) (λ _. refuses 33 (omega arith) refl)
 
-  judged-reader : (p : ℕ) (c : Option Control) (K : Out → Type 0) (a : Acc) (o : Out) → (a .writer ≡ false → Verdict (calls.control p c) Left K o) → Verdict (calls.control p c) Left K (ofReader a b o)
+  judged-reader : (p : ℕ) (c : Option Control) (K : Out → Type 0) (a : Acc) (o : Out) → (a .writer ≡ false → Judging (calls.control p c) Left K o) → Judging (calls.control p c) Left K (ofReader a b o)
   unfolding ofReader status answering refusal
-  judged-reader p c K a o h = both (Verdict (calls.control p c) Left K) (a .writer) (λ _. refuses 34 (omega arith) refl) h
+  judged-reader p c K a o h = both (Judging (calls.control p c) Left K) (a .writer) (λ _. refuses 34 (omega arith) refl) h
 
-  judged-switch : (p v : ℕ) (c : Option Control) (f : Bool → Acc → Acc) (K : Out → Type 0) → (v ≤ 1 → K (answering Controlled (alterAcc p (f (eqb v 1)) b))) → Verdict (calls.control p c) Left K (switched p v f b)
+  judged-switch : (p v : ℕ) (c : Option Control) (f : Bool → Acc → Acc) (K : Out → Type 0) → (v ≤ 1 → K (answering Controlled (alterAcc p (f (eqb v 1)) b))) → Judging (calls.control p c) Left K (switched p v f b)
   unfolding switched status answering refusal
-  judged-switch p v c f K h = both (Verdict (calls.control p c) Left K) (leb v 1) (λ t. accepts (h (leb-true v 1 t))) (λ _. refuses 35 (omega arith) refl)
+  judged-switch p v c f K h = both (Judging (calls.control p c) Left K) (leb v 1) (λ t. accepts (h (leb-true v 1 t))) (λ _. refuses 35 (omega arith) refl)
 
-  judged-control : (p : ℕ) (c : Option Control) (a : Acc) → accAt b p ≡ some a → Verdict (calls.control p c) Left (ControlKnown p c b) (control p a c b)
+  judged-control : (p : ℕ) (c : Option Control) (a : Acc) → accAt b p ≡ some a → Judging (calls.control p c) Left (ControlKnown p c b) (control p a c b)
   unfolding control ControlKnown
   judged-control p (some (Timeout v)) a e = judged-idle p _ _ a _ (λ i. accepts (record { a = a; at = e; idles = i; out = refl }))
   judged-control p (some (Verify v)) a e = judged-idle p _ _ a _ (λ i. accepts (record { a = a; at = e; idles = i; out = refl }))
@@ -152,7 +152,7 @@ module _ (b : Built) where
       judged-idle p _ _ a _ (λ i. judged-reader p _ _ a _ (λ w. judged-switch p v _ setKeep _ (λ l. record { a = a; at = e; idles = i; side = w; low = l; out = refl })))
   judged-control p none a e = judged-idle p _ _ a _ (λ i. unfold status answering refusal in refuses 35 (omega arith) refl)
 
-  -- what the tests of an open come to
+  -- what the tests of an open give
   opens-known : (access share multi : ℕ) {o : Out} → leb access mostMode && leb share mostMode && leb multi mostMode ≡ true
       → eqb multi 3 || ltb 0 (countAcc (otherShare (sharingOf share)) (b .accs)) || crowded (ltb 0 access) (sharingOf share) b ≡ false → leb places (opened b) ≡ false
       → (access ≡ 0 → o ≡ openReader (sharingOf share) b) → (1 ≤ access → roomToOpen access b ≡ true) → (1 ≤ access → o ≡ openWriter (sharingOf share) (purged access b))
@@ -175,10 +175,10 @@ module _ (b : Built) where
         writer = wr;
       }
 
-  judged-open : (access share multi : ℕ) → Verdict (calls.opens access share multi) Left (OpenKnown access share multi b) (openFile access share multi b)
+  judged-open : (access share multi : ℕ) → Judging (calls.opens access share multi) Left (OpenKnown access share multi b) (openFile access share multi b)
   unfolding openFile status answering refusal
   judged-open access share multi =
-      let G : Out → Type 0 = Verdict (calls.opens access share multi) Left (OpenKnown access share multi b) in
+      let G : Out → Type 0 = Judging (calls.opens access share multi) Left (OpenKnown access share multi b) in
       both G (leb access mostMode && leb share mostMode && leb multi mostMode)
       (λ m. both G (eqb multi 3 || ltb 0 (countAcc (otherShare (sharingOf share)) (b .accs)) || crowded (ltb 0 access) (sharingOf share) b)
       (λ _. refuses 40 (omega arith) refl)
@@ -192,31 +192,31 @@ module _ (b : Built) where
       (λ _. refuses 35 (omega arith) refl)
 
   -- save and look
-  judged-save : (n : ℕ) → Verdict (calls.save n) Left (λ o. refusalOf (o .reply) ≡ 0) (save n b)
+  judged-save : (n : ℕ) → Judging (calls.save n) Left (λ o. refusalOf (o .reply) ≡ 0) (save n b)
   unfolding save refusal refusalOf replyStatus leaves
   judged-save n =
-      both (Verdict (calls.save n) Left (λ o. refusalOf (o .reply) ≡ 0)) (leb (length (sheet (b .geo) (b .store .recs))) n) (λ _. accepts refl)
+      both (Judging (calls.save n) Left (λ o. refusalOf (o .reply) ≡ 0)) (leb (length (sheet (b .geo) (b .store .recs))) n) (λ _. accepts refl)
       (λ _. refuses 44 (omega arith) refl)
 
-  judged-file : (p : ℕ) → Verdict (calls.look p) Left (λ o. refusalOf (o .reply) ≡ 0) (lookFile b)
+  judged-file : (p : ℕ) → Judging (calls.look p) Left (λ o. refusalOf (o .reply) ≡ 0) (lookFile b)
   unfolding lookFile refusal refusalOf replyStatus leaves
   judged-file p =
-      opt (Verdict (calls.look p) Left (λ o. refusalOf (o .reply) ≡ 0)) (oldest (b .store .recs)) (λ _. refuses 39 (omega arith) refl) (λ r _. accepts refl)
+      opt (Judging (calls.look p) Left (λ o. refusalOf (o .reply) ≡ 0)) (oldest (b .store .recs)) (λ _. refuses 39 (omega arith) refl) (λ r _. accepts refl)
 
-  judged-req : (p : ℕ) (q : Req) → Verdict (calls.look p) Left (λ o. refusalOf (o .reply) ≡ 0) (lookReq q b)
+  judged-req : (p : ℕ) (q : Req) → Judging (calls.look p) Left (λ o. refusalOf (o .reply) ≡ 0) (lookReq q b)
   unfolding lookReq refusal refusalOf replyStatus leaves
   judged-req p idle = judged-file p
   judged-req p (reading q) = judged-file p
   judged-req p (writing q) = judged-file p
-  judged-req p (readDone q) = both (Verdict (calls.look p) Left (λ o. refusalOf (o .reply) ≡ 0)) (eqb (q .status) 0) (λ _. accepts refl) (λ _. judged-file p)
+  judged-req p (readDone q) = both (Judging (calls.look p) Left (λ o. refusalOf (o .reply) ≡ 0)) (eqb (q .status) 0) (λ _. accepts refl) (λ _. judged-file p)
   judged-req p (writeDone q) = judged-file p
 
-  judged-look : (p : ℕ) (a : Acc) → Verdict (calls.look p) Left (λ o. refusalOf (o .reply) ≡ 0) (look a b)
+  judged-look : (p : ℕ) (a : Acc) → Judging (calls.look p) Left (λ o. refusalOf (o .reply) ≡ 0) (look a b)
   unfolding look refusal
-  judged-look p a = both (Verdict (calls.look p) Left (λ o. refusalOf (o .reply) ≡ 0)) (a .writer) (λ _. refuses 34 (omega arith) refl) (λ _. judged-req p (a .req))
+  judged-look p a = both (Judging (calls.look p) Left (λ o. refusalOf (o .reply) ≡ 0)) (a .writer) (λ _. refuses 34 (omega arith) refl) (λ _. judged-req p (a .req))
 
   -- every call of a built file
-  pub judged : (q : Ask) → Verdict q Left (Known q b) (askBuilt b q)
+  pub judged : (q : Ask) → Judging q Left (Known q b) (askBuilt b q)
   unfolding askBuilt Known
   judged (calls.build r f n x) = refuses 31 (omega arith) refl
   judged (calls.opens access share multi) = judged-open access share multi
@@ -232,20 +232,20 @@ module _ (b : Built) where
 
 -- the calls of a file that is not built
 
-judged-build : (r f n x : ℕ) → Verdict (calls.build r f n x) unmade (BuildKnown r f n x) (build r f n x)
+judged-build : (r f n x : ℕ) → Judging (calls.build r f n x) unmade (BuildKnown r f n x) (build r f n x)
 unfolding build refusal
 judged-build r f n x =
-    both (Verdict (calls.build r f n x) unmade (BuildKnown r f n x)) (inRange r f n x)
-    (λ t. both (Verdict (calls.build r f n x) unmade (BuildKnown r f n x)) (fitsShare r f (dataBlocks n f x))
+    both (Judging (calls.build r f n x) unmade (BuildKnown r f n x)) (inRange r f n x)
+    (λ t. both (Judging (calls.build r f n x) unmade (BuildKnown r f n x)) (fitsShare r f (dataBlocks n f x))
     (λ h. accepts (record { numbers = t; fits = h; out = refl }))
     (λ _. refuses 38 (omega arith) refl))
     (λ _. refuses 35 (omega arith) refl)
 
-judged-load : (t : List ℕ) → Verdict (calls.load t) unmade (λ o. refusalOf (o .reply) ≡ 0) (load t)
+judged-load : (t : List ℕ) → Judging (calls.load t) unmade (λ o. refusalOf (o .reply) ≡ 0) (load t)
 unfolding load refusal refusalOf replyStatus leaves
-judged-load t = opt (Verdict (calls.load t) unmade (λ o. refusalOf (o .reply) ≡ 0)) (readSheet t) (λ _. refuses 43 (omega arith) refl) (λ s _. accepts refl)
+judged-load t = opt (Judging (calls.load t) unmade (λ o. refusalOf (o .reply) ≡ 0)) (readSheet t) (λ _. refuses 43 (omega arith) refl) (λ s _. accepts refl)
 
-pub judged-new : (q : Ask) → Verdict q unmade (KnownNew q) (askUnbuilt q)
+pub judged-new : (q : Ask) → Judging q unmade (KnownNew q) (askUnbuilt q)
 unfolding askUnbuilt KnownNew
 judged-new (calls.build r f n x) = judged-build r f n x
 judged-new (calls.opens access share multi) = refuses 31 (omega arith) refl

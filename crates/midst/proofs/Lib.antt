@@ -1,32 +1,38 @@
-pub mod Alike
+-- A call begins, and it ends
 pub mod Begins
-pub mod Fills
-pub mod Rows
-pub mod Own
-pub mod Lists
-pub mod OnePlace
-pub mod Lows
-pub mod Joins
-pub mod Waits
-pub mod Boxed
-pub mod Cuts
-pub mod Goes
-pub mod Shifts
-pub mod Terms
-pub mod Placed
-pub mod EntryLeaves
-pub mod Collects
-pub mod Changes
-pub mod Requests
-pub mod Walks
-pub mod Stores
-pub mod Heads
 pub mod FileStands
-pub mod Judged
-pub mod Accepted
-pub mod Refused
-pub mod StaysFine
+pub mod New
 pub mod EndsUnwritten
 pub mod RowUntouched
 pub mod StandsBehind
-pub mod New
+-- Rows and record buffers
+pub mod Rows
+pub mod Own
+pub mod Fills
+-- Lists of entries
+pub mod Lists
+mod Boxed
+mod Alike
+mod Lows
+pub mod Cuts
+mod OnePlace
+mod Shifts
+pub mod Placed
+-- Requests: they begin to wait, complete, are cancelled, are collected
+pub mod Terms
+mod Joins
+pub mod Waits
+mod Goes
+pub mod EntryLeaves
+mod Collects
+pub mod Changes
+pub mod Requests
+pub mod Heads
+-- Records, and what every change keeps
+pub mod Walks
+pub mod Stores
+pub mod StaysFine
+-- Refused, or not
+pub mod Judged
+pub mod Accepted
+pub mod Refused

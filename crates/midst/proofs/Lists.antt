@@ -1,5 +1,5 @@
 -- The lists of a desk and an allocation, one by one, and how a segment whose lists are known so stands for the two.
-use Prim.Native.Nat.{ℕ, _+_, _*_, _≤_, _<_}
+use Prim.Native.Nat.{ℕ, _+_, _≤_, _<_}
 use mathlib.Core.Path.{_≡_, refl, sym, ap, _∙_}
 use mathlib.Core.Bool.{Bool, true, false}
 use mathlib.Core.List.{List, [], map}
@@ -83,10 +83,6 @@ module _ (d : Desk) (t : Alloc) (f : ℕ) (hf : f < files) (b : Built) (e : file
 -- the members of a file's queues are places
 abbrev pub Low : File → Type 0
 Low y = (x : ℕ) → 1 ≤ count x (rqOf y) + count x (wqOf y) → x < places
-
-pub place-under : (f p : ℕ) → f < files → p < places → placeOf f p < files * places
-unfolding placeOf
-place-under f p hf hp = omega arith
 
 -- a reply port of a place with nothing to collect
 pub port-none : (q : Req) (i : ℕ) (t : Alloc) → uncollected q ≡ 0 → (portOf q i t ≡ []) × (portWords i q ≡ [])

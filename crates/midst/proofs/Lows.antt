@@ -17,7 +17,7 @@ use Rattle.laws.specs.Entries.{accsOf, Agreed}
 use Rattle.memory.specs.Image.{rqOf, wqOf}
 use Rattle.midst.proofs.Lists.{Low}
 
--- of one file
+-- the queues of one file have places as members
 pub agree-low : (b : Built) → Agree b → length (b .accs) ≡ places → Low (built b)
 unfolding rqOf wqOf reqOf waitsRead waitsWrite
 agree-low b A n x h = go (decLt x places)
@@ -33,6 +33,6 @@ unfolding OnFile accsOf
 file-low unbuilt A n x h = absurd (unfold rqOf wqOf count in omega arith)
 file-low (built b) A n x h = agree-low b A n x h
 
--- of every file of a desk with which an allocation agrees
+-- the queues of every file of a desk with which an allocation agrees
 pub agreed-low : (d : Desk) (s : Alloc) → Agreed d s → ((f : ℕ) → f < files → OnFile Agree (fileOf d f)) → (g : ℕ) → g < files → Low (fileOf d g)
 agreed-low d s A Q g h = file-low (fileOf d g) (Q g h) (A .agrees g h .eight)

@@ -17,7 +17,7 @@ use Rattle.rules.specs.Limits.{files, places, shareBytes}
 use Rattle.rules.specs.State.{Acc, Geo, Store, File, unbuilt, built}
 use Rattle.rules.specs.Requests.{accAt}
 use Rattle.rules.specs.Reply.{Out, hushed}
-use Rattle.rules.specs.Memories.{buffer, fileBuffers}
+use Rattle.rules.specs.Memories.{shareAt, buffer, fileBuffers}
 use Rattle.rules.specs.Open.{newFile}
 use Rattle.rules.specs.Desk.{Desk, fileOf, withFile}
 use Rattle.rules.specs.Allocation.{Alloc, allotAll}
@@ -25,7 +25,7 @@ use Rattle.memory.specs.Memories.{Memories}
 use Rattle.memory.specs.Image.{accOf, fileWords, rqOf, wqOf}
 use Rattle.laws.specs.Outstanding.{reqOf}
 use Rattle.laws.proofs.EightFiles.{file-here}
-use Rattle.memory.specs.Stands.{Segment, shareAt, buffersAt, FileBytes}
+use Rattle.memory.specs.Stands.{Segment, buffersAt, FileBytes}
 use Rattle.memory.specs.Fine.{StandsFor}
 use Rattle.memory.proofs.Frames.{bodies-file, fileBytes}
 use Rattle.midst.specs.Seg.{Seg}
@@ -52,7 +52,7 @@ new-buffers : (g : Geo) (t : Store) → zeros fileBytes ≡ fileBuffers (newFile
 unfolding newFile fileBuffers buffer zeros
 new-buffers g t = refl
 
--- of m parts of k bytes the i-th is written
+-- the i-th of m parts of k bytes is written
 module _ (ys zs : List ℕ) (k m i : ℕ) (n : length ys ≡ k * m) (h : i < m) (l : length zs ≡ k) where
   written : part k i (sets ys (k * i) zs) ≡ zs
   written = part-own ys zs k m i n h l
@@ -78,7 +78,6 @@ module _ {m : Memories} {d : Desk} {s : Alloc} (S : StandsFor m d s) (f : ℕ) (
       refl refl (subst Bytes wrote xs-bytes))
 
   shares : (h : ℕ) → (h ≡ f → ⊥) → shareAt h (m′ .blocks) ≡ shareAt h (m .blocks)
-  unfolding shareAt
   shares h n = rw laid (beside (m .blocks) (t .share) shareBytes files f (S .stands .bodies .blocks-size) hf long h n)
 
   others : (h : ℕ) → (h ≡ f → ⊥) → buffersAt h (m′ .buffers) ≡ buffersAt h (m .buffers)
@@ -86,7 +85,7 @@ module _ {m : Memories} {d : Desk} {s : Alloc} (S : StandsFor m d s) (f : ℕ) (
   others h n = rw blank (beside (m .buffers) (zeros fileBytes) fileBytes files f (S .stands .bodies .buffers-size) hf (length-zeros fileBytes) h n)
 
   own : FileBytes new (shareAt f (m′ .blocks)) (buffersAt f (m′ .buffers))
-  unfolding FileBytes shareAt buffersAt hushed newFile
+  unfolding FileBytes buffersAt hushed newFile
   own = (
     rw laid (written (m .blocks) (t .share) shareBytes files f (S .stands .bodies .blocks-size) hf long),
     rw blank (written (m .buffers) (zeros fileBytes) fileBytes files f (S .stands .bodies .buffers-size) hf (length-zeros fileBytes) ∙ new-buffers g t),

@@ -1,4 +1,4 @@
--- A desk of which file f changes, and an allocation, both at place p of it alone: which lists, contents and rows stay, and what stands behind the
+-- A desk whose file f changes, and an allocation, both only at place p of f: which lists, contents and rows stay, and what stands after the
 -- change where the others are known.
 use Prim.Native.Nat.{ℕ, _/_, _%_, _≤_, _<_}
 use mathlib.Core.Path.{_≡_, refl, sym, ap, _∙_}
@@ -21,12 +21,13 @@ use Rattle.laws.specs.Outstanding.{uncollected, reqOf}
 use Rattle.laws.specs.EightFiles.{EightFiles}
 use Rattle.laws.proofs.Counts.{at-or-else}
 use Rattle.laws.proofs.EightFiles.{file-other, file-same}
+use Rattle.laws.proofs.Happenings.{place-of-desk}
 use Rattle.memory.specs.Image.{accOf, placeAcc, reqWords, timerWords, fileWords, placeWords, rowOf, rqOf, wqOf, listOf, queueWords, portWords, boxOf, listsOf, boxesOf}
 use Rattle.memory.proofs.Image.{placeAcc-of, rowOf-file, rowOf-place, each-row, listOf-read, listOf-write, listOf-port, listOf-timers, boxOf-read, boxOf-write, boxOf-port, boxOf-timers, each-list}
 use Rattle.memory.proofs.Boxes.{getD-listsOf, getD-boxesOf}
 use Rattle.memory.proofs.Held.{map-place}
 use Rattle.midst.specs.Seg.{queueAt, sideQueue}
-use Rattle.midst.proofs.Lists.{At, entriesIn, wordsIn, list-side, box-side, Low, place-under, port-none, queue-held, port-held}
+use Rattle.midst.proofs.Lists.{At, entriesIn, wordsIn, list-side, box-side, Low, port-none, queue-held, port-held}
 
 -- file f of the desk goes from b to c, and the allocation from t to u, at place p alone
 pub record Change (f p : ℕ) (d : Desk) (t u : Alloc) (b c : Built) : Type 0 where
@@ -55,7 +56,7 @@ timers-held t u ts h =
     ∙ map-place (λ x. timerEntry (heldAt t x)) ts
 
 module _ {f p : ℕ} {d : Desk} {t u : Alloc} {b c : Built} (C : Change f p d t u b c) where
-  -- the desk behind it
+  -- the desk after the change
   abbrev then : Desk
   then = withFile d f (built c)
 
@@ -124,7 +125,7 @@ module _ {f p : ℕ} {d : Desk} {t u : Alloc} {b c : Built} (C : Change f p d t 
   others : (x : ℕ) → (p ≡ x → ⊥) → (ownEntry (heldAt u (placeOf f x)) ≡ ownEntry (heldAt t (placeOf f x))) × (reqOf (accAt c x) ≡ reqOf (accAt b x))
   others x n = (ap ownEntry (C .held (placeOf f x) (place-beside f p x n)), ap reqOf (C .accs x n))
 
-  -- of which p is no member
+  -- a queue of which p is no member stays
   pub same-queue : (w : Bool) → sideQueue w c ≡ sideQueue w b → count p (sideQueue w b) ≡ 0 → Kept (queueAt w f)
   same-queue w e z = queue-kept w e (λ x k. others x (λ v. omega (arith, ap (λ (y : ℕ). count y (sideQueue w b)) v)))
 
@@ -140,19 +141,19 @@ module _ {f p : ℕ} {d : Desk} {t u : Alloc} {b c : Built} (C : Change f p d t 
         map-in (λ x. reqWords (placeOf f x) (reqOf (accAt c x))) (λ x. reqWords (placeOf f x) (reqOf (accAt b x))) l
         (λ x k. ap (reqWords (placeOf f x)) (others x (λ v. omega (arith, ap (λ (y : ℕ). count y l) v)) .1))
 
-  -- the place's reply port, before and behind
+  -- the place's reply port, before and after
 
   pub list-port-was : listOf d t (replyPort (placeOf f p)) ≡ portOf (reqOf (accAt b p)) (placeOf f p) t
-  list-port-was = listOf-port d t (placeOf f p) (place-under f p (C .file) (C .place)) ∙ ap (λ (o : Option Acc). portOf (reqOf o) (placeOf f p) t) place-was
+  list-port-was = listOf-port d t (placeOf f p) (place-of-desk f p (C .file) (C .place)) ∙ ap (λ (o : Option Acc). portOf (reqOf o) (placeOf f p) t) place-was
 
   pub list-port-now : listOf then u (replyPort (placeOf f p)) ≡ portOf (reqOf (accAt c p)) (placeOf f p) u
-  list-port-now = listOf-port then u (placeOf f p) (place-under f p (C .file) (C .place)) ∙ ap (λ (o : Option Acc). portOf (reqOf o) (placeOf f p) u) place-here
+  list-port-now = listOf-port then u (placeOf f p) (place-of-desk f p (C .file) (C .place)) ∙ ap (λ (o : Option Acc). portOf (reqOf o) (placeOf f p) u) place-here
 
   pub box-port-was : boxOf d t (replyPort (placeOf f p)) ≡ portWords (placeOf f p) (reqOf (accAt b p))
-  box-port-was = boxOf-port d t (placeOf f p) (place-under f p (C .file) (C .place)) ∙ ap (λ (o : Option Acc). portWords (placeOf f p) (reqOf o)) place-was
+  box-port-was = boxOf-port d t (placeOf f p) (place-of-desk f p (C .file) (C .place)) ∙ ap (λ (o : Option Acc). portWords (placeOf f p) (reqOf o)) place-was
 
   pub box-port-now : boxOf then u (replyPort (placeOf f p)) ≡ portWords (placeOf f p) (reqOf (accAt c p))
-  box-port-now = boxOf-port then u (placeOf f p) (place-under f p (C .file) (C .place)) ∙ ap (λ (o : Option Acc). portWords (placeOf f p) (reqOf o)) place-here
+  box-port-now = boxOf-port then u (placeOf f p) (place-of-desk f p (C .file) (C .place)) ∙ ap (λ (o : Option Acc). portWords (placeOf f p) (reqOf o)) place-here
 
   -- empty both times
   pub same-port : uncollected (reqOf (accAt b p)) ≡ 0 → uncollected (reqOf (accAt c p)) ≡ 0 → Kept (replyPort (placeOf f p))

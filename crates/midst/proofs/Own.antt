@@ -26,7 +26,7 @@ module _ (xs : List ℕ) (bytes : Bytes xs) where
   unfolding fill
   fill-own k v vs e = ap (λ (ys : List ℕ). fill ys (suc k) vs) (ap (putNth xs k) (sym e) ∙ put-own k)
 
-  -- the same, the next word's number known by an equation
+  -- a word that is there already, the next word's number known by an equation
   on : (k j v : ℕ) (vs : List ℕ) → nth xs k ≡ v → suc k ≡ j → fill xs k (v ∷ vs) ≡ fill xs j vs
   on k j v vs e h = fill-own k v vs e ∙ ap (λ (i : ℕ). fill xs i vs) h
 

@@ -1,4 +1,4 @@
--- An accessor of a file, with an entry for its request: what its queues and its reply port are, and what they come to when its request changes.
+-- An accessor of a file, with an entry for its request: what its queues and its reply port are, and what they become when its request changes.
 use Prim.Native.Nat.{ℕ, suc, _*_, _<_}
 use mathlib.Core.Path.{_≡_, sym, ap, _∙_}
 use mathlib.Core.Bool.{Bool, true, false}
@@ -20,7 +20,7 @@ use Rattle.laws.specs.Entries.{size, Agrees}
 use Rattle.laws.specs.Queues.{Agree}
 use Rattle.laws.specs.EightFiles.{EightFiles}
 use Rattle.laws.proofs.Accessors.{getD-alter-same, getD-alter-other}
-use Rattle.laws.proofs.Happenings.{open-below}
+use Rattle.laws.proofs.Happenings.{open-below, place-of-desk}
 use Rattle.laws.proofs.Sieve.{countT-sieve}
 use Rattle.segment.specs.Layout.{replyPort}
 use Rattle.ports.specs.Index.{cut, index}
@@ -28,7 +28,7 @@ use Rattle.memory.specs.Image.{accOf, placeAcc, reqWords, placeWords, listOf, p
 use Rattle.memory.proofs.Image.{placeAcc-of, listOf-port, boxOf-port}
 use Rattle.memory.proofs.Boxes.{getD-listsOf, getD-boxesOf}
 use Rattle.midst.specs.Seg.{Seg, queueAt, sideQueue}
-use Rattle.midst.proofs.Lists.{entriesIn, wordsIn, list-side, box-side, place-under}
+use Rattle.midst.proofs.Lists.{entriesIn, wordsIn, list-side, box-side}
 use Rattle.midst.proofs.Cuts.{map-removed, map-absent}
 use Rattle.midst.proofs.Boxed.{Boxed}
 use Rattle.midst.proofs.Terms.{waitsAt, place-other}
@@ -66,7 +66,7 @@ module _ {f p : ℕ} {d : Desk} {b : Built} {a : Acc} {t : Alloc} (P : Placed f 
   i = placeOf f p
 
   pub hi : i < files * places
-  hi = place-under f p (P .file) (P .place)
+  hi = place-of-desk f p (P .file) (P .place)
 
   pub count-side : (w : Bool) (x : ℕ) → count x (sideQueue w b) ≡ waitsAt w (reqOf (accAt b x))
   unfolding accAt
@@ -104,7 +104,7 @@ module _ {f p : ℕ} {d : Desk} {b : Built} {a : Acc} {t : Alloc} (P : Placed f 
     unfolding placeWords withReq
     row-now = ap placeWords acc-now ∙ sym (ap placeWords (P .opens))
 
-    -- what the queues come to
+    -- what the queues become
     module _ (w : Bool) (out : sideQueue w c ≡ without p (sideQueue w b)) where
       entry-as : (x : ℕ) → (x ≡ p → ⊥) → ownEntry (heldAt u (placeOf f x)) ≡ ownEntry (heldAt t (placeOf f x))
       entry-as x n = ap ownEntry (held (placeOf f x) (place-other f p x n))

@@ -18,7 +18,7 @@ use Rattle.rules.specs.Reply.{Out, hushed, leaves, answering, status, unmade}
 use Rattle.rules.specs.Open.{openReader, openWriter}
 use Rattle.rules.specs.Transfer.{mayWait, readOn, isNil, writeOn, collected, collect}
 use Rattle.rules.specs.Controls.{abort}
-use Rattle.rules.specs.Counts.{counts}
+use Rattle.rules.specs.FileCounts.{counts}
 use Rattle.rules.specs.Calls.{Ask, refusal, ask, askBuilt, askUnbuilt}
 use Rattle.rules.specs.Calls as calls
 use Rattle.rules.specs.Desk.{Desk, on, fileOf, withFile, Responded, answered}
@@ -35,7 +35,7 @@ use Rattle.laws.proofs.Allocated.{happens-here, happens-nowhere}
 use Rattle.memory.specs.Memories.{Memories}
 use Rattle.memory.specs.Fine.{Fine, StandsFor}
 use Rattle.midst.specs.Outcome.{statusOf, replyStatus, refusalOf}
-use Rattle.midst.specs.Accepted.{OpenKnown, CloseKnown, ControlKnown, Known, KnownNew, Verdict, refuses, accepts, endOf, Ended, Refused}
+use Rattle.midst.specs.Accepted.{OpenKnown, CloseKnown, ControlKnown, Known, KnownNew, Judging, refuses, accepts, endOf, Ended, Refused}
 use Rattle.midst.proofs.Judged.{refusal-back, judged, judged-new}
 
 -- the file with another past
@@ -147,13 +147,13 @@ stays : (x : File) (q : Ask) → Calm x → OnFile Ended x → (Passes (ask x q)
 unfolding ask OnFile hushed pastly
 stays unbuilt q c z n = go (judged-new q)
   where
-    go : Verdict q unmade (KnownNew q) (askUnbuilt q)
+    go : Judging q unmade (KnownNew q) (askUnbuilt q)
         → (askUnbuilt q .file ≡ unbuilt) × (askUnbuilt q .haps ≡ []) × (askUnbuilt q .reply ≡ refusal q (refusalOf (askUnbuilt q .reply)))
     go (refuses m l e) = rw e (unfold unmade in (refl, refl, rw (refusal-back q m l)))
     go (accepts k) = absurd (n (new-passes q (askUnbuilt q) k))
 stays (built b) q c z n = go (judged b q)
   where
-    go : Verdict q (λ r. leaves r b) (Known q b) (askBuilt b q)
+    go : Judging q (λ r. leaves r b) (Known q b) (askBuilt b q)
         → (askBuilt b q .file ≡ built b) × (askBuilt b q .haps ≡ []) × (askBuilt b q .reply ≡ refusal q (refusalOf (askBuilt b q .reply)))
     go (refuses m l e) = rw e (unfold leaves in (ap (λ (hs : List Hap). built (pastly b hs)) (sym c), c, rw (refusal-back q m l)))
     go (accepts k) = absurd (n (known-passes q b (askBuilt b q) z k))

@@ -1,4 +1,4 @@
--- In the midst of a call a request begins to wait, completes, is cancelled or is collected: the memories behind it stand for the file behind it.
+-- In the midst of a call a request begins to wait, completes, is cancelled or is collected: the memories after it stand for the file after it.
 use Prim.Native.Nat.{ℕ, _*_, _≤_, _<_}
 use mathlib.Core.Path.{_≡_, refl, sym, ap, _∙_, subst}
 use mathlib.Core.Bool.{Bool, true, false}
@@ -49,7 +49,7 @@ unfolding Bounded lies
 ends-fit words (readEnds e h n) k = omega arith
 ends-fit words (writeEnds e n) k = omega arith
 
--- and it is not yet collected
+-- a request that has ended is not yet collected
 ends-done : {st : ℕ} {r q : Req} → Ends st r q → uncollected q ≡ 1
 unfolding uncollected
 ends-done (readEnds e h n) = refl
@@ -146,7 +146,7 @@ module _ {I : Built → Type 0} {f : ℕ} {o : Start} {m : Memories} {x : hand.F
     unfolding finish leave say withTimers requeue alterAcc withAccs withQueues allot
     ended = allot-snoc f (b .past) (ends p st) (o .alloc)
 
-    -- its entry stands behind those of the places ys
+    -- the request's entry comes after those of the places ys
     pub step-finish : {J : Built → Type 0} (ys zs : List ℕ) → sideQueue side b ≡ ys ++ p ∷ zs → count p ys ≡ 0 → (buffers′ : List ℕ) → J (finish p st q b) → Laid f p (a .req) q (m .buffers) buffers′
         → Mid J f o (memories (completed (m .segment) (slotAt (queueAt side f) (entriesIn f t ys)) (placeOf f p) (reqWords (placeOf f p) q)) (m .blocks) buffers′) x (finish p st q b)
     step-finish {J} ys zs queue first buffers′ good L =

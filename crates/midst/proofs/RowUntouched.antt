@@ -30,7 +30,7 @@ use Rattle.midst.specs.Mid.{Start, Mid}
 use Rattle.midst.proofs.Alike.{lists-alike, boxes-alike}
 use Rattle.midst.proofs.Begins.{fine-agree, hushed-alike, hushed-acc, hushed-bytes, rows-same}
 
--- it begins
+-- the call begins
 pub seg-stands : {m : Memories} {d : Desk} {s : Alloc} → StandsFor m d s → (f : ℕ) (b : Built) → f < files → fileOf d f ≡ built b
     → Seg (m .segment) (withFile d f (built b)) (allotAll f (b .past) s) rowCount
 unfolding allotAll OnFile
@@ -42,14 +42,14 @@ seg-stands {m} {d = d} {s = s} S f b h e =
       same = λ i k _. getD-rowsOf d s i k;
     }
 
--- the row of file f, of a desk whose file f is b, is that of one where nothing is left to tell
+-- the row of file f, of a desk whose file f is b, is that of the same file with no happenings
 row-hushed : (d : Desk) (f : ℕ) (b : Built) → f < files → EightFiles d → rowOf (withFile d f (built b)) (fileRow f) ≡ rowOf (withFile d f (built (hushed b))) (fileRow f)
 unfolding fileWords hushed
 row-hushed d f b h k =
     rowOf-file (withFile d f (built b)) f h ∙ ap fileWords (file-same d f (built b) k h)
     ∙ sym (rowOf-file (withFile d f (built (hushed b))) f h ∙ ap fileWords (file-same d f (built (hushed b)) k h))
 
--- it ends
+-- the call ends
 pub mid-stays : {I : Built → Type 0} {f : ℕ} {o : Start} {m : Memories} {x : hand.File} {b : Built} → Mid I f o m x b
     → Seg (m .segment) (withFile (o .desk) f (built b)) (allotAll f (b .past) (o .alloc)) rowCount → Bodies (o .memories) (o .desk) → Bytes (m .segment) → Bytes (m .blocks) → Bytes (m .buffers)
     → Stands m (withFile (o .desk) f (built (hushed b))) (allotAll f (b .past) (o .alloc))

@@ -91,7 +91,7 @@ seg-row xs d d′ t t′ k i r S e el em h n er es =
     go j g u (yes v) = rw v (getD-set-same (S .rows) (placeRow i) r [] (omega (arith, S .boxes .rowed)) ∙ er)
     go j g u (no v) = getD-set-other (S .rows) (placeRow i) j r [] v ∙ S .same j g u ∙ es j g u v
 
--- its fields alone: the words to spare are zero already
+-- the fields of a place alone are written: the spare words are zero already
 spare-stands : (xs : List ℕ) (d : Desk) (t : Alloc) (k i : ℕ) → Seg xs d t k → placeRow i < rowCount → (placeRow i ≡ k → ⊥) → (j : ℕ) → j < placeSpare → nth xs (placeRowAt i + placeFields + j) ≡ 0
 spare-stands xs d t k i S h n j g =
     let e : placeRowAt i + placeFields + j ≡ placeRowAt i + (placeFields + j) = omega arith in
@@ -119,9 +119,9 @@ rows-beside d f p b c n h e =
         go (yes u) = rw (u, file-same d f (built b) n h, file-same d f (built c) n h) (unfold accOf in sym (e (i % places) (λ v. m (unfold placeOf in omega arith))))
         go (no u) = rw (file-other d f (i / places) (built b) u, file-other d f (i / places) (built c) u)
 
-pub place-below : (f p : ℕ) → f < files → p < places → placeRow (placeOf f p) < rowCount
+pub place-row-below : (f p : ℕ) → f < files → p < places → placeRow (placeOf f p) < rowCount
 unfolding placeOf
-place-below f p h k = omega arith
+place-row-below f p h k = omega arith
 
 module _ {I J : Built → Type 0} {f : ℕ} {o : Start} {ms : Memories} {x : hand.File} {b : Built} (M : Mid I f o ms x b) where
   pub mid-accs : (p : ℕ) (c : Built) (r : PlaceRow) → p < places → Beside p b c → J c → spared (placeWords r) ≡ image.placeWords (accAt c p)
@@ -133,11 +133,11 @@ module _ {I J : Built → Type 0} {f : ℕ} {o : Start} {ms : Memories} {x : han
     good = good;
     allots = beside-mid B f (o .alloc) (M .allots);
     segment = subst (λ (ys : List ℕ). Seg ys (withFile (o .desk) f (built c)) (allotAll f (c .past) (o .alloc)) (fileRow f))
-        (fields-row (ms .segment) _ _ (fileRow f) (placeOf f p) r (M .segment) (place-below f p (M .file) hp) (λ u. unfold placeOf in omega (arith, u, M .file)))
+        (fields-row (ms .segment) _ _ (fileRow f) (placeOf f p) r (M .segment) (place-row-below f p (M .file) hp) (λ u. unfold placeOf in omega (arith, u, M .file)))
         (seg-row (ms .segment) (withFile (o .desk) f (built b)) (withFile (o .desk) f (built c)) (allotAll f (b .past) (o .alloc)) _ (fileRow f) (placeOf f p) (spared (placeWords r)) (M .segment)
         (ap (λ hs. allotAll f hs (o .alloc)) (B .past))
         (lists-alike (o .desk) f _ _ (beside-alike B) _) (boxes-alike (o .desk) f _ _ (beside-alike B) _)
-        (place-below f p (M .file) hp) (length-spared r)
+        (place-row-below f p (M .file) hp) (length-spared r)
         (e ∙ sym (rowOf-acc (withFile (o .desk) f (built c)) f p hp ∙ ap (λ z. image.placeWords (accOf z p)) (file-same (o .desk) f (built c) (M .eight) (M .file))))
         (rows-beside (o .desk) f p b c (M .eight) (M .file) (B .others)));
     row = M .row ∙ beside-hand B;

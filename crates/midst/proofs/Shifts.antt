@@ -21,10 +21,11 @@ use Rattle.memory.specs.Image.{accOf, placeAcc, timerWords, fileWords, placeWor
 use Rattle.laws.specs.Outstanding.{reqOf}
 use Rattle.laws.specs.EightFiles.{EightFiles}
 use Rattle.laws.proofs.EightFiles.{file-other, file-same}
+use Rattle.laws.proofs.Happenings.{place-of-desk}
 use Rattle.memory.proofs.Image.{placeAcc-of, rowOf-file, rowOf-place, each-row, listOf-free, listOf-read, listOf-write, listOf-port, listOf-timers, boxOf-free, boxOf-read, boxOf-write, boxOf-port, boxOf-timers, each-list}
 use Rattle.memory.proofs.Boxes.{getD-listsOf}
 use Rattle.midst.specs.Seg.{Seg, queueAt, sideQueue}
-use Rattle.midst.proofs.Lists.{boxes-are, entriesIn, wordsIn, below-side, list-side, box-side, place-under, queue-held, port-held}
+use Rattle.midst.proofs.Lists.{boxes-are, entriesIn, wordsIn, below-side, list-side, box-side, queue-held, port-held}
 use Rattle.midst.proofs.Cuts.{count-made}
 use Rattle.midst.proofs.Boxed.{Boxed}
 use Rattle.midst.proofs.Goes.{blank}
@@ -41,7 +42,7 @@ pub sides-apart : (w : Bool) (f : ℕ) → f < files → queueAt (not w) f ≡ q
 sides-apart true f h e = omega arith
 sides-apart false f h e = omega arith
 
--- a queue is none of the other lists
+-- a queue is not one of the other lists
 pub queue-range : (w : Bool) (f : ℕ) → f < files → (readQueues ≤ queueAt w f) × (queueAt w f < replyPorts)
 queue-range true f h = (omega arith, omega arith)
 queue-range false f h = (omega arith, omega arith)
@@ -77,7 +78,7 @@ once-apart d t B i m h k w g y hg n e x c z =
       ap (count (ownEntry (heldAt t i))) (getD-listsOf d t (queueAt w g) (below-side w g hg)),
     )
 
--- list l is none of the five
+-- list l is not one of the five
 pub record Off (f i l : ℕ) : Type 0 where
   pub free : l ≡ freeList → ⊥
   pub timers : l ≡ layout.timerList → ⊥
@@ -170,7 +171,7 @@ module _ {f p : ℕ} {d : Desk} {t u : Alloc} {b c : Built} (C : Shift f p d t u
         Is l = (ls l ≡ listOf next u l) × (ms l ≡ boxOf next u l)
 
         hi : i < files * places
-        hi = place-under f p (C .file) (C .place)
+        hi = place-of-desk f p (C .file) (C .place)
 
         at-free : Is freeList
         at-free = (free .0 ∙ sym (listOf-free next u), free .1 ∙ sym (boxOf-free next u))

@@ -1,4 +1,4 @@
--- The memories behind an accepted call of a file, behind a passage of time, and behind a refused call are those of the rules' desk.
+-- The memories after an accepted call of a file, after a passage of time, and after a refused call are those of the rules' desk.
 use Prim.Native.Nat.{ℕ, _<_}
 use mathlib.Core.Path.{_≡_, refl, sym, ap, _∙_}
 use mathlib.Core.Bool.{Bool, true, false, true≢false}
@@ -12,6 +12,7 @@ use Rattle.rules.specs.Calls.{Ask, askBuilt, ask}
 use Rattle.rules.specs.Desk.{Desk, Call, on, time, asked, fileOf, withFile, deskTime, Responded, answered, respond}
 use Rattle.rules.specs.Time.{fileTime}
 use Rattle.rules.specs.Allocation.{Alloc, allotAll, allocTime, allocAsked}
+use Rattle.rules.specs.Memories.{shareAt}
 use Rattle.laws.specs.Runs.{Proper}
 use Rattle.laws.specs.Changes.{Walks}
 use Rattle.laws.proofs.Proper.{asked-proper}
@@ -21,7 +22,7 @@ use Rattle.laws.proofs.Allocated.{happens-here}
 use Rattle.laws.proofs.Allocated as laws
 use Rattle.laws.proofs.EightFiles.{file-same, file-time}
 use Rattle.memory.specs.Memories.{Memories, memories}
-use Rattle.memory.specs.Stands.{Stands, shareAt, buffersAt}
+use Rattle.memory.specs.Stands.{Stands, buffersAt}
 use Rattle.memory.specs.Fine.{StandsFor}
 use Rattle.midst.specs.Outcome.{Outcome, Stays}
 use Rattle.midst.proofs.StaysFine.{answered-fine}

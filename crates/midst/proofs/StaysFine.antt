@@ -46,7 +46,7 @@ lasts-fine e x h =
     on-file (λ b. Fine b × Any b) Fine (λ b i. i .0) (fileTime e x)
     (lasts Fine Any Owed fine-walks fine-lapse (any Fine) fine-starts any-start both e x (more x h))
 
--- of every file
+-- every file stays fine
 pub answered-fine : (d : Desk) (a : Asked) → EightFiles d → ProperAsked a → ((f : ℕ) → f < files → OnFile Fine (fileOf d f))
     → (f : ℕ) → f < files → OnFile Fine (fileOf (answered d a .desk) f)
 unfolding ProperAsked

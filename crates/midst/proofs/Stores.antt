@@ -11,7 +11,7 @@ use Rattle.rules.specs.Limits.{shareBytes}
 use Rattle.rules.specs.State.{Rec, Hap, puts, drops, Built, built}
 use Rattle.rules.specs.Store.{put, fetch}
 use Rattle.rules.specs.Requests.{withStore, say, putRec, tookBy, behind, accAt}
-use Rattle.rules.specs.Memories.{fileBuffers}
+use Rattle.rules.specs.Memories.{shareAt, fileBuffers}
 use Rattle.rules.specs.Desk.{Desk, withFile}
 use Rattle.segment.specs.Layout.{fileRow}
 use Rattle.rules.specs.Allocation.{Alloc, allot, allotAll}
@@ -30,7 +30,6 @@ use Rattle.blocks.proofs.Held.{held-inscribed}
 use Rattle.shares.proofs.Put.{length-inscribed}
 use Rattle.memory.specs.Memories.{Memories, memories}
 use Rattle.memory.specs.Image.{accOf, rqOf, wqOf}
-use Rattle.memory.specs.Stands.{shareAt}
 use Rattle.words.proofs.Parts.{sets-whole}
 use Rattle.memory.proofs.Frames.{shareAt-sets, shareAt-sets-other}
 use Rattle.midst.specs.declared.File as hand
@@ -42,7 +41,7 @@ use Rattle.midst.proofs.Begins.{rows-same}
 use Rattle.records.specs.Fetch.{Stores}
 use Rattle.laws.proofs.Midst.{mid-walks}
 
--- the file in hand changes but for its accessors and queues
+-- the file in hand changes, except for its accessors and queues
 pub record Storing (b c : Built) : Type 0 where
   pub accs : c .accs ≡ b .accs
   pub reads : c .rq ≡ b .rq
@@ -122,7 +121,7 @@ module _ {I J : Built → Type 0} {f : ℕ} {o : Start} {ms : Memories} {x : han
   mid-put k h r j m =
       subst (λ (y : hand.File). Mid J f o (memories (ms .segment) (sets (ms .blocks) (shareBytes * f) (inscribed (x .words) (x .ring) r (shareAt f (ms .blocks)))) (ms .buffers)) y (putRec r b)) hand-put
       (mid-storing {J = J} M _ _ (record { accs = refl; reads = refl; writes = refl }) j m (puts-same f (b .past) r (o .alloc))
-      share-put (length-sets (ms .blocks) (shareBytes * f) ys) (λ g n. rw (← at-zero) (shareAt-sets-other f 0 ys (ms .blocks) long g n)))
+      share-put (length-sets (ms .blocks) (shareBytes * f) ys) (λ g n. rw at-zero at (shareAt-sets-other f 0 ys (ms .blocks) long g n)))
     where
       ys : List ℕ
       ys = inscribed (x .words) (x .ring) r (shareAt f (ms .blocks))

@@ -18,6 +18,7 @@ use Rattle.laws.specs.Entries.{entriesOf, size}
 use Rattle.laws.proofs.Outstanding.{outstanding-most}
 use Rattle.laws.proofs.Allots.{clock-ends}
 use Rattle.segment.specs.Layout.{dataWords}
+use Rattle.segment.specs.Fields.{entryWords}
 use Rattle.memory.specs.Image.{reqWords, portWords}
 use Rattle.midst.proofs.Cuts.{map-timers}
 use Rattle.midst.proofs.Goes.{freeTimer-other}
@@ -43,7 +44,7 @@ done-waits false q h = omega (arith, outstanding-most q)
 
 -- the data of a waiting request begin with its place
 pub words-place : (i : ℕ) (q : Req) → 1 ≤ awaits q → getD (reqWords i q) 0 0 ≡ i
-unfolding reqWords waitsRead waitsWrite
+unfolding reqWords waitsRead waitsWrite entryWords
 words-place i idle h = absurd (omega arith)
 words-place i (reading q) h = refl
 words-place i (writing q) h = refl
@@ -51,7 +52,7 @@ words-place i (readDone q) h = refl
 words-place i (writeDone q) h = refl
 
 pub length-words : (i : ℕ) (q : Req) → length (reqWords i q) ≡ dataWords
-unfolding reqWords
+unfolding reqWords entryWords
 length-words i idle = refl
 length-words i (reading q) = refl
 length-words i (writing q) = refl
@@ -98,7 +99,7 @@ module _ (i : ℕ) (t : Alloc) where
       go (own x) e n = unfold freeTimer ownEntry in e
       go (timed x y) e n = unfold freeTimer holds withClock heldAt ownEntry in getD-set-same (t .held) i (own x) nothing h
 
-  -- and one that goes frees it
+  -- a request that goes frees its own entry
   module _ (e : ℕ) (q : heldAt (endsAt i t) i ≡ own e) where
     goes-is : goesAt i t ≡ holds i nothing (e ∷ endsAt i t .free) (endsAt i t)
     unfolding goesAt freeOwn

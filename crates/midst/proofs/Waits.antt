@@ -27,11 +27,11 @@ use Rattle.laws.proofs.Accessors.{getD-alter-same, getD-alter-other}
 use Rattle.laws.proofs.Sieve.{countT-sieve}
 use Rattle.laws.proofs.Outstanding.{outstanding-idle}
 use Rattle.laws.proofs.Allots.{steps-takeOwn, heldAt-takeOwn, steps-takeTimer, heldAt-takeTimer, heldAt-withClock}
-use Rattle.laws.proofs.Happenings.{open-below, idle-holds}
+use Rattle.laws.proofs.Happenings.{open-below, idle-holds, place-of-desk}
 use Rattle.laws.proofs.EightFiles.{eight-put, file-other, file-same, put-twice}
 use Rattle.memory.specs.Image.{reqWords, placeWords}
 use Rattle.midst.specs.Seg.{Seg, queueAt, sideQueue}
-use Rattle.midst.proofs.Lists.{Low, place-under}
+use Rattle.midst.proofs.Lists.{Low}
 use Rattle.midst.proofs.OnePlace.{Change}
 use Rattle.midst.proofs.Joins.{armsAt, seg-free, seg-queue, seg-arm}
 
@@ -45,7 +45,7 @@ allot-snoc f (g ∷ hs) h s = allot-snoc f hs h (allot f g s)
 begins : Bool → ℕ → Req → Built → Built
 begins w p q b = say (waits p ∷ []) (requeue p q (cond w (b .rq) (b .rq ++ p ∷ [])) (cond w (b .wq ++ p ∷ []) (b .wq)) b)
 
--- it is
+-- arms the timer of the request at p
 arms-too : ℕ → ℕ → Built → Built
 arms-too p n b = say (arms p n ∷ []) (withTimers (armIn (record { place = p; left = n }) (b .timers)) b)
 
@@ -109,7 +109,7 @@ module _ (f : ℕ) (hf : f < files) (s : Alloc) (d : Desk) (eight : EightFiles d
   hp = open-below (b .accs) p a (M .matches .agrees .eight) e
 
   hi : i < files * places
-  hi = place-under f p hf hp
+  hi = place-of-desk f p hf hp
 
   req-was : laws.reqAt (b .accs) p ≡ idle
   unfolding accAt laws.reqOf

@@ -1,4 +1,4 @@
--- What every change that a call makes keeps: the file is fine, and while a writer's close record is owed it is fine but for that.
+-- What every change that a call makes keeps: the file is fine, and while a writer's close record is owed it is fine except for that.
 use Prim.Native.Nat.{ℕ}
 use Rattle.rules.specs.State.{Built}
 use Rattle.laws.specs.Changes.{Walks}

@@ -1,4 +1,4 @@
--- What is known of a call of a file that is not refused, and what a refused one leaves. b is the file, o what the call comes to.
+-- What is known of a call of a file that is not refused, and what a refused one leaves. b is the file, o the outcome of the call.
 use mathlib.Core.Path.{_≡_}
 use mathlib.Core.Bool.{Bool, true, false}
 use mathlib.Core.List.{List}
@@ -13,7 +13,7 @@ use Rattle.rules.specs.Limits.{files, places, mostMode}
 use Rattle.rules.specs.Geometry.{dataBlocks, capacity, inRange, fitsShare}
 use Rattle.rules.specs.State.{Req, idle, reading, writing, readDone, writeDone, Acc, Built, unbuilt, built}
 use Rattle.rules.specs.Store.{emptyStore}
-use Rattle.rules.specs.Count.{countBytes, readable}
+use Rattle.rules.specs.TransferCounts.{countBytes, readable}
 use Rattle.rules.specs.Requests.{countAcc, opened, accAt, alterAcc, cancel}
 use Rattle.rules.specs.Settle.{settle}
 use Rattle.rules.specs.Reply.{Reply, Out, answering, status}
@@ -21,7 +21,7 @@ use Rattle.rules.specs.Open.{newFile, geoOf, sharingOf, otherShare, crowded, pu
 use Rattle.rules.specs.Transfer.{readOn, writeOn, collect}
 use Rattle.rules.specs.Controls.{setTimeout, setExtended, setTyped, setKeep, abort}
 use Rattle.rules.specs.Close.{closed, close}
-use Rattle.rules.specs.Counts.{counts}
+use Rattle.rules.specs.FileCounts.{counts}
 use Rattle.rules.specs.Calls.{Ask, refusal, ask}
 use Rattle.rules.specs.Calls as calls
 use Rattle.rules.specs.Desk.{Desk, on, fileOf, answered}
@@ -52,7 +52,7 @@ pub record CollectKnown (p : ℕ) (b : Built) (o : Out) : Type 0 where
   pub outstands : a .req ≡ idle → ⊥
   pub out : o ≡ collect p (a .req) b
 
--- no request, or one that waits and is cancelled
+-- a close that is not refused: there is no request, or one that waits and is cancelled
 pub record CloseKnown (p : ℕ) (b : Built) (o : Out) : Type 0 where
   pub a : Acc
   pub at : accAt b p ≡ some a
@@ -61,21 +61,21 @@ pub record CloseKnown (p : ℕ) (b : Built) (o : Out) : Type 0 where
   pub waits : awaits (a .req) ≡ 1 → o ≡ answering Closed (settle (closed p a (cancel p b)))
   pub out : o ≡ close p a (a .req) b
 
--- an accessor is changed
+-- a control that changes an accessor
 pub record SetKnown (p : ℕ) (f : Acc → Acc) (b : Built) (o : Out) : Type 0 where
   pub a : Acc
   pub at : accAt b p ≡ some a
   pub idles : a .req ≡ idle
   pub out : o ≡ answering Controlled (alterAcc p f b)
 
--- nothing is to be done
+-- a verify, which has nothing to do
 pub record VerifyKnown (p : ℕ) (b : Built) (o : Out) : Type 0 where
   pub a : Acc
   pub at : accAt b p ≡ some a
   pub idles : a .req ≡ idle
   pub out : o ≡ answering Controlled b
 
--- an accessor is changed by a parameter that is 0 or 1
+-- a control that changes an accessor by a parameter that is 0 or 1
 pub record SwitchKnown (p v : ℕ) (f : Bool → Acc → Acc) (b : Built) (o : Out) : Type 0 where
   pub a : Acc
   pub at : accAt b p ≡ some a
@@ -83,7 +83,7 @@ pub record SwitchKnown (p v : ℕ) (f : Bool → Acc → Acc) (b : Built) (o : O
   pub low : v ≤ 1
   pub out : o ≡ answering Controlled (alterAcc p (f (eqb v 1)) b)
 
--- and the accessor is a reader
+-- a control that changes a reader by a parameter that is 0 or 1
 pub record ReaderKnown (p v : ℕ) (f : Bool → Acc → Acc) (b : Built) (o : Out) : Type 0 where
   pub a : Acc
   pub at : accAt b p ≡ some a
@@ -126,7 +126,7 @@ pub record BuildKnown (r b n x : ℕ) (o : Out) : Type 0 where
   pub fits : fitsShare r b (dataBlocks n b x) ≡ true
   pub out : o ≡ answering (answer.Built (capacity b (dataBlocks n b x))) (newFile (geoOf r b (dataBlocks n b x)) emptyStore)
 
--- of a call of a built file; of save and look only that they are not refused
+-- what is known of an accepted call of a built file; of save and look only that they are not refused
 unfoldable pub Known : Ask → Built → Out → Type 0
 Known (calls.build r f n x) b o = ⊥
 Known (calls.opens access share multi) b o = OpenKnown access share multi b o
@@ -140,7 +140,7 @@ Known (calls.load t) b o = ⊥
 Known (calls.save n) b o = refusalOf (o .reply) ≡ 0
 Known (calls.look p) b o = refusalOf (o .reply) ≡ 0
 
--- and of one that is not built; of load only that it is not refused
+-- what is known of an accepted call of a file that is not built; of load only that it is not refused
 unfoldable pub KnownNew : Ask → Out → Type 0
 KnownNew (calls.build r f n x) o = BuildKnown r f n x o
 KnownNew (calls.opens access share multi) o = ⊥
@@ -154,20 +154,20 @@ KnownNew (calls.load t) o = refusalOf (o .reply) ≡ 0
 KnownNew (calls.save n) o = ⊥
 KnownNew (calls.look p) o = ⊥
 
--- a call that leaves x where it is refused, and of which K is known where it is not
-pub data Verdict (q : Ask) (x : Reply → Out) (K : Out → Type 0) (o : Out) : Type 0 where
-  refuses : (n : ℕ) → leastRefusal ≤ n → o ≡ x (refusal q n) → Verdict q x K o
-  accepts : K o → Verdict q x K o
+-- a call that leaves x if it is refused, and of which K is known if it is not
+pub data Judging (q : Ask) (x : Reply → Out) (K : Out → Type 0) (o : Out) : Type 0 where
+  refuses : (n : ℕ) → leastRefusal ≤ n → o ≡ x (refusal q n) → Judging q x K o
+  accepts : K o → Judging q x K o
 
--- a call of file f of desk d that is not refused: the file stands, and K is known of it and of what the call comes to
-pub record Accepted (K : Built → Out → Type 0) (d : Desk) (f : ℕ) (q : Ask) : Type 0 where
+-- a call of file f of desk d that is not refused: the file is built, and K is known of it and of the call's outcome
+pub record NotRefused (K : Built → Out → Type 0) (d : Desk) (f : ℕ) (q : Ask) : Type 0 where
   pub file : f < files
   pub b : Built
   pub stands : fileOf d f ≡ built b
   pub known : K b (ask (fileOf d f) q)
 
--- a file that was not built is
-pub record AcceptedNew (K : Out → Type 0) (d : Desk) (f : ℕ) (q : Ask) : Type 0 where
+-- a call of file f of desk d that is not refused, although the file is not built: K is known of the call's outcome
+pub record NotRefusedNew (K : Out → Type 0) (d : Desk) (f : ℕ) (q : Ask) : Type 0 where
   pub file : f < files
   pub stands : fileOf d f ≡ unbuilt
   pub known : K (ask (fileOf d f) q)
@@ -180,7 +180,7 @@ endOf (writing q) = 0
 endOf (readDone q) = (q .status)
 endOf (writeDone q) = (q .status)
 
--- no completed request brings the number of a refusal
+-- no completed request brings a refusal number
 abbrev pub Ended : Built → Type 0
 Ended b = (x : ℕ) → endOf (reqAt (b .accs) x) < leastRefusal
 

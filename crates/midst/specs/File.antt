@@ -23,7 +23,7 @@ fileRowWords x = x .words ∷ x .ring .factor ∷ x .ring .blocks ∷ x .ring .b
 abbrev pub inHand : Built → File
 inHand b = record { words = b .geo .words; ring = ringOf (b .geo) (b .store) }
 
--- the row of file f holds x, but for where its ring stands
+-- the row of file f holds x, except for its ring's block, spent and held
 pub record RowStands (xs : List ℕ) (f : ℕ) (x : File) : Type 0 where
   pub file : File
   pub row : row xs (fileRowAt f) fileWidth ≡ fileRowWords file

@@ -1,17 +1,17 @@
--- In the midst of a call of file f.
+-- The midst of a call of file f.
 use Prim.Native.Nat.{ℕ, _*_, _<_}
 use mathlib.Core.Path.{_≡_}
 use lib.ListN.{length}
 use Rattle.segment.specs.Layout.{fileRow}
 use Rattle.rules.specs.Limits.{files, places, shareBytes, bufferBytes}
 use Rattle.rules.specs.State.{Built, File, built}
-use Rattle.rules.specs.Memories.{fileBuffers}
+use Rattle.rules.specs.Memories.{shareAt, fileBuffers}
 use Rattle.rules.specs.Desk.{Desk, withFile}
 use Rattle.rules.specs.Allocation.{Alloc, allotAll}
 use Rattle.laws.specs.Midst as laws
 use Rattle.laws.specs.EightFiles.{EightFiles}
 use Rattle.memory.specs.Memories.{Memories, memories}
-use Rattle.memory.specs.Stands.{shareAt, buffersAt}
+use Rattle.memory.specs.Stands.{buffersAt}
 use Rattle.midst.specs.declared.File as hand
 use Rattle.midst.specs.File.{inHand}
 use Rattle.midst.specs.Seg.{Seg}

@@ -1,4 +1,4 @@
--- What a call comes to, in memories.
+-- The outcome of a call, in memories.
 use Prim.Native.Nat.{ℕ, _≤_}
 use mathlib.Core.Path.{_≡_}
 use mathlib.Core.Bool.{cond}
@@ -15,7 +15,7 @@ use Rattle.rules.specs.Limits.{bufferBytes}
 use Rattle.rules.specs.Desk.{Desk, Call, asked, replyBytes, on, answered, respond, withFile, fileOf}
 use Rattle.rules.specs.Allocation.{Alloc, allotAll, allocAsked}
 use Rattle.laws.specs.Bounds.{leastRefusal}
-use Rattle.memory.specs.Memories.{Memories}
+use Rattle.memory.specs.Memories.{Memories, memories}
 use Rattle.memory.specs.Stands.{Stands}
 use Rattle.memory.specs.Covers.{Alike}
 use Rattle.memory.specs.Fine.{StandsFor}
@@ -38,7 +38,7 @@ unfoldable pub replyStatus : Reply → ℕ
 replyStatus (answers a d) = statusOf a
 replyStatus (shows st d) = st
 
--- "A refusal changes nothing": its number, leastRefusal or more; 0 where the call is not refused
+-- the refusal number of a reply, leastRefusal or more ("A refusal changes nothing"); 0 if the call is not refused
 unfoldable pub refusalOf : Reply → ℕ
 refusalOf r = cond (ltb (replyStatus r) leastRefusal) 0 (replyStatus r)
 
@@ -46,22 +46,30 @@ refusalOf r = cond (ltb (replyStatus r) leastRefusal) 0 (replyStatus r)
 abbrev pub Sound : Memories → Type 0
 Sound m = (d : Desk) × (s : Alloc) × StandsFor m d s
 
--- the answer's bytes stand from the first byte of the answer memory, all behind them is as it was, and n is how many
+-- Segment and blocks that stand for a desk, with some buffers.
+abbrev pub SoundBlocks : List ℕ → List ℕ → Type 0
+SoundBlocks xs blocks = (buffers : List ℕ) × Sound (memories xs blocks buffers)
+
+-- A segment that stands for a desk, with some blocks and buffers.
+abbrev pub SoundSegment : List ℕ → Type 0
+SoundSegment xs = (blocks : List ℕ) × (buffers : List ℕ) × Sound (memories xs blocks buffers)
+
+-- the answer's n bytes lie at the start of the answer memory, and all bytes after them are as they were
 pub record Told (r : Reply) (memory memory′ : List ℕ) (n : ℕ) : Type 0 where
   pub bytes : memory′ ≡ sets memory 0 (replyBytes r)
   pub size : n ≡ length (replyBytes r)
 
--- the memories, which were m before a call of file f, stand for the desk and the allocation behind x
+-- the memories, which were m before a call of file f, stand for the desk and the allocation after the outcome x
 pub record Outcome (f : ℕ) (d : Desk) (s : Alloc) (x : Out) (m m′ : Memories) : Type 0 where
   pub stands : Stands m′ (withFile d f (x .file)) (allotAll f (x .haps) s)
   pub apart : Apart f m m′
 
--- a call of file f that comes to x and is answered a, with no data behind it
+-- a call of file f has the outcome x and is answered a, without data
 pub record Done (f : ℕ) (d : Desk) (s : Alloc) (x : Out) (m m′ : Memories) (a : Answer) : Type 0 where
   pub outcome : Outcome f d s x m m′
   pub reply : x .reply ≡ answers a []
 
--- and with n bytes of data, which stand in the answer memory where the answer's own bytes end
+-- a call of file f has the outcome x and is answered a, with n bytes of data, which lie in the answer memory where the answer's own bytes end
 pub record Gave (f : ℕ) (d : Desk) (s : Alloc) (x : Out) (m : Memories) (memory : List ℕ) (m′ : Memories) (memory′ : List ℕ) (a : Answer) (n : ℕ) : Type 0 where
   pub outcome : Outcome f d s x m m′
   pub bytes : List ℕ
@@ -70,7 +78,7 @@ pub record Gave (f : ℕ) (d : Desk) (s : Alloc) (x : Out) (m : Memories) (memor
   pub most : n ≤ bufferBytes
   pub behind : memory′ ≡ sets memory (length (answerBytes a)) bytes
 
--- the same for every desk and allocation that the memories m stand for, of what is asked of file f
+-- what is asked of file f is done, and answered a, on every desk that the memories m stand for; `Gives`: with n bytes of data
 abbrev pub Does : ℕ → Ask → Memories → Memories → Answer → Type 0
 Does f q m m′ a = (d : Desk) (s : Alloc) → StandsFor m d s → Done f d s (ask (fileOf d f) q) m m′ a
 
@@ -81,7 +89,7 @@ Gives f q m memory m′ memory′ a n = (d : Desk) (s : Alloc) → StandsFor m d
 abbrev pub Accepted : ℕ → Ask → Memories → Type 0
 Accepted f q m = (d : Desk) (s : Alloc) → StandsFor m d s → refusalOf (answered d (on f q) .reply) ≡ 0
 
--- the memories behind a call of the desk d with the allocation s are those of the rules' desk and allocation; files that are not built keep their bytes
+-- the memories after a call of the desk d with the allocation s are those of the rules' desk and allocation; files that are not built keep their bytes
 pub record Stays (d : Desk) (s : Alloc) (c : Call) (m m′ : Memories) : Type 0 where
   pub stands : StandsFor m′ (respond d c .desk) (allocAsked d (asked c) s)
   pub rest : Alike (respond d c .desk) m′ m

@@ -1,4 +1,4 @@
--- The segment in the midst of a call: its lists, what their entries hold, and its rows are those of a desk and an allocation, but for row k, whose
+-- The segment in the midst of a call: its lists, what their entries hold, and its rows are those of a desk and an allocation, except for row k, whose
 -- file is in hand.
 use Prim.Native.Nat.{ℕ, _<_}
 use mathlib.Core.Path.{_≡_}
@@ -21,6 +21,6 @@ pub record Seg (xs : List ℕ) (d : Desk) (t : Alloc) (k : ℕ) : Type 0 where
 abbrev pub queueAt : Bool → ℕ → ℕ
 queueAt writer f = cond writer (writeQueue f) (readQueue f)
 
--- and their places
+-- the places of the waiting writers of a file, or of its waiting readers
 abbrev pub sideQueue : Bool → Built → List ℕ
 sideQueue writer b = cond writer (b .wq) (b .rq)

@@ -1,4 +1,4 @@
-// In the midst of a call: the file that it names is in hand, as numbers by value, and is written back when the call is done.
+// The midst of a call: the file that the call names is in hand, as numbers by value, and is written back when the call is done.
 ghost use mathlib.Core.Path.{_≡_};
 ghost use Prim.Native.Nat.{_<_};
 ghost use lib.ListN.{length};
@@ -11,13 +11,13 @@ use ring::Ring;
 use segment::FileRow;
 use segment::layout;
 
-// R, and the ring of the file's blocks.
+// A file in hand: R, and the ring of its blocks.
 pub struct File {
     pub words: u16,
     pub ring: Ring,
 }
 
-// File f as it stands in the segment.
+// Takes file f in hand, as its row in the segment says.
 pub fn take_file(segment: &[u8], f: usize) -> File
     requires { ⌜ length (now segment) ≡ segmentBytes ⌝ }
     requires { ⌜ f < files ⌝ }
@@ -36,7 +36,7 @@ pub fn take_file(segment: &[u8], f: usize) -> File
     }
 }
 
-// And back.
+// Writes the file in hand back into the row of file f.
 pub fn put_file(segment: &mut [u8], f: usize, file: File)
     requires { ⌜ length (now segment) ≡ segmentBytes ⌝ }
     requires { ⌜ f < files ⌝ }
@@ -54,7 +54,7 @@ pub fn put_file(segment: &mut [u8], f: usize, file: File)
     segment::write_file(segment, f, row);
 }
 
-// And back where the row holds it already, but for where its ring stands.
+// Writes only the three ring words back: oldest block, spent and held. The row of file f already holds the rest.
 pub fn put_ring(segment: &mut [u8], f: usize, file: File)
     requires { ⌜ length (now segment) ≡ segmentBytes ⌝ }
     requires { ⌜ f < files ⌝ }

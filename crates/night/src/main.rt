@@ -1,4 +1,4 @@
-// night < SESSION: the frames of standard input, a hexadecimal line each, are asked of a fresh desk, and its board is printed.
+// night < SESSION: sends the frames of standard input, one hexadecimal line each, to a fresh desk, and prints its board.
 // night SEGMENT BLOCKS BUFFERS: prints the board of the three memories that a host has dumped into these files.
 use arguments::refused;
 use board::BOARD_ROOM;
@@ -8,7 +8,7 @@ use libc::STDERR_FILENO;
 use libc::STDOUT_FILENO;
 use segment::layout::SEGMENT_BYTES;
 
-// The words of the command that names three files.
+// The number of words in a command that names three files.
 const NAMED: usize = 4;
 
 fn print_board(segment: &[u8], blocks: &[u8], buffers: &[u8]) {
@@ -36,7 +36,7 @@ fn of_session() {
     print_board(&segment, &blocks, &buffers);
 }
 
-// A byte more than each memory has is asked for, so that a longer file is seen to be one.
+// Prints the board of the three named files. Asks for one byte more than each memory has, so that a file that is too long is noticed.
 fn of_files() {
     let mut segment = [0u8; SEGMENT_BYTES + 1];
     let mut blocks = [0u8; BLOCKS_BYTES + 1];

@@ -1,4 +1,4 @@
--- The lines of the board, of numbers as they are known.
+-- The lines of the board, made of numbers.
 use Prim.Native.Nat.{ℕ, _*_}
 use mathlib.Core.Bool.{Bool, true, false, cond}
 use mathlib.Core.List.{List, [], _∷_, _++_}
@@ -11,14 +11,14 @@ use Rattle.notices.specs.declared.Left.the-variants.{Untimed, Seconds}
 use Rattle.notices.specs.declared.Request.{Request}
 use Rattle.notices.specs.declared.Request.the-variants.{Idle, Reads, Writes, HasRead, HasWritten}
 
--- a line: 80 columns at most, and LF
+-- the most bytes of a line: 80 columns, and LF
 abbrev pub lineRoom : ℕ
 lineRoom = 81
 
 unfoldable pub lf : List ℕ
 lf = 10 ∷ []
 
--- a file: its number and R, B and D
+-- the line of a file: its number and R, B and D
 unfoldable pub sizeText : ℕ → ℕ → List ℕ
 sizeText f words = spell "file " ++ (oneDigit f ++ (spell ": records of up to " ++ (counted (2 * words) (spell " byte") ++ spell ", ")))
 
@@ -28,7 +28,7 @@ blocksText factor blocks = counted factor (spell " record") ++ (spell " a block,
 unfoldable pub geometryLine : ℕ → ℕ → ℕ → ℕ → List ℕ
 geometryLine f words factor blocks = sizeText f words ++ blocksText factor blocks
 
--- its data records, all its records, and how many data records more it takes
+-- the line of a file's records: its data records, all its records, and how many more data records it takes
 unfoldable pub heldText : ℕ → List ℕ
 heldText records = spell "  " ++ (counted records (spell " data record") ++ spell " held, ")
 
@@ -41,7 +41,7 @@ heldLine records all room = heldText records ++ roomText all room
 unfoldable pub nobodyLine : List ℕ
 nobodyLine = spell "  nobody has it open\n"
 
--- an accessor: its place, its side, a writer's ID, and the settings that are on: controls 46 and 47, which are a reader's, 4 and 45
+-- the line of an accessor: its place, its side, a writer's ID, and the settings that are on: controls 46 and 47, which are a reader's, 4 and 45
 
 unfoldable pub sideText : Bool → ℕ → Bool → Bool → List ℕ
 sideText true ident typed keep = spell "writer, ID " ++ decimal ident
@@ -59,11 +59,11 @@ settingsText timeout extended = timeoutText timeout ++ (cond extended (spell "; 
 unfoldable pub accessorLine : ℕ → Bool → ℕ → Bool → Bool → ℕ → Bool → List ℕ
 accessorLine p writer ident typed keep timeout extended = whoText p writer ident typed keep ++ settingsText timeout extended
 
--- of the place's row
+-- the line of the accessor in a place's row
 unfoldable pub rowLine : ℕ → PlaceRow → List ℕ
 rowLine p r = accessorLine p (eqb (r .side) 2) (r .id) (eqb (r .typed) 1) (eqb (r .keep) 1) (r .timeout) (eqb (r .extended) 1)
 
--- its request
+-- the line of a request
 
 unfoldable pub leftText : Left → List ℕ
 leftText Untimed = spell ", no timeout"
@@ -72,7 +72,7 @@ leftText (Seconds n) = spell ", " ++ (decimal n ++ spell " s left")
 unfoldable pub firstText : ℕ → List ℕ
 firstText first = cond (eqb first 1) (spell ", first in line") []
 
--- what a request completed with, where that is not 0
+-- the text of a status other than 0 that a request completed with
 unfoldable pub statusText : ℕ → List ℕ
 statusText st = cond (eqb st 2) (spell "end of file") (cond (eqb st 22) (spell "timed out") (spell "status " ++ decimal st))
 

@@ -1,4 +1,4 @@
-// The lines of the night board, of numbers as they are known, each put behind the one before.
+// The lines of the night board, made from numbers that are given, each put after the one before.
 use kinds::sides::WRITER;
 use kinds::statuses::END_OF_FILE;
 use kinds::statuses::TIMED_OUT;
@@ -18,14 +18,14 @@ ghost use Rattle.texts.specs.Numbers.{counted};
 ghost use Rattle.texts.specs.Put.{Put};
 ghost use Rattle.notices.specs.Lines.{lineRoom, lf, sizeText, blocksText, geometryLine, heldText, roomText, heldLine, sideText, timeoutText, whoText, settingsText, leftText, firstText, statusText, readText, writtenText, requestLine, rowLine};
 
-// What is left of its timeout.
+// What is left of a request's timeout.
 pub enum Left {
     Untimed,
     Seconds(u16),
 }
 
-// Nothing outstanding; a read that waits for so many bytes, a write that waits with so many, and 1 where it is the first of its queue; a read
-// or a write that is completed, with its status, and the bytes read.
+// A request as the board shows it: none; a read that waits for up to `bytes` bytes, or a write that waits with `bytes` bytes, with `first` 1 if it is the first
+// in its queue; or a completed read or write, with its status, and the bytes read.
 pub enum Request {
     Idle,
     Reads { bytes: u16, left: Left, first: u16 },
@@ -34,12 +34,12 @@ pub enum Request {
     HasWritten { status: u16 },
 }
 
-// What a request completes with, as its entry has it.
+// The statuses that requests complete with, as words of an entry.
 const ENDED: u16 = END_OF_FILE as u16;
 
 const LATE: u16 = TIMED_OUT as u16;
 
-// A file: its number and R, B and D.
+// Puts the number of a file and its record size, from R. B and D follow.
 fn put_size(out: &mut [u8], at: usize, f: u16, words: u16) -> usize
     requires { ⌜ (at + 38 ≤ length (now out)) × (f ≤ 9) × (words ≤ mostWords) ⌝ }
     ensures { λ r. ⌜ Put 38 (now (out .entry)) at (sizeText f words) (now (out .exit)) r ⌝ }
@@ -76,7 +76,7 @@ pub fn put_geometry(
     put_blocks(out, a, factor, blocks)
 }
 
-// Its data records, all its records, and the room left.
+// Puts the number of a file's data records. All its records and the room left follow.
 fn put_records(out: &mut [u8], at: usize, records: u16) -> usize
     requires { ⌜ at + 27 ≤ length (now out) ⌝ }
     ensures { λ r. ⌜ Put 27 (now (out .entry)) at (heldText records) (now (out .exit)) r ⌝ }
@@ -104,7 +104,7 @@ pub fn put_held(out: &mut [u8], at: usize, records: u16, all: u16, room: u16) ->
     put_room(out, a, all, room)
 }
 
-// A writer with its ID, or a reader with the settings that only a reader has.
+// Puts a writer with its ID, or a reader with the settings that only a reader has.
 fn put_side(out: &mut [u8], at: usize, row: PlaceRow) -> usize
     requires { ⌜ at + 37 ≤ length (now out) ⌝ }
     ensures { λ r. ⌜ Put 37 (now (out .entry)) at (sideText (eqb (row .side) 2) (row .id) (eqb (row .typed) 1) (eqb (row .keep) 1)) (now (out .exit)) r ⌝ }
@@ -130,7 +130,7 @@ fn put_timeout(out: &mut [u8], at: usize, seconds: u16) -> usize
     put_text(out, b, b" s")
 }
 
-// The accessor at a place, whose row this is: who it is, and the settings that every accessor has.
+// Puts who the accessor at a place is, from its row. The settings that every accessor has follow.
 fn put_who(out: &mut [u8], at: usize, p: u16, row: PlaceRow) -> usize
     requires { ⌜ (at + 48 ≤ length (now out)) × (p ≤ 9) ⌝ }
     ensures { λ r. ⌜ Put 48 (now (out .entry)) at (whoText p (eqb (row .side) 2) (row .id) (eqb (row .typed) 1) (eqb (row .keep) 1)) (now (out .exit)) r ⌝ }
@@ -182,7 +182,7 @@ fn put_waiting(out: &mut [u8], at: usize, bytes: u16, left: Left, first: u16) ->
     put_text(out, c, b"\n")
 }
 
-// What a request completed with, where that is not 0.
+// Puts the status that a request completed with, which is not 0.
 fn put_status(out: &mut [u8], at: usize, status: u16) -> usize
     requires { ⌜ at + 12 ≤ length (now out) ⌝ }
     ensures { λ r. ⌜ Put 12 (now (out .entry)) at (statusText status) (now (out .exit)) r ⌝ }
@@ -218,7 +218,7 @@ fn put_written(out: &mut [u8], at: usize, status: u16) -> usize
     put_status(out, at, status)
 }
 
-// What an accessor waits for or has not collected, behind its own line.
+// Puts what an accessor waits for or has not collected, after the accessor's own line.
 pub fn put_request(out: &mut [u8], at: usize, request: Request) -> usize
     requires { ⌜ at + lineRoom ≤ length (now out) ⌝ }
     ensures { λ r. ⌜ Put lineRoom (now (out .entry)) at (requestLine request) (now (out .exit)) r ⌝ }

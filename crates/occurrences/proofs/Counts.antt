@@ -48,7 +48,7 @@ pub count-snoc-other : (x y : ℕ) (l : List ℕ) → (y ≡ x → ⊥) → coun
 unfolding count
 count-snoc-other x y l d = omega (arith, count-append x l (y ∷ []), bit-ne y x d)
 
--- the front of a list and what is behind it
+-- the front of a list and what comes after it
 pub count-front : (x : ℕ) (l : List ℕ) (z : ℕ) → 1 ≤ length l → count x (drop 1 l) + count x (getD l 0 z ∷ []) ≡ count x l
 unfolding count
 count-front x [] z h = absurd (omega arith)

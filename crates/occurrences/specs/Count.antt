@@ -1,4 +1,4 @@
--- How often a number stands in a list. Exactly one is counted, not chased: disjoint, without doubles and complete are then sums.
+-- How often a number occurs in a list. That a number occurs exactly once is a count: disjoint, without doubles and complete are then sums.
 use mathlib.Core.Bool.{Bool, cond}
 use mathlib.Core.List.{List, [], _∷_}
 use Prim.Native.Nat.{ℕ, _+_}
@@ -11,7 +11,7 @@ unfoldable pub count : ℕ → List ℕ → ℕ
 count x [] = 0
 count x (y ∷ l) = bit (eqb y x) + count x l
 
--- in all the lists
+-- how often a number occurs in all the lists
 unfoldable pub total : ℕ → List (List ℕ) → ℕ
 total x [] = 0
 total x (l ∷ ls) = count x l + total x ls

@@ -1,1 +1,1 @@
-// No code: counting numbers in lists. specs/ has what is counted, proofs/ the laws.
+// No code: counts of numbers in lists. specs/ defines what is counted, proofs/ has the laws.

@@ -1,4 +1,4 @@
--- An accessor enters: what is in the midst of open, and what it comes to.
+-- An accessor enters: what is in the midst of open, and the outcome of open.
 use Prim.Native.Nat.{ℕ, _+_, _*_, _≤_, _<_}
 use mathlib.Core.Path.{_≡_, refl, sym, ap, subst, _∙_}
 use mathlib.Core.Bool.{true, false}
@@ -17,16 +17,16 @@ use Rattle.rules.specs.Reply.{Reply, answers, leaves, answering}
 use Rattle.rules.specs.Open.{firstFree, freeId, newAcc, enter, openRec, purged, openReader, openWriter}
 use Rattle.rules.specs.Desk.{Desk, fileOf}
 use Rattle.rules.specs.Allocation.{Alloc, placeOf}
+use Rattle.rules.specs.Memories.{shareAt}
 use Rattle.laws.proofs.Calls.{free-id}
 use Rattle.ring.specs.Ring.{Ranged}
 use Rattle.blocks.specs.Writing.{recOf, Ready}
-use Rattle.blocks.specs.Memory as own
 use Rattle.blocks.specs.Memory.{blocksBytes}
 use Rattle.memory.specs.Memories.{Memories, memories}
 use Rattle.memory.specs.Image as image
 use Rattle.memory.specs.Fine.{Fine, StandsFor}
 use Rattle.accessors.proofs.Counted.{Rows, file-rows}
-use Rattle.accessors.proofs.Stood.{shown}
+use Rattle.accessors.proofs.Rows.{shown}
 use Rattle.midst.specs.declared.File as hand
 use Rattle.midst.specs.File.{fileOfRow}
 use Rattle.midst.specs.Mid.{Mid, start}
@@ -103,7 +103,7 @@ module _ {m : Memories} {d : Desk} {s : Alloc} (S : StandsFor m d s) (f : ℕ) (
     at-hand : Mid Stored f (start d s m) m x c
     at-hand = takes (start d s m) (m .blocks) (m .buffers) b (mid-known began (fine-stored (began .good)))
 
-    pub writer-ready : ((length (m .blocks) ≡ blocksBytes) × (f < files)) × Ready (x .words) (x .ring) (own.shareAt f (m .blocks)) 0
+    pub writer-ready : ((length (m .blocks) ≡ blocksBytes) × (f < files)) × Ready (x .words) (x .ring) (shareAt f (m .blocks)) 0
     unfolding openRec
     writer-ready = hand-ready at-hand (at-hand .good) (openRec 1) (omega arith)
 

@@ -62,7 +62,7 @@ module _ (s : List ℕ) where
       none-more : (n : ℕ) → n ≡ 0 + n
       none-more n = omega arith
 
--- of file f, whose places have the accessors l
+-- the places of file f, which have the accessors l
 module _ (s : List ℕ) (f : ℕ) (l : List (Option Acc)) (eight : length l ≡ places) (rows : Rows s (places * f) l) where
   pub free-place-is : freePlace s f ≡ firstFree l
   free-place-is = ap (freeFrom s (places * f)) (sym eight) ∙ free-is s (places * f) l rows

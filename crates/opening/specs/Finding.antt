@@ -7,7 +7,7 @@ use Rattle.rules.specs.Limits.{places}
 use Rattle.segment.specs.declared.PlaceRow.{PlaceRow}
 use Rattle.segment.specs.Fields.{placeAt}
 
--- of the n places from place i on, how many stand before the first that is free
+-- how many places there are before the first free one, among the n places starting at place i
 unfoldable pub freeFrom : List ℕ → ℕ → ℕ → ℕ
 freeFrom s i zero = 0
 freeFrom s i (suc n) = elim (eqb (placeAt s i .side) 0) [ true ↦ 0 | false ↦ suc (freeFrom s (suc i) n) ]
@@ -16,11 +16,11 @@ freeFrom s i (suc n) = elim (eqb (placeAt s i .side) 0) [ true ↦ 0 | false ↦
 abbrev pub freePlace : List ℕ → ℕ → ℕ
 freePlace s f = freeFrom s (places * f) places
 
--- the row is that of a writer with the ID
+-- whether the row is that of a writer with the ID
 abbrev pub rowHolds : ℕ → PlaceRow → Bool
 rowHolds id r = eqb (r .side) 2 && eqb (r .id) id
 
--- one of the n places from place i on has such a row
+-- whether one of the n places starting at place i is that of a writer with the ID
 unfoldable pub heldFrom : List ℕ → ℕ → ℕ → ℕ → Bool
 heldFrom s id i zero = false
 heldFrom s id i (suc n) = elim (rowHolds id (placeAt s i)) [ true ↦ true | false ↦ heldFrom s id (suc i) n ]
@@ -28,7 +28,7 @@ heldFrom s id i (suc n) = elim (rowHolds id (placeAt s i)) [ true ↦ true | fal
 abbrev pub idHeld : List ℕ → ℕ → ℕ → Bool
 idHeld s f id = heldFrom s id (places * f) places
 
--- the smallest of the k numbers from n on that no open writer of file f holds
+-- the smallest of the k numbers starting at n that no open writer of file f holds
 unfoldable pub idFrom : List ℕ → ℕ → ℕ → ℕ → ℕ
 idFrom s f zero n = n
 idFrom s f (suc k) n = elim (idHeld s f n) [ true ↦ idFrom s f k (n + 1) | false ↦ n ]

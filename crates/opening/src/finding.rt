@@ -1,4 +1,4 @@
-// What is looked for in the rows of a file's places: a free place, an ID that no open writer holds.
+// Searches the rows of a file's places for a free place, and for an ID that no open writer holds.
 ghost use mathlib.Core.Path.{_≡_};
 ghost use Prim.Native.Nat.{_≤_, _<_};
 ghost use lib.ListN.{length};

@@ -1,7 +1,7 @@
-// Build and open. What is asked has been judged and is not refused; here it is done.
+// Build and open. The call has been judged and is not refused; here it is done.
 ghost use mathlib.Core.Path.{_≡_};
 ghost use Rattle.rules.specs.Calls as calls;
-ghost use Rattle.memory.specs.Memories.{memories};
+ghost use Rattle.memory.specs.Memories.{lent, was, left};
 ghost use Rattle.accessors.specs.Sides.{purgesAt};
 ghost use Rattle.midst.specs.Outcome.{Sound, Accepted, Does};
 
@@ -25,7 +25,7 @@ const READS: u8 = 0;
 // The bytes of a file's record buffers.
 pub const FILE_BUFFERS: usize = PLACES * BUFFER_BYTES;
 
-// File f is built: "Build and load zero the share", and its buffers too, of which nothing is known before.
+// Builds file f. "Build and load zero the share"; the buffers are zeroed too, since nothing is known of them before.
 pub fn build(
     segment: &mut [u8],
     blocks: &mut [u8],
@@ -36,8 +36,8 @@ pub fn build(
     records: u16,
     extents: u8,
 ) -> Answer
-    requires { ⌜ Sound (memories (now segment) (now blocks) (now buffers)) × Accepted f (calls.build words factor records extents) (memories (now segment) (now blocks) (now buffers)) ⌝ }
-    ensures { λ r. ⌜ Does f (calls.build words factor records extents) (memories (now (segment .entry)) (now (blocks .entry)) (now (buffers .entry))) (memories (now (segment .exit)) (now (blocks .exit)) (now (buffers .exit))) r ⌝ }
+    requires { ⌜ Sound (lent segment blocks buffers) × Accepted f (calls.build words factor records extents) (lent segment blocks buffers) ⌝ }
+    ensures { λ r. ⌜ Does f (calls.build words factor records extents) (was segment blocks buffers) (left segment blocks buffers) r ⌝ }
 {
     let count = data_blocks(records, factor, extents);
     let row = FileRow {
@@ -55,7 +55,7 @@ pub fn build(
     Answer::Built { capacity: room }
 }
 
-// An accessor of file f is opened: access 0 reads, any other writes. Whether it purges was found in judging. Multiaccess has been judged, and nothing goes by it here.
+// Opens an accessor of file f: access 0 reads, any other writes. Judging has found whether it purges. Multiaccess has been judged too, and has no effect here.
 pub fn open(
     segment: &mut [u8],
     blocks: &mut [u8],
@@ -66,9 +66,9 @@ pub fn open(
     multi: u8,
     purges: bool,
 ) -> Answer
-    requires { ⌜ Sound (memories (now segment) (now blocks) (now buffers)) × Accepted f (calls.opens access share multi) (memories (now segment) (now blocks) (now buffers)) ⌝ }
+    requires { ⌜ Sound (lent segment blocks buffers) × Accepted f (calls.opens access share multi) (lent segment blocks buffers) ⌝ }
     requires { ⌜ purges ≡ purgesAt (now segment) f access ⌝ }
-    ensures { λ r. ⌜ Does f (calls.opens access share multi) (memories (now (segment .entry)) (now (blocks .entry)) (now (buffers .entry))) (memories (now (segment .exit)) (now (blocks .exit)) (now (buffers .exit))) r ⌝ }
+    ensures { λ r. ⌜ Does f (calls.opens access share multi) (was segment blocks buffers) (left segment blocks buffers) r ⌝ }
 {
     let given = sharing_of(share);
     if access == READS {

@@ -21,7 +21,7 @@ use Rattle.ports.proofs.Lists.{small-hand, short, slot-in, insert-lists
 use Rattle.ports.proofs.Index.{putIn-end}
 use Rattle.ports.proofs.Maps.{map-all, map-at, map-cut, map-putIn, map-set}
 
--- t is as s but for heads and links
+-- t is as s, except for heads and links
 pub record Rest (s t : List ℕ) : Type 0 where
   pub same-data : (z : ℕ) → dataOf t z ≡ dataOf s z
   pub same-rows : (i : ℕ) → row t (rowAt i) (rowWidth i) ≡ row s (rowAt i) (rowWidth i)
@@ -43,7 +43,7 @@ unlink-rest s p a = go (ltb (nth s p) entries)
     go true = record { same-data = dataOf-slot s p (nth s (linkAt (nth s p))) a; same-rows = row-slot s p (nth s (linkAt (nth s p))) a }
     go false = record { same-data = λ z. refl; same-rows = λ i. refl }
 
--- the walk by data comes to the first entry that passes the test
+-- the walk by data finds the first entry that passes the test
 chain-seek : (t : List ℕ → Bool) (s : List ℕ) (p : ℕ) (xs : List ℕ) (n : ℕ) → Chain s p xs → length xs ≤ n
     → seek t s p n ≡ slotAt p (take (index t (map (dataOf s) xs)) xs)
 unfolding Chain index

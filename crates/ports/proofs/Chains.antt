@@ -1,4 +1,4 @@
--- What a change of the segment does to one chain of entries, and where the walks along it come to.
+-- What a change of the segment does to one chain of entries, and where the walks along it end.
 use Prim.Native.Nat.{ℕ, _-_, _≤_, _<_}
 use mathlib.Core.Path.{_≡_, refl, sym, _∙_}
 use mathlib.Core.List.{List, [], _∷_, _++_}
@@ -17,10 +17,15 @@ use Rattle.ports.specs.Slots.{endSlot, insert, unlink}
 use Rattle.ports.specs.Lists.{Chain}
 use Rattle.ports.proofs.Steps.{end-stop, end-step}
 
--- the slot behind the entries xs of a chain at p
+-- the slot after the entries xs of a chain at p
 abbrev pub slotAt : ℕ → List ℕ → ℕ
 slotAt p [] = p
 slotAt p (x ∷ xs) = slotAt (linkAt x) xs
+
+-- The slot after one entry more is that entry's link.
+pub slot-after : (p : ℕ) (xs : List ℕ) (e : ℕ) → slotAt p (xs ++ e ∷ []) ≡ linkAt e
+slot-after p [] e = refl
+slot-after p (x ∷ xs) e = slot-after (linkAt x) xs e
 
 -- slot p is no link of an entry of xs
 abbrev pub Off : ℕ → List ℕ → Type 0
@@ -45,7 +50,7 @@ pub slot-at : (p : ℕ) (xs ys : List ℕ) → Below entries (xs ++ ys) → Slot
 slot-at p [] ys b h = h
 slot-at p (x ∷ xs) ys b h = slot-at (linkAt x) xs ys (b .1) (slot-link x (b .0))
 
--- a slot apart from p and the links of xs is not the one behind xs
+-- a slot apart from p and the links of xs is not the one after xs
 pub off-slot : (r p : ℕ) (xs : List ℕ) → (r ≡ p → ⊥) → Off r xs → r ≡ slotAt p xs → ⊥
 unfolding count
 off-slot r p [] d o e = d e
@@ -56,7 +61,7 @@ pub off-first : (x : ℕ) (xs : List ℕ) → ((z : ℕ) → count z (x ∷ xs) 
 unfolding count
 off-first x xs n z k e = omega (arith, n z, bit-eq x z (omega arith))
 
--- what the slot behind xs holds
+-- what the slot after xs holds
 
 pub slot-word : (s : List ℕ) (p : ℕ) (xs : List ℕ) (e : ℕ) (ys : List ℕ) → Chain s p (xs ++ e ∷ ys) → (nth s (slotAt p xs) ≡ e) × (e < entries)
 unfolding Chain
@@ -88,7 +93,7 @@ module _ (s : List ℕ) (size : length s ≡ segmentBytes) (e : ℕ) (small : e 
   unfolding insert
   insert-other q r d f = nth-other (putNth s (linkAt e) (nth s q)) q e r d ∙ nth-other s (linkAt e) (nth s q) r f
 
-  -- one that is in no slot of the chain, behind xs
+  -- an entry that is in no slot of the chain is put in after xs
   pub chain-insert : (p : ℕ) (xs ys : List ℕ) → p < fileRows → Chain s p (xs ++ ys) → ((z : ℕ) → count z (xs ++ ys) ≤ 1) → count e (xs ++ ys) ≡ 0
       → Off p (xs ++ ys) → (p ≡ linkAt e → ⊥) → Chain (insert s (slotAt p xs) e) p (xs ++ e ∷ ys)
   unfolding Chain count
@@ -116,7 +121,7 @@ pub unlink-none : (s : List ℕ) (q : ℕ) → entries ≤ nth s q → unlink s 
 unfolding unlink
 unlink-none s q h = rw (le-ltb (nth s q) entries h)
 
--- the one behind xs
+-- the entry after xs is taken out
 pub chain-unlink : (s : List ℕ) → length s ≡ segmentBytes → (p : ℕ) (xs : List ℕ) (e : ℕ) (ys : List ℕ) → p < fileRows → Chain s p (xs ++ e ∷ ys)
     → ((z : ℕ) → count z (xs ++ e ∷ ys) ≤ 1) → Off p (xs ++ e ∷ ys) → Chain (putNth s (slotAt p xs) (nth s (linkAt e))) p (xs ++ ys)
 unfolding Chain count

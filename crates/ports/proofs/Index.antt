@@ -22,7 +22,7 @@ module _ {A : Type 0} where
     index-le (x ∷ xs) zero h e = rw e (omega arith)
     index-le (x ∷ xs) (suc i) h e = let r = index-le xs i (omega arith) e in by-cases (t x) (λ k. rw k (omega arith)) (λ k. rw k (omega arith))
 
-    -- at one that passes, if not at the end
+    -- the element at the index passes, if the index is not the end
     pub index-at : (xs : List A) → index t xs < length xs → t (getD xs (index t xs) d) ≡ true
     unfolding index
     index-at [] h = absurd (omega arith)
@@ -33,7 +33,7 @@ module _ {A : Type 0} where
         go true e k r = e
         go false e k r = r (omega arith)
 
-    -- at the end, if none passes
+    -- the index is the end, if none passes
     pub index-none : (xs : List A) → ((i : ℕ) → i < length xs → t (getD xs i d) ≡ false) → index t xs ≡ length xs
     unfolding index
     index-none [] h = refl

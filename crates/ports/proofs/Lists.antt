@@ -40,7 +40,7 @@ module _ {s hand : List ℕ} {ls : List (List ℕ)} (L : Lists s hand ls) where
   pub slot-in : (l : ℕ) (xs ys : List ℕ) → l < listCount → getD ls l [] ≡ xs ++ ys → Slot (slotAt l xs)
   slot-in l xs ys h q = slot-at l xs ys (rw q at (chain-below s l (getD ls l []) (L .chains l h))) (slot-head l h)
 
-  -- the same lists in another segment, which has the heads and the links of what is in them
+  -- another segment holds the same lists if it has the heads and the links of what is in them
   pub same-lists : (t : List ℕ) → length t ≡ segmentBytes → ((l : ℕ) → l < listCount → nth t l ≡ nth s l)
       → ((l z : ℕ) → 1 ≤ count z (getD ls l []) → nth t (linkAt z) ≡ nth s (linkAt z)) → Lists t hand ls
   same-lists t size f g =
@@ -76,7 +76,7 @@ off-other : (l z : ℕ) (xs ys : List ℕ) → l < listCount → count z (xs ++ 
 off-other l z xs ys h a =
     off-slot (linkAt z) l xs (λ u. omega arith) (λ w i u. count-apart w z (xs ++ ys) (omega (arith, count-append w xs ys)) a (omega arith))
 
--- nor is another head
+-- another head is not a slot of the list
 off-head : (j l : ℕ) (xs : List ℕ) → j < listCount → (j ≡ l → ⊥) → j ≡ slotAt l xs → ⊥
 off-head j l xs h d = off-slot j l xs d (λ z i u. omega arith)
 
@@ -84,7 +84,7 @@ length-insert : (s : List ℕ) (q e : ℕ) → length (insert s q e) ≡ length 
 unfolding insert
 length-insert s q e = simp length-putNth
 
--- an entry in hand is put in behind xs of list l
+-- an entry in hand is put in after xs of list l
 pub insert-lists : {s hand : List ℕ} {ls : List (List ℕ)} {e : ℕ} → Lists s (e ∷ hand) ls → (l : ℕ) (xs ys : List ℕ) → l < listCount
     → getD ls l [] ≡ xs ++ ys → Lists (insert s (slotAt l xs) e) hand (set ls l (xs ++ e ∷ ys))
 unfolding count
@@ -98,7 +98,7 @@ insert-lists {s} {hand} {ls} {e} L l xs ys h q =
     (λ j k d. insert-other s (L .size) e small (slotAt l xs) j (off-head j l xs k d) (λ u. omega arith))
     (λ z i k. insert-other s (L .size) e small (slotAt l xs) (linkAt z) (off-other l z xs ys h (rw q at k)) (λ u. omega (arith, bit-eq e z (omega arith))))
 
--- the entry behind xs of list l is taken out, into the hand
+-- the entry after xs of list l is taken out, into the hand
 pub unlink-lists : {s hand : List ℕ} {ls : List (List ℕ)} → Lists s hand ls → (l e : ℕ) (xs ys : List ℕ) → l < listCount
     → getD ls l [] ≡ xs ++ e ∷ ys → Lists (unlink s (slotAt l xs)) (e ∷ hand) (set ls l (xs ++ ys))
 unfolding count

@@ -58,7 +58,7 @@ module _ {B : Type 0} (f g : ℕ → B) where
   map-in [] h = refl
   map-in (x ∷ xs) h = ap₂ {C = List B} (λ y l. y ∷ l) (h x (count-head x xs)) (map-in xs (λ z k. h z (omega arith)))
 
-  -- alike but for element i, which stands there once
+  -- two maps agree except at element i, which occurs once
   pub map-but : (xs : List ℕ) (i : ℕ) (b : B) → i < length xs → f (getD xs i 0) ≡ b → ((z : ℕ) → (z ≡ getD xs i 0 → ⊥) → f z ≡ g z)
       → count (getD xs i 0) xs ≤ 1 → map f xs ≡ set (map g xs) i b
   unfolding count

@@ -26,7 +26,7 @@ module _ {s hand : List ℕ} {hm ls : List (List ℕ)} {ms : List (List (List �
       let w : (nth s l ≡ e) × (e < entries) = rw q at (slot-box B l h 0 (rw q (omega arith))) in
       (w .0, w .1, rw q at (unlink-boxes B l h 0 (rw q (omega arith))))
 
-  -- of an empty list nothing is
+  -- nothing is taken out of an empty list
   pub none-boxes : (l : ℕ) → l < listCount → getD ls l [] ≡ [] → (nth s l ≡ nil) × (unlink s l ≡ s)
   unfolding Chain
   none-boxes l h q = (rw q at (B .lists .chains l h), end-box B l h 0 (rw q refl) .1)
@@ -63,7 +63,7 @@ module _ {s hand : List ℕ} {hm ls : List (List ℕ)} {ms : List (List (List �
       → Boxes (insert s (seek t s l entries) e) hand hm (set ls l (putIn i e (getD ls l []))) (set ms l (putIn i m (getD ms l []))) rs
   placed-boxes t l i h q = rw (sought B t l i h q) (insert-boxes B l h i)
 
-  -- it is zeroed and goes to the front of the free list
+  -- the entry is zeroed and goes to the front of the free list
   pub released-boxes : Boxes (released s e) hand hm (set ls freeList (e ∷ getD ls freeList [])) (set ms freeList (replicate dataWords 0 ∷ getD ms freeList [])) rs
   unfolding released putIn
   released-boxes = insert-boxes (putData-hand B (replicate dataWords 0) refl) freeList (omega arith) 0

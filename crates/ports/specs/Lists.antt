@@ -9,7 +9,7 @@ use Rattle.occurrences.specs.Count.{bit, count, total}
 use Rattle.segment.specs.Layout.{listCount, nil, linkAt, rowCount, rowAt, rowWidth, segmentBytes}
 use Rattle.segment.specs.Table.{nth, row, dataOf}
 
--- from slot p the links lead through the entries xs, in this order, and then to nil
+-- the links from slot p lead through the entries xs, in this order, and then to nil
 unfoldable pub Chain : List ℕ → ℕ → List ℕ → Type 0
 Chain s p [] = nth s p ≡ nil
 Chain s p (x ∷ xs) = (nth s p ≡ x) × (x < entries) × Chain s (linkAt x) xs
@@ -21,7 +21,7 @@ pub record Lists (s hand : List ℕ) (ls : List (List ℕ)) : Type 0 where
   pub once : (x : ℕ) → count x hand + total x ls ≡ bit (ltb x entries)
   pub chains : (l : ℕ) → l < listCount → Chain s l (getD ls l [])
 
--- a segment as boxes and rows: what is in hand holds hm, what is in list l holds ms l, and row i is rs i
+-- a segment as boxes and rows: the entries in hand hold hm, those in list l hold ms l, and row i is rs i
 pub record Boxes (s hand : List ℕ) (hm : List (List ℕ)) (ls : List (List ℕ)) (ms : List (List (List ℕ))) (rs : List (List ℕ)) : Type 0 where
   pub lists : Lists s hand ls
   pub held : map (dataOf s) hand ≡ hm

@@ -1,6 +1,6 @@
-// The lists of the segment. A slot is the number of a word that holds an entry's number or nil: a list's head, or an entry's link; the first
-// of a list is its head, whose number is the list's. Slots lie before the rows.
-// Whatever is no entry's number ends a walk, and no walk goes on for more links than there are entries: no memory can lead one out of the segment or round a ring.
+// The lists of the segment. A slot is the number of a word that holds an entry's number or nil: a list's head, or an entry's link. The first slot of
+// a list is its head, whose number is the list's. Slots lie before the rows.
+// A word that is not an entry's number ends a walk, and no walk follows more links than there are entries: no memory can lead a walk out of the segment or in circles.
 ghost use mathlib.Core.Path.{_≡_};
 ghost use Prim.Native.Nat.{_<_};
 ghost use lib.ListN.{length};
@@ -31,7 +31,7 @@ fn end_slot(s: &[u8], l: usize) -> usize
     p
 }
 
-// The first slot of the list at slot l whose entry is of the place, or the list's end.
+// The first slot of the list at slot l whose entry belongs to the place, or the slot at the list's end.
 pub fn seek_place(s: &[u8], l: usize, place: u16) -> usize
     requires { ⌜ length (now s) ≡ segmentBytes ⌝ }
     requires { ⌜ l < fileRows ⌝ }
@@ -53,7 +53,7 @@ pub fn seek_place(s: &[u8], l: usize, place: u16) -> usize
     p
 }
 
-// The first slot of the list at slot l whose entry has more seconds, or the list's end: a timer of as many goes in there, behind its equals.
+// The first slot of the list at slot l whose entry has more seconds, or the slot at the list's end: a timer of these seconds goes in there, after its equals.
 pub fn seek_over(s: &[u8], l: usize, seconds: u16) -> usize
     requires { ⌜ length (now s) ≡ segmentBytes ⌝ }
     requires { ⌜ l < fileRows ⌝ }
@@ -75,7 +75,7 @@ pub fn seek_over(s: &[u8], l: usize, seconds: u16) -> usize
     p
 }
 
-// Entry e is put in at slot p: in front of the list where p is its head.
+// Inserts entry e at slot p: at the front of the list if p is its head.
 pub fn insert_at(s: &mut [u8], p: usize, e: u16)
     requires { ⌜ length (now s) ≡ segmentBytes ⌝ }
     requires { ⌜ p < fileRows ⌝ }
@@ -87,7 +87,7 @@ pub fn insert_at(s: &mut [u8], p: usize, e: u16)
     segment::put(s, p, e);
 }
 
-// What slot p holds is taken out and handed back: the first of the list where p is its head. At the end of a list nothing changes.
+// Takes out what slot p holds, the first entry of the list if p is its head, and hands it back. At the end of a list nothing changes.
 pub fn unlink_at(s: &mut [u8], p: usize) -> u16
     requires { ⌜ length (now s) ≡ segmentBytes ⌝ }
     requires { ⌜ p < fileRows ⌝ }
@@ -101,7 +101,7 @@ pub fn unlink_at(s: &mut [u8], p: usize) -> u16
     e
 }
 
-// Entry e is put in at the end of the list at slot l.
+// Inserts entry e at the end of the list at slot l.
 pub fn append_to(s: &mut [u8], l: usize, e: u16)
     requires { ⌜ length (now s) ≡ segmentBytes ⌝ }
     requires { ⌜ l < fileRows ⌝ }
@@ -112,7 +112,7 @@ pub fn append_to(s: &mut [u8], l: usize, e: u16)
     insert_at(s, p, e);
 }
 
-// The first free entry is taken and filled, and its number handed back; no entry's number, and nothing changes, where none is free.
+// Takes the first free entry, fills it and gives its number. If none is free, nothing changes and the result is not an entry's number.
 pub fn take_entry(s: &mut [u8], m: Entry) -> u16
     requires { ⌜ length (now s) ≡ segmentBytes ⌝ }
     ensures { λ r. ⌜ (r ≡ nth (now (s .entry)) freeList) × (now (s .exit) ≡ taken (now (s .entry)) (entryWords m)) ⌝ }
@@ -124,7 +124,7 @@ pub fn take_entry(s: &mut [u8], m: Entry) -> u16
     e
 }
 
-// Entry e is zeroed and goes to the front of the free list.
+// Zeroes entry e and puts it at the front of the free list.
 pub fn release_entry(s: &mut [u8], e: u16)
     requires { ⌜ length (now s) ≡ segmentBytes ⌝ }
     requires { ⌜ e < entries ⌝ }

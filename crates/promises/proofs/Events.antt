@@ -14,17 +14,17 @@ use Rattle.memory.specs.Memories.{Memories}
 use Rattle.memory.specs.Fine.{StandsFor}
 use Rattle.midst.specs.Outcome.{Told, Stays}
 use Rattle.sound.specs.Sound.{soundly}
-use Rattle.promises.specs.Promise.{event, Given, answer, givenSize, givenMemory, Standing, unsound, stands, lent, replyOf, answered, Behind, Promise}
+use Rattle.promises.specs.Promise.{event, Given, answer, givenSize, givenMemory, Standing, unsound, stands, withRoom, replyOf, answered, Behind, Promise}
 use Rattle.promises.proofs.Seen.{seen-none, seen-some}
 
 -- a memory of the right length hides nothing, one of another everything
-pub lent-right : (n : ℕ) (memory : List ℕ) (v : Option Standing) → length memory ≡ n → lent n memory v ≡ v
-unfolding lent
-lent-right n memory v e = rw (eq-eqb (length memory) n e, lent)
+pub room-right : (n : ℕ) (memory : List ℕ) (v : Option Standing) → length memory ≡ n → withRoom n memory v ≡ v
+unfolding withRoom
+room-right n memory v e = rw (eq-eqb (length memory) n e, withRoom)
 
-pub lent-wrong : (n : ℕ) (memory : List ℕ) (v : Option Standing) → (length memory ≡ n → ⊥) → lent n memory v ≡ none
-unfolding lent
-lent-wrong n memory v h = rw (ne-eqb (length memory) n h, lent)
+pub room-wrong : (n : ℕ) (memory : List ℕ) (v : Option Standing) → (length memory ≡ n → ⊥) → withRoom n memory v ≡ none
+unfolding withRoom
+room-wrong n memory v h = rw (ne-eqb (length memory) n h, withRoom)
 
 module _ (m : Memories) (memory frame : List ℕ) where
   Comes : Given → Memories → Option Standing → Type 0
@@ -37,12 +37,12 @@ module _ (m : Memories) (memory frame : List ℕ) where
 
   pub event-length : (length memory ≡ answerRoom → ⊥) → Promise m (event memory frame) (answer 0 memory) m
   unfolding Promise Comes
-  event-length h v S = rw (lent-wrong answerRoom memory v h) none-comes
+  event-length h v S = rw (room-wrong answerRoom memory v h) none-comes
 
   module _ (e : length memory ≡ answerRoom) where
     pub event-unsound : soundly m ≡ false → Promise m (event memory frame) (answer 0 memory) m
     unfolding Promise Comes
-    event-unsound h v S = rw (lent-right answerRoom memory v e) (seen-none (Comes (answer 0 memory) m) h none-comes v S)
+    event-unsound h v S = rw (room-right answerRoom memory v e) (seen-none (Comes (answer 0 memory) m) h none-comes v S)
 
     module _ (m′ : Memories) (memory′ : List ℕ) (n : ℕ) where
       pub event-done : soundly m ≡ true
@@ -50,7 +50,7 @@ module _ (m : Memories) (memory frame : List ℕ) where
           → Stays d s (rules.event frame) m m′ × Told (respond d (rules.event frame) .reply) memory memory′ n)
           → Promise m (event memory frame) (answer n memory′) m′
       unfolding Promise Comes
-      event-done h f v S = rw (lent-right answerRoom memory v e) (seen-some (Comes (answer n memory′) m′) h comes v S)
+      event-done h f v S = rw (room-right answerRoom memory v e) (seen-some (Comes (answer n memory′) m′) h comes v S)
         where
           comes : (d : Desk) (s : Alloc) → StandsFor m d s → Comes (answer n memory′) m′ (some (record { desk = d; alloc = s }))
           comes d s S = let (k, t) = f d s S in unfold Comes answered replyOf Behind in (rw (t .size, t .bytes), k)
@@ -62,10 +62,10 @@ module _ (m : Memories) (memory frame : List ℕ) where
         unfolding Promise Comes answered replyOf Behind givenSize givenMemory
         event-says d s S =
             let v : Option Standing = some (record { desk = d; alloc = s }) in
-            let c : Comes (answer n memory′) m′ v = subst (Comes (answer n memory′) m′) (lent-right answerRoom memory v e) (P v (stands d s S)) in
+            let c : Comes (answer n memory′) m′ v = subst (Comes (answer n memory′) m′) (room-right answerRoom memory v e) (P v (stands d s S)) in
             (c .1, record { bytes = ap givenMemory (c .0); size = ap givenSize (c .0) })
 
-        -- and of memories that are not sound
+        -- memories that are not sound stay
         pub event-keeps : soundly m ≡ false → m′ ≡ m
         unfolding Promise Behind
-        event-keeps h = subst (λ (v : Option Standing). Behind v (rules.event frame) m m′) (lent-right answerRoom memory none e) (P none (unsound h) .1)
+        event-keeps h = subst (λ (v : Option Standing). Behind v (rules.event frame) m m′) (room-right answerRoom memory none e) (P none (unsound h) .1)

@@ -17,7 +17,7 @@ use Rattle.rules.specs.State.{Acc, Built, File, unbuilt, built}
 use Rattle.rules.specs.Requests.{accAt}
 use Rattle.rules.specs.Frames.{frameOf}
 use Rattle.rules.specs.Reply.{Out, leaves, unmade}
-use Rattle.rules.specs.Counts.{counts}
+use Rattle.rules.specs.FileCounts.{counts}
 use Rattle.rules.specs.Calls.{Ask, onAcc, askBuilt, askUnbuilt, ask}
 use Rattle.rules.specs.Calls as calls
 use Rattle.rules.specs.Desk.{Desk, Responded, on, frameAsks, fileOf, replyBytes, asked, answered, respond}
@@ -28,7 +28,7 @@ use Rattle.laws.specs.Bounds.{Bounded, Bounds}
 use Rattle.laws.specs.Runs.{OnFile}
 use Rattle.memory.specs.Memories.{Memories}
 use Rattle.memory.specs.Fine.{Fine}
-use Rattle.promises.specs.Promise.{Standing, Seen, stands, lent, replyOf, givenSize, Promise}
+use Rattle.promises.specs.Promise.{Standing, Seen, stands, withRoom, replyOf, givenSize, Promise}
 use Rattle.promises.specs.Promise as host
 use Rattle.promises.proofs.Seen.{sees}
 use Rattle.promises.proofs.Short.{Short, ShortOut, plain, done-short, IsEvent, refusal-short, build-short, open-short, read-short, write-short, control-short, collect-short, close-short}
@@ -112,16 +112,16 @@ seen-short m (some v) (stands d s S) fr = event-fits d (S .fine) fr
 -- the answer of an event call is no longer than that, whatever the memories
 answer-fits : (m m′ : Memories) (memory fr memory′ : List ℕ) (n : ℕ) → Bytes (m .segment) → Bytes (m .blocks) → Bytes (m .buffers)
     → Promise m (host.event memory fr) (host.answer n memory′) m′ → n ≤ answerRoom
-unfolding Promise host.answered lent replyOf replyBytes givenSize
+unfolding Promise host.answered withRoom replyOf replyBytes givenSize
 answer-fits m m′ memory fr memory′ n bs bb bf P =
     let (v, S) = sees bs bb bf in
-    let e : n ≡ length (replyBytes (replyOf (lent answerRoom memory v) (desk.event fr))) = ap givenSize (P v S .0) in
-    let k : length (replyBytes (replyOf (lent answerRoom memory v) (desk.event fr))) ≤ answerRoom =
+    let e : n ≡ length (replyBytes (replyOf (withRoom answerRoom memory v) (desk.event fr))) = ap givenSize (P v S .0) in
+    let k : length (replyBytes (replyOf (withRoom answerRoom memory v) (desk.event fr))) ≤ answerRoom =
     both (λ (w : Option Standing). length (replyBytes (replyOf w (desk.event fr))) ≤ answerRoom) (eqb (length memory) answerRoom)
     (λ _. seen-short m v S fr) (λ _. omega arith) in
     omega (arith, e, k)
 
--- so that who keeps the promise can say it with the promise
+-- the promise of an event, with the bound on its answer's length
 pub with-room : (m m′ : Memories) (memory fr memory′ : List ℕ) (n : ℕ) → Bytes (m .segment) → Bytes (m .blocks) → Bytes (m .buffers)
     → Promise m (host.event memory fr) (host.answer n memory′) m′ → Promise m (host.event memory fr) (host.answer n memory′) m′ × (n ≤ answerRoom)
 with-room m m′ memory fr memory′ n bs bb bf P = (P, answer-fits m m′ memory fr memory′ n bs bb bf P)

@@ -1,4 +1,4 @@
--- Memories are always seen as something, and which it is the test of their bytes tells.
+-- Memories are always seen as something: the test of their bytes says as what.
 use mathlib.Core.Path.{_≡_, refl, sym, _∙_}
 use mathlib.Core.Bool.{Bool, true, false, true≢false}
 use mathlib.Core.Option.{Option, none, some}

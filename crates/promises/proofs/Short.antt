@@ -16,7 +16,7 @@ use Rattle.kinds.specs.declared.Control.the-variants.{Timeout, Verify, Abort, E
 use Rattle.rules.specs.Limits.{places, mostMode, bufferBytes, answerHead, answerRoom}
 use Rattle.rules.specs.State.{Rec, Req, idle, reading, writing, readDone, writeDone, Acc, Built}
 use Rattle.rules.specs.Store.{fetch}
-use Rattle.rules.specs.Count.{countBytes, readable}
+use Rattle.rules.specs.TransferCounts.{countBytes, readable}
 use Rattle.rules.specs.Geometry.{inRange, fitsShare, dataBlocks}
 use Rattle.rules.specs.Requests.{isIdle, writers, readers, fits, opened, countAcc}
 use Rattle.rules.specs.Settle.{handed}
@@ -52,7 +52,7 @@ answer-short Passed = (omega arith, omega arith)
 answer-short (Counted a b c d) = (omega arith, omega arith)
 answer-short (Status op st) = (omega arith, omega arith)
 
--- with no data behind it
+-- an answer without data is short
 pub plain : (a : Answer) → Short (answers a [])
 unfolding Short replyBytes
 plain a =

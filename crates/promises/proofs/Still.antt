@@ -26,7 +26,7 @@ use Rattle.laws.specs.Entries.{Calm, Agreed}
 use Rattle.laws.proofs.Allocated.{happens-here, happens-nowhere}
 use Rattle.laws.proofs.EightFiles.{file-here}
 use Rattle.midst.proofs.StandsBehind.{still-stays}
-use Rattle.promises.specs.Promise.{Standing, Seen, stands, Behind, lent}
+use Rattle.promises.specs.Promise.{Standing, Seen, stands, Behind, withRoom}
 use Rattle.midst.proofs.RowUntouched.{hushed-past}
 use Rattle.memory.specs.Memories.{Memories}
 
@@ -88,7 +88,7 @@ module _ (d : Desk) (s : Alloc) (A : Agreed d s) (f : ℕ) (q : Ask) (I : Idle q
       go true e = unfold allocAsked allotAll in rw (allocAsked, happens-here f d q (ltb-true f files e), I (fileOf d f) (A .calm f (ltb-true f files e)) .1) refl
       go false e = unfold allocAsked allotAll in rw (allocAsked, happens-nowhere f d q e) refl
 
--- memories of any content are behind such a call what they were
+-- memories of any content are as they were after such a call
 
 call-still : (m : Memories) (c : Call) (f : ℕ) (q : Ask) → asked c ≡ on f q → Idle q → (v : Option Standing) → Seen m v → Behind v c m m
 unfolding Behind respond
@@ -96,15 +96,15 @@ call-still m c f q is I none S = refl
 call-still m c f q is I (some v) (stands d s S) =
     still-stays S c (rw is (desk-still d s (S .agreed) f q I)) (rw is (alloc-still d s (S .agreed) f q I))
 
--- also where the memory lent beside them has not its length
-lent-still : (m : Memories) (c : Call) (n : ℕ) (memory : List ℕ) (v : Option Standing) → Behind v c m m → Behind (lent n memory v) c m m
-unfolding lent Behind
-lent-still m c n memory v B = both (λ (w : Option Standing). Behind w c m m) (eqb (length memory) n) (λ _. B) (λ _. refl)
+-- memories stay too if the memory lent beside them has a wrong length
+room-still : (m : Memories) (c : Call) (n : ℕ) (memory : List ℕ) (v : Option Standing) → Behind v c m m → Behind (withRoom n memory v) c m m
+unfolding withRoom Behind
+room-still m c n memory v B = both (λ (w : Option Standing). Behind w c m m) (eqb (length memory) n) (λ _. B) (λ _. refl)
 
 module _ (m : Memories) (v : Option Standing) (S : Seen m v) where
-  pub look-behind : (n f p : ℕ) (memory : List ℕ) → Behind (lent n memory v) (rules.look f p) m m
+  pub look-behind : (n f p : ℕ) (memory : List ℕ) → Behind (withRoom n memory v) (rules.look f p) m m
   unfolding asked
-  look-behind n f p memory = lent-still m (rules.look f p) n memory v (call-still m (rules.look f p) f (calls.look p) refl (idle-look p) v S)
+  look-behind n f p memory = room-still m (rules.look f p) n memory v (call-still m (rules.look f p) f (calls.look p) refl (idle-look p) v S)
 
   pub save-behind : (f n : ℕ) → Behind v (rules.save f n) m m
   unfolding asked

@@ -1,4 +1,4 @@
--- A file that is not built behind a call was not built before it.
+-- A file that is not built after a call was not built before it.
 use Prim.Native.Nat.{ℕ, _<_}
 use mathlib.Core.Path.{_≡_, refl, sym, ap, _∙_}
 use mathlib.Core.Bool.{true≢false}

@@ -14,7 +14,7 @@ use Rattle.rules.specs.Allocation.{placeOf}
 use Rattle.shares.specs.Places as shares
 use Rattle.promises.specs.Promise.{Standing}
 
--- so many bytes of the blocks, or of the record buffers, from a place on
+-- a part of a memory: n bytes of the blocks, or of the record buffers, starting at a place
 pub data Part : Type 0 where
   nothing : Part
   ofBlocks : ℕ → ℕ → Part
@@ -25,12 +25,12 @@ bytesOf nothing blocks buffers = []
 bytesOf (ofBlocks at n) blocks buffers = take n (drop at blocks)
 bytesOf (ofBuffers at n) blocks buffers = take n (drop at buffers)
 
--- the records before the oldest data record
+-- the number of records before the oldest data record
 unfoldable pub before : List Rec → ℕ
 before [] = 0
 before (r ∷ l) = elim (eqb (r .typ) 0) [ true ↦ 0 | false ↦ suc (before l) ]
 
--- "else the data bytes of the file's oldest data record": behind a word with the bytes that follow, the type word and the ID
+-- "else the data bytes of the file's oldest data record": after the word with the bytes that follow, the type word and the ID
 unfoldable pub ofFile : ℕ → Built → Part
 ofFile f b =
     elim (oldest (b .store .recs)) [

@@ -1,1 +1,1 @@
-// No code: what look, save and load come to is said in specs/, for memories of any content; the laws of it are in proofs/.
+// No code: specs/Promise.antt states what each of the five calls promises, for memories of any content; proofs/ has the laws.

@@ -78,7 +78,7 @@ head-length h n e = head-parts h n e .0
 pub head-kind : (h : List ℕ) (n : ℕ) → goodHead h n ≡ true → getD h 0 0 ≡ 1
 head-kind h n e = head-parts h n e .1
 
--- it is good for as many records as it says, and for no other number
+-- a head is good for as many records as it says, and for no other number
 pub head-held : (h : List ℕ) (n : ℕ) → goodHead h n ≡ true → (wordAt h 6 ≡ n) × (goodHead h (wordAt h 6) ≡ true)
 head-held h n e = let k = head-parts h n e .3 in (k, ap (λ (m : ℕ). goodHead h m) k ∙ e)
 

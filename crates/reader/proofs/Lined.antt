@@ -39,7 +39,7 @@ behind-line t at h = rw (span-line (drop at t) h) (drop-drop (suc (lineLength (d
 pub lines-at : (t : List ℕ) (at : ℕ) → lineLength (drop at t) < length (drop at t) → linesOf (drop at t) ≡ onto (take (lineLength (drop at t)) (drop at t)) (linesOf (drop (nextAt t at) t))
 lines-at t at h = lines-line (drop at t) h ∙ ap (λ (x : List ℕ). onto (take (lineLength (drop at t)) (drop at t)) (linesOf x)) (behind-line t at h)
 
--- n lines that are good records, and nothing behind them
+-- n lines that are good records, and nothing after them
 pub record Lined (r : ℕ) (l : Lines) (n : ℕ) : Type 0 where
   pub whole : allLines (l .whole) ≡ true
   pub rest : length (l .rest) ≡ 0

@@ -84,7 +84,7 @@ unfolding goodFrom
 from-end r t at zero h = refl
 from-end r t at (suc n) h = absurd (omega arith)
 
--- the next of good records, and those behind it
+-- the next of good records, and those after it
 pub good-step : (r : ℕ) (t : List ℕ) (at n : ℕ) → 0 < n → goodFrom r t at n ≡ true → (goodRec r (frameAt t at) ≡ true) × (goodFrom r t (nextAt t at) (n - 1) ≡ true)
 good-step r t at zero h e = absurd (omega arith)
 good-step r t at (suc n) h e = let z : suc n - 1 ≡ n = omega arith in rw z (from-cons r t at n e)

@@ -32,7 +32,7 @@ size-most : (r typ : ℕ) → mostSize r typ ≤ 4 + 2 * r
 unfolding mostSize
 size-most r typ = bothc (λ (x : ℕ). x ≤ 4 + 2 * r) (eqb typ 0) (λ _. omega arith) (λ _. omega arith)
 
--- of good records the next one stands in the memory, and those behind it are good
+-- the next of good records lies in the memory, and those after it are good
 pub record Handed (r : ℕ) (t frame : List ℕ) (at left : ℕ) (n : Next) : Type 0 where
   pub long : 4 ≤ n .size
   pub short : n .size ≤ 4 + 2 * r
@@ -51,7 +51,7 @@ module _ (r : ℕ) (t zs frame : List ℕ) (at left : ℕ) (n : Next) (some-left
   pub round-bad : {b : Bool} → b ≡ goodRec r (take (n .size - 0) frame) → b ≡ false → goodFrom r t at left ≡ false
   round-bad k g = from-bad r t at left some-left (sym (ap (λ (x : List ℕ). goodRec r x) (frame-read t zs frame at n e f h)) ∙ sym k ∙ g)
 
-  -- of records that are known to be good
+  -- the next record is handed out, if the records are known to be good
   pub handed : goodFrom r t at left ≡ true → Handed r t frame at left n
   unfolding recOf
   handed g =

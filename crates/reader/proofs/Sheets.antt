@@ -56,7 +56,7 @@ lines-read t s e =
     let q = and-true (eqb (length (linesOf t .rest)) 0) (allLines (linesOf t .whole)) (p .0) in
     (eqb-true (length (linesOf t .rest)) 0 (q .0), q .1, p .1)
 
--- the first line of a sheet, and those behind it
+-- the first line of a sheet, and those after it
 first-line : (line : List ℕ) (l all : Lines) (s : Sheet) → all ≡ onto line l → length (all .rest) ≡ 0 → allLines (all .whole) ≡ true → framesSheet (map bytesOf (all .whole)) ≡ some s
     → (isLine sheetLineBytes line ≡ true) × (goodHead (bytesOf line) (length (l .whole)) ≡ true) × Lined (wordAt (bytesOf line) 1) l (length (l .whole))
 unfolding allLines

@@ -11,6 +11,7 @@ use lib.ListN.{length, getD, drop, length-map, drop-of-length-le}
 use lib.Seq.{drop-cons}
 use borrow.Author.Tests.{eqb-true}
 use Rattle.words.specs.Word.{word, wordAt, Bytes}
+use Rattle.words.proofs.Parts.{length-zero}
 use Rattle.rules.specs.Limits.{sheetLineBytes}
 use Rattle.rules.specs.Line.{allDigits, bytesOf, isLine, lineOf, linesFrom, linesOf}
 use Rattle.rules.specs.Open.{geoOf}
@@ -23,7 +24,7 @@ use Rattle.reader.proofs.Heads.{head-length, head-kind, head-held}
 use Rattle.reader.proofs.Records.{rec-good}
 use Rattle.reader.proofs.Sheets.{said, frames-good, frames-read, frames-none, lines-read}
 
--- a text is its lines, each ended by LF, and what stands behind the last LF
+-- a text is its lines, each ended by LF, and the rest after the last LF
 
 unfoldable textOf : List (List ℕ) → List ℕ
 textOf [] = []
@@ -103,13 +104,9 @@ lines-written (line ∷ ls) s e f =
     (ap (λ (t : List ℕ). line ++ (10 ∷ t)) (recs-written (wordAt h 1) ls (p .1) (q .1))
     ∙ line-written line _ _ (p .0) (head-back h (length fs) (line-bytes line (p .0)) (q .0)))
 
-no-bytes : (l : List ℕ) → length l ≡ 0 → l ≡ []
-no-bytes [] e = refl
-no-bytes (x ∷ l) e = absurd (omega arith)
-
 pub one-writing : (t : List ℕ) (s : Sheet) → readSheet t ≡ some s → t ≡ sheet (s .geo) (s .recs)
 unfolding linesOf
 one-writing t s e =
     let p = lines-read t s e in
-    let whole : textOf (linesOf t .whole) ≡ t = sym (append-nil _) ∙ ap (λ (l : List ℕ). textOf (linesOf t .whole) ++ l) (sym (no-bytes (linesOf t .rest) (p .0))) ∙ text-from t [] in
+    let whole : textOf (linesOf t .whole) ≡ t = sym (append-nil _) ∙ ap (λ (l : List ℕ). textOf (linesOf t .whole) ++ l) (sym (length-zero (linesOf t .rest) (p .0))) ∙ text-from t [] in
     sym whole ∙ lines-written (linesOf t .whole) s (p .1) (p .2)

@@ -1,4 +1,4 @@
--- Frame after frame of a text, from a cursor on.
+-- Frame after frame of a text, starting at a cursor.
 use Prim.Native.Nat.{ℕ, suc, _+_, _-_}
 use mathlib.Core.Bool.{true, false}
 use mathlib.Core.List.{List, [], _∷_}
@@ -12,20 +12,20 @@ use Rattle.rules.specs.Line.{frameIn}
 use Rattle.reader.specs.declared.Next.{Next}
 use Rattle.reader.specs.declared.Reader.{Reader}
 
--- the bytes before a text's first LF: all of them where there is none
+-- the number of bytes before a text's first LF; of all its bytes, if it has none
 unfoldable pub lineLength : List ℕ → ℕ
 lineLength [] = 0
 lineLength (x ∷ t) = elim (eqb x 10) [ true ↦ 0 | false ↦ suc (lineLength t) ]
 
--- the frame of the line in front, which LF has to end
+-- the frame of the text's first line, which LF has to end
 unfoldable pub firstFrame : List ℕ → List ℕ
 firstFrame t = elim (ltb (lineLength t) (length t)) [ true ↦ frameIn sheetLineBytes (take (lineLength t) t) | false ↦ [] ]
 
--- the bytes of that line, and its LF
+-- the number of bytes of the text's first line and its LF
 unfoldable pub lineSpan : List ℕ → ℕ
 lineSpan t = elim (ltb (lineLength t) (length t)) [ true ↦ suc (lineLength t) | false ↦ lineLength t ]
 
--- from a cursor on: where the line ends, the frame, the cursor behind it
+-- the end of the line that starts at a cursor; `frameAt` is its frame, `nextAt` the cursor after it
 unfoldable pub lineEnd : List ℕ → ℕ → ℕ
 lineEnd t at = at + lineLength (drop at t)
 
@@ -38,7 +38,7 @@ nextAt t at = at + lineSpan (drop at t)
 abbrev pub nextOf : List ℕ → ℕ → Next
 nextOf t at = record { size = length (frameAt t at); at = nextAt t at }
 
--- a reader that has handed out the frame of its line
+-- a reader after it has handed out the frame of its line
 abbrev pub behind : Reader → Reader
 behind r = record { text = r .text; at = nextAt (now (r .text)) (r .at); size = length (frameAt (now (r .text)) (r .at)) }
 

@@ -20,7 +20,7 @@ goodNumbers r b d n = within 1 mostWords r && within 1 mostFactor b && leb least
 abbrev pub noHead : Head
 noHead = record { words = 0; factor = 0; blocks = 0; held = 0; at = 0 }
 
--- what a frame says as the first of a sheet, with the cursor behind it
+-- what a frame says as the first of a sheet, with the cursor after it
 unfoldable pub saysHead : List ℕ → ℕ → Head
 saysHead h at =
     elim (goodHead h (wordAt h 6)) [
@@ -35,12 +35,12 @@ headOf t = saysHead (frameAt t 0) (nextAt t 0)
 unfoldable pub mostSize : ℕ → ℕ → ℕ
 mostSize r typ = cond (eqb typ 0) (4 + 2 * r) 4
 
--- the n records from a cursor on
+-- the n records starting at a cursor
 unfoldable pub recsFrom : List ℕ → ℕ → ℕ → List Rec
 recsFrom t at zero = []
 recsFrom t at (suc n) = recOf (frameAt t at) ∷ recsFrom t (nextAt t at) n
 
--- they are good, and the text ends behind the last
+-- whether the n records starting at a cursor are good, and the text ends after the last
 unfoldable pub goodFrom : ℕ → List ℕ → ℕ → ℕ → Bool
 goodFrom r t at zero = eqb at (length t)
 goodFrom r t at (suc n) = elim (goodRec r (frameAt t at)) [ true ↦ goodFrom r t (nextAt t at) n | false ↦ false ]

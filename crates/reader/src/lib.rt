@@ -1,4 +1,5 @@
-// "The sheet is read by a reader over the lent text that hands out frame after frame": the text and a cursor, and a struct of them. And whether a text is a sheet.
+// "The sheet is read by a reader over the lent text that hands out frame after frame": a text with a cursor, and a struct of the two.
+// Also tests whether a text is a sheet.
 use geometry::capacity;
 use geometry::fits_share;
 use geometry::in_range;
@@ -36,20 +37,20 @@ pub const ID: usize = 2;
 
 pub const RECORD_HEAD: usize = 4;
 
-// How long a frame is, and the cursor behind its line.
+// The length of a frame, and the cursor after its line.
 pub struct Next {
     pub size: usize,
     pub at: usize,
 }
 
-// A reader over the lent text: where the next line begins, and how long the frame is that was handed out last.
+// A reader over the lent text: where the next line begins, and the length of the frame that was handed out last.
 pub struct Reader<'a> {
     pub text: &'a [u8],
     pub at: usize,
     pub size: usize,
 }
 
-// What a sheet's first frame says, and the cursor behind it. No good head has 0 words.
+// What a sheet's first frame says, and the cursor after it. A valid head never has 0 words.
 pub struct Head {
     pub words: u16,
     pub factor: u8,
@@ -73,7 +74,7 @@ fn line_end(text: &[u8], at: usize) -> usize
     end
 }
 
-// The frame of the line at the cursor stands from the first byte of `frame`. A line that says none, or that no LF ends, is an empty frame.
+// Writes the frame of the line at the cursor, starting at the first byte of `frame`. A line that says no frame, or that no LF ends, is an empty frame.
 pub fn next_frame(text: &[u8], at: usize, frame: &mut [u8]) -> Next
     requires { ⌜ (at ≤ length (now text)) × (sheetLineBytes ≤ length (now frame)) ⌝ }
     ensures next { λ r. ⌜ r ≡ nextOf (now (text .entry)) at ⌝ }
@@ -99,7 +100,7 @@ pub fn open<'a>(text: &'a [u8]) -> Reader<'a>
     }
 }
 
-// The next frame is handed out, as by next_frame, and the reader stands behind its line.
+// Hands out the next frame, as `next_frame` does, and gives the reader at the line after it.
 pub fn hand_out<'a>(reader: Reader<'a>, frame: &mut [u8]) -> Reader<'a>
     requires { ⌜ (reader .at ≤ length (now (reader .text))) × (sheetLineBytes ≤ length (now frame)) ⌝ }
     ensures { λ r. ⌜ (r ≡ behind (reader .entry)) × (now (frame .exit) ≡ sets (now (frame .entry)) 0 (frameAt (now (reader .entry .text)) (reader .entry .at))) × (r .size ≤ sheetLineBytes) × (r .at ≤ length (now (r .text))) ⌝ }
@@ -112,7 +113,7 @@ pub fn hand_out<'a>(reader: Reader<'a>, frame: &mut [u8]) -> Reader<'a>
     }
 }
 
-// "R and B in range, C ≥ 3, D × block size ≤ 2,048, records ≤ C". One record in one extent is in range.
+// "R and B in range, C ≥ 3, D × block size ≤ 2,048, records ≤ C". The range test is given one record in one extent, which are in range.
 fn good_numbers(words: u16, factor: u8, blocks: u16, held: u16) -> bool
     ensures { λ r. ⌜ r ≡ goodNumbers words factor blocks held ⌝ }
 {
@@ -126,7 +127,7 @@ fn good_numbers(words: u16, factor: u8, blocks: u16, held: u16) -> bool
     LEAST_CAPACITY <= room && held as u32 <= room
 }
 
-// Of a frame that is not the first of a sheet.
+// The head of a text whose first frame is not that of a sheet: all 0.
 fn no_head() -> Head
     ensures { λ r. ⌜ r ≡ noHead ⌝ }
 {
@@ -139,7 +140,7 @@ fn no_head() -> Head
     }
 }
 
-// What a frame says as the first of a sheet, with the cursor behind it.
+// What a frame says as the first of a sheet, with the cursor after it.
 fn head_of(frame: &[u8], at: usize) -> Head
     ensures { λ r. ⌜ r ≡ saysHead (now (frame .entry)) at ⌝ }
 {
@@ -165,7 +166,7 @@ fn head_of(frame: &[u8], at: usize) -> Head
     }
 }
 
-// What the text's first frame says; all is 0 where it is not the first frame of a sheet.
+// What the text's first frame says; all 0 if it is not the first frame of a sheet.
 pub fn read_head(text: &[u8]) -> Head
     ensures { λ r. ⌜ r ≡ headOf (now (text .entry)) ⌝ }
     ensures { λ r. ⌜ r .at ≤ length (now (text .entry)) ⌝ }
@@ -204,7 +205,7 @@ fn good_record(frame: &[u8], words: u16) -> bool
     frame.len() <= most_size(words, typ)
 }
 
-// Whether so many good records stand from the cursor on, and nothing behind them.
+// Whether `held` good records follow from the cursor, and nothing after them.
 fn good_records(text: &[u8], words: u16, start: usize, held: u16, frame: &mut [u8]) -> bool
     requires { ⌜ (start ≤ length (now text)) × (sheetLineBytes ≤ length (now frame)) ⌝ }
     ensures { λ r. ⌜ r ≡ goodFrom words (now (text .entry)) start held ⌝ }

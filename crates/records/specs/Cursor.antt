@@ -10,7 +10,7 @@ use Rattle.ring.specs.Ring.{geo}
 use Rattle.ring.specs.Held.{Held}
 use Rattle.records.specs.declared.cursor.Cursor.{Cursor}
 
--- where the oldest record stands
+-- the place of the oldest record
 abbrev pub headPlace : ℕ → Ring → List ℕ → ℕ
 headPlace words r xs = placeIn (geo words r) xs (r .block) (r .spent)
 
@@ -18,11 +18,11 @@ headPlace words r xs = placeIn (geo words r) xs (r .block) (r .spent)
 abbrev pub heldRecs : ℕ → Ring → List ℕ → List Rec
 heldRecs words r xs = readBack (geo words r) xs (r .block) (r .spent) (r .held)
 
--- n records on from p, if there are any to pass, a record's head stands before e
+-- the head of the record n records after p ends by e, if n is not 0
 abbrev pub Behind : List ℕ → ℕ → ℕ → ℕ → Type 0
 Behind xs e p n = 0 < n → skip xs e p n + 6 ≤ e
 
--- the cursor stands at the oldest of its ring's records, which the share holds
+-- the cursor is at the oldest record of its ring, and the share holds the ring's records
 pub record Stands (words : ℕ) (xs : List ℕ) (c : Cursor) : Type 0 where
   pub held : Held words (c .ring) xs
   pub at : c .at ≡ headPlace words (c .ring) xs

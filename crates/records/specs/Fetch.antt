@@ -27,7 +27,7 @@ pub record Stores (w : ℕ) (r : Ring) (xs : List ℕ) (s : Store) : Type 0 wher
 unfoldable pub ahead : Geo → Bool → Store → Store
 ahead g typed s = cond typed s (discard g s)
 
--- every store of ring q comes, by records discarded at its head, to one of ring r
+-- every store of ring q becomes one of ring r when records at its head are discarded
 pub record Comes (w : ℕ) (q r : Ring) (xs : List ℕ) : Type 0 where
   pub to : (s : Store) → Stores w q xs s → Store
   pub holds : (s : Store) (S : Stores w q xs s) → Holds (geo w q) (to s S)
@@ -38,7 +38,7 @@ pub record Comes (w : ℕ) (q r : Ring) (xs : List ℕ) : Type 0 where
 unfoldable pub least : ℕ → ℕ → ℕ
 least a b = cond (ltb a b) a b
 
--- "the file's oldest data record": of n records from the one on that has u before it
+-- "the file's oldest data record" of n records, starting at the one that has u before it
 unfoldable pub oldestOf : Geo → List ℕ → ℕ → ℕ → ℕ → Found
 oldestOf g xs k u zero = Nothing
 oldestOf g xs k u (suc n) =
@@ -48,6 +48,6 @@ unfoldable pub found : List ℕ → Found → Option Rec
 found xs Nothing = none
 found xs (At p) = some (recAt xs p)
 
--- what a cursor that has come there shows: the record under it, or none
+-- the record under a cursor, or nothing if its ring holds none
 unfoldable pub shown : Cursor → Found
 shown c = elim (ltb 0 (c .ring .held)) [ true ↦ At (c .at) | false ↦ Nothing ]

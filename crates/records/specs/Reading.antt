@@ -6,7 +6,7 @@ use Rattle.words.specs.Word.{wordAt}
 use Rattle.rules.specs.State.{Rec}
 use Rattle.records.specs.declared.reading.Record.{Record}
 
--- a record's first word counts its head and data that are there
+-- the record at p can be read: its first word counts 4 bytes or more, which all lie in xs
 pub record Readable (xs : List ℕ) (p : ℕ) : Type 0 where
   pub low : 4 ≤ wordAt xs p
   pub inside : p + 2 + wordAt xs p ≤ length xs

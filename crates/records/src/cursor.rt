@@ -1,5 +1,5 @@
-// The one walk over held records. A cursor is a ring and the place of its oldest record, which stands under the cursor; a step leads to the ring without it.
-// `Stands` (specs/Cursor.antt) is the invariant: `first` begins it, `next` keeps it.
+// The one walk over held records. A cursor is a ring and the place of its oldest record, the record under the cursor. A step leads to the ring without that record.
+// `Stands` (specs/Cursor.antt) is the invariant: `first` establishes it, `next` keeps it.
 ghost use mathlib.Core.Path.{_≡_};
 ghost use Prim.Native.Nat.{ℕ, _+_, _*_, _≤_, _<_};
 ghost use lib.Dec.{eqb};
@@ -19,13 +19,13 @@ use ring::layout::RECORD_HEAD_WORDS;
 use ring::layout::USED;
 use ring::layout::block_span;
 
-// The records still to go are those that its ring holds; behind the last there are none.
+// A cursor. The records still to go are those that its ring holds; past the last record it holds none.
 pub struct Cursor {
     pub ring: Ring,
     pub at: usize,
 }
 
-// The place n records on from `at`, in a block that ends at some e. A record stands there, so each step has one under it, and none asks.
+// The place n records after `at`, in a block that ends at some e. The caller knows that these records stand there, so no step tests for one.
 fn skip(share: &[u8], at: usize, n: u16) -> usize
     requires { ⌜ (length (now share) ≡ shareBytes) × ((e : ℕ) × (e ≤ shareBytes) × Behind (now share) e at n) × (at ≤ shareBytes) ⌝ }
     ensures { λ r. ⌜ ((e : ℕ) → Behind (now (share .entry)) e at n → r ≡ skip (now (share .entry)) e at n) ⌝ }
@@ -39,7 +39,7 @@ fn skip(share: &[u8], at: usize, n: u16) -> usize
     p
 }
 
-// Whether all records put into the block that begins at `at` are of the full size: its words used say so.
+// Whether all records put into the block that begins at `at` are of the full size, as its words used show.
 fn full(share: &[u8], at: usize, words: u16) -> bool
     requires { ⌜ (at + 4 ≤ length (now share)) × (length (now share) ≡ shareBytes) ⌝ }
     ensures { λ r. ⌜ r ≡ eqb (wordAt (now (share .entry)) (at + 2)) (2 + wordAt (now (share .entry)) at * (words + 3)) ⌝ }
@@ -49,8 +49,8 @@ fn full(share: &[u8], at: usize, words: u16) -> bool
     used == BLOCK_HEAD_WORDS as u64 + count * (words as u64 + RECORD_HEAD_WORDS as u64)
 }
 
-// The cursor at the ring's oldest record: behind those of its block that are spent. Where all are of the full size, as most often, it counts to its place and
-// steps over none of them (`stands-full`, proofs/cursor/Laws.antt).
+// The cursor at the ring's oldest record, after the spent records of its block. If all records of the block are of the full size, as most often, the place is
+// computed and no record is stepped over (`stands-full`, proofs/cursor/Laws.antt).
 pub fn first(share: &[u8], ring: Ring, words: u16) -> Cursor
     requires { ⌜ Held words ring (now share) ⌝ }
     ensures ring { λ r. ⌜ r .ring ≡ ring ⌝ }
@@ -69,7 +69,7 @@ pub fn first(share: &[u8], ring: Ring, words: u16) -> Cursor
 }
 
 impl Cursor {
-    // One record on: right behind this one, or at the start of the next block.
+    // Moves one record on: right after this one, or to the start of the next block.
     pub fn next(self, share: &[u8], words: u16) -> Cursor
         requires { ⌜ Stands words (now share) self × (0 < self .ring .held) ⌝ }
         ensures ring { λ r. ⌜ r .ring ≡ advanced (self .ring) ⌝ }

@@ -1,5 +1,5 @@
-// What a read or a look finds in a file's share: open and close records at the head go first, unless control 46 is on, and of the head record a read is
-// handed what its count asks for.
+// What a read or a look finds in a file's share. Open and close records at the head go first, unless control 46 is on. A read is handed as much of the head
+// record as its count asks for.
 ghost use mathlib.Core.Path.{_≡_};
 ghost use mathlib.Core.Bool.{false, cond};
 ghost use Prim.Native.Nat.{ℕ, _≤_};
@@ -22,7 +22,7 @@ use ring::layout::TYPE;
 // The bytes of the type and ID words.
 const HEADER: u16 = 2 * HEADER_WORDS;
 
-// From a cursor on the cursor at the oldest data record, or behind the last record.
+// Moves the cursor to the oldest data record, or past the last record if there is none.
 fn discarded(share: &[u8], from: Cursor, words: u16) -> Cursor
     requires { ⌜ Stands words (now share) «from» ⌝ }
     ensures ring { λ r. ⌜ ((s : Store) → Stores words («from» .ring) (now (share .entry)) s → r .ring ≡ ringOf (geo words («from» .ring)) (ahead (geo words («from» .ring)) false s)) ⌝ }
@@ -39,7 +39,7 @@ fn discarded(share: &[u8], from: Cursor, words: u16) -> Cursor
     cursor
 }
 
-// The cursor at the record that a read takes, whose ring is the file's then: with control 46 at the oldest of any type.
+// The cursor at the record that a read takes: with control 46, the oldest of any type. The cursor's ring is the file's ring after the discards.
 pub fn found(share: &[u8], ring: Ring, words: u16, typed: bool) -> Cursor
     requires { ⌜ Held words ring (now share) ⌝ }
     ensures ring { λ r. ⌜ ((s : Store) → Stores words ring (now (share .entry)) s → r .ring ≡ ringOf (geo words ring) (ahead (geo words ring) typed s)) ⌝ }
@@ -52,7 +52,7 @@ pub fn found(share: &[u8], ring: Ring, words: u16, typed: bool) -> Cursor
     discarded(share, head, words)
 }
 
-// The oldest data record of those that the ring holds.
+// The place of the oldest data record that the ring holds, if there is one.
 pub fn oldest(share: &[u8], ring: Ring, words: u16) -> Found
     requires { ⌜ Held words ring (now share) ⌝ }
     ensures place { λ r. ⌜ r ≡ oldestOf (geo words ring) (now (share .entry)) (ring .block) (ring .spent) (ring .held) ⌝ }
@@ -77,7 +77,7 @@ fn header_bytes(typed: bool) -> u16
     if typed { 0 } else { HEADER }
 }
 
-// Of the record at `at` what a read is handed, a part of the share: type and ID words with control 46, and its data, cut to the limit.
+// The part of the share that a read is handed of the record at `at`: type and ID words with control 46, and its data, cut to the limit.
 pub fn handed<'a>(share: &'a [u8], at: usize, typed: bool, limit: u16) -> &'a [u8]
     requires { ⌜ Readable (now share) at ⌝ }
     ensures { λ r. ⌜ now r ≡ handed typed limit (recAt (now (share .entry)) at) ⌝ }

@@ -1,4 +1,4 @@
-// The records that a file's share holds, read back: one of them at its place, all of them by a cursor, and what a read or a look finds.
+// Reads back the records in a file's share: one at its place, all of them by a cursor, and the one that a read or a look finds.
 pub mod cursor;
 pub mod fetch;
 pub mod reading;

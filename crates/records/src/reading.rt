@@ -1,4 +1,4 @@
-// A record read back at its place in the share: what its head says, and its bytes as a part of the share.
+// Reads back a record at its place in the share: what its head says, and its bytes as a part of the share.
 ghost use mathlib.Core.Path.{_≡_};
 ghost use Prim.Native.Nat.{_+_, _≤_};
 ghost use lib.ListN.{length};
@@ -9,7 +9,7 @@ use ring::layout::FOLLOW;
 use ring::layout::ID;
 use ring::layout::TYPE;
 
-// A record but for its data: its type, the writer's ID, and how many bytes of data it has.
+// A record except for its data: its type, the writer's ID, and how many bytes of data it has.
 pub struct Record {
     pub typ: u16,
     pub wid: u16,
@@ -22,7 +22,7 @@ pub enum Found {
     Nothing,
 }
 
-// The place right behind the record at `at`.
+// The place right after the record at `at`.
 pub fn next(share: &[u8], at: usize) -> usize
     requires { ⌜ at + 2 ≤ length (now share) ⌝ }
     ensures value { λ r. ⌜ r ≡ next (now (share .entry)) at ⌝ }
@@ -32,7 +32,7 @@ pub fn next(share: &[u8], at: usize) -> usize
     at + TYPE + (follow + 1) / 2 * 2
 }
 
-// What the record at `at` says of itself.
+// What the head of the record at `at` says.
 pub fn header(share: &[u8], at: usize) -> Record
     requires { ⌜ Readable (now share) at ⌝ }
     ensures { λ r. ⌜ r ≡ headerOf (recAt (now (share .entry)) at) ⌝ }
@@ -44,7 +44,7 @@ pub fn header(share: &[u8], at: usize) -> Record
     }
 }
 
-// Its frame in a sheet: type, ID and data, as they stand behind its first word.
+// The frame of the record at `at` in a sheet: type, ID and data, as they follow its first word.
 pub fn frame<'a>(share: &'a [u8], at: usize) -> &'a [u8]
     requires { ⌜ Readable (now share) at ⌝ }
     ensures { λ r. ⌜ now r ≡ recFrame (recAt (now (share .entry)) at) ⌝ }

@@ -1,4 +1,4 @@
--- The refusal numbers of each event, by what is found out: 0 where it is not refused.
+-- The refusal number of each event, from what was found out; 0 if it is not refused.
 use Prim.Native.Nat.{ℕ, _*_}
 use mathlib.Core.Bool.{Bool, true, false, cond, _&&_}
 use lib.Dec.{leb, eqb}
@@ -8,7 +8,7 @@ use Rattle.kinds.specs.declared.Outstanding.{Outstanding}
 use Rattle.kinds.specs.declared.Outstanding.the-variants.{Nothing, Waiting, Completed}
 use Rattle.rules.specs.Limits.{mostMode}
 use Rattle.rules.specs.Geometry.{dataBlocks, inRange, fitsShare}
-use Rattle.rules.specs.Count.{countBytes, readable}
+use Rattle.rules.specs.TransferCounts.{countBytes, readable}
 
 unfoldable pub free : Outstanding → Bool
 free Nothing = true
@@ -25,15 +25,15 @@ readRefusal count side o = whileFree o (cond (eqb side 2) 34 (cond (readable cou
 unfoldable pub writeRefusal : ℕ → ℕ → ℕ → Outstanding → ℕ
 writeRefusal count words side o = whileFree o (cond (eqb side 2) (cond (leb (countBytes count) (2 * words)) 0 35) 34)
 
--- a setting, "with 0 or 1"
+-- the refusal of a setting that is not "with 0 or 1"
 unfoldable pub switchRefusal : ℕ → ℕ
 switchRefusal v = cond (leb v 1) 0 35
 
--- "46 or 47 by a writer"
+-- the refusal of "46 or 47 by a writer", or of their setting
 unfoldable pub readerRefusal : ℕ → ℕ → ℕ
 readerRefusal side v = cond (eqb side 2) 34 (switchRefusal v)
 
--- "collect or 43 with nothing outstanding"
+-- the refusal of "collect or 43 with nothing outstanding"
 unfoldable pub nothingRefusal : Outstanding → ℕ
 nothingRefusal o = cond (free o) 39 0
 
@@ -49,16 +49,16 @@ controlRefusal (Keep v) side o = whileFree o (readerRefusal side v)
 unfoldable pub codeRefusal : Outstanding → ℕ
 codeRefusal o = whileFree o 35
 
--- "close with a completed one uncollected"
+-- the refusal of "close with a completed one uncollected"
 unfoldable pub closeRefusal : Outstanding → ℕ
 closeRefusal Nothing = 0
 closeRefusal Waiting = 0
 closeRefusal Completed = 33
 
--- of a file that is not built
+-- the refusal of a build of a file that is not built
 unfoldable pub buildRefusal : ℕ → ℕ → ℕ → ℕ → ℕ
 buildRefusal r b n x = cond (inRange r b n x) (cond (fitsShare r b (dataBlocks n b x)) 0 38) 35
 
--- the numbers of an open are in their ranges
+-- whether the numbers of an open are in their ranges
 unfoldable pub modesInRange : ℕ → ℕ → ℕ → Bool
 modesInRange access share multi = leb access mostMode && leb share mostMode && leb multi mostMode

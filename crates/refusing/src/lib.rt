@@ -1,5 +1,5 @@
-// The refusal number of an event, by numbers alone: the file's R, the accessor's side, what it has outstanding, and the event's own. 0 where it is not refused.
-// No memory is lent: whoever keeps a desk, in whatever form, looks these numbers up and asks here. "the lowest that applies is given"
+// The refusal number of an event, from numbers alone: the file's R, the accessor's side, what it has outstanding, and the event's own. 0 if it is not refused.
+// No memory is lent: a desk kept in any form can look these numbers up and ask here. "the lowest that applies is given"
 use kinds::Control;
 use kinds::Outstanding;
 use kinds::limits::MOST_MODE;
@@ -8,7 +8,7 @@ use kinds::sides::WRITER;
 ghost use mathlib.Core.Path.{_≡_};
 ghost use Rattle.refusing.specs.Verdicts.{free, whileFree, nothingRefusal, readRefusal, writeRefusal, closeRefusal, switchRefusal, readerRefusal, controlRefusal, codeRefusal, buildRefusal, modesInRange};
 
-// The most that a setting takes, "with 0 or 1".
+// The largest value of a setting, "with 0 or 1".
 const MOST_SETTING: u16 = 1;
 
 fn is_free(request: Outstanding) -> bool
@@ -36,7 +36,7 @@ pub fn read_refusal(side: u16, request: Outstanding, count: u16) -> u8
     refusals::NONE
 }
 
-// A write has at most 2R bytes.
+// The refusal number of a write, which has at most 2R bytes.
 pub fn write_refusal(words: u16, side: u16, request: Outstanding, count: u16) -> u8
     ensures { λ r. ⌜ r ≡ writeRefusal count words side request ⌝ }
 {
@@ -52,7 +52,7 @@ pub fn write_refusal(words: u16, side: u16, request: Outstanding, count: u16) ->
     refusals::NONE
 }
 
-// Of collect, and of control 43.
+// The refusal number of collect, and of control 43.
 pub fn nothing_refusal(request: Outstanding) -> u8
     ensures { λ r. ⌜ r ≡ nothingRefusal request ⌝ }
 {
@@ -72,7 +72,7 @@ pub fn close_refusal(request: Outstanding) -> u8
     }
 }
 
-// Of a control that comes to `number` where nothing is outstanding.
+// The refusal number of a control that gets `number` if nothing is outstanding.
 fn while_free(request: Outstanding, number: u8) -> u8
     ensures { λ r. ⌜ r ≡ whileFree request number ⌝ }
 {
@@ -113,14 +113,14 @@ pub fn control_refusal(side: u16, request: Outstanding, control: Control) -> u8
     }
 }
 
-// Of a control event whose code is none of the six.
+// The refusal number of a control event whose code is none of the six.
 pub fn code_refusal(request: Outstanding) -> u8
     ensures { λ r. ⌜ r ≡ codeRefusal request ⌝ }
 {
     while_free(request, refusals::RANGE)
 }
 
-// Of a build of a file that is not built.
+// The refusal number of a build of a file that is not built.
 pub fn build_refusal(words: u16, factor: u8, records: u16, extents: u8) -> u8
     ensures { λ r. ⌜ r ≡ buildRefusal words factor records extents ⌝ }
 {

@@ -1,5 +1,5 @@
-// Requests in the segment: one begins to wait, completes, is cancelled, is collected, and its timer goes with it.
-// The callers know that a free entry is there to take and that the request stands where it is looked for.
+// Requests in the segment: a request begins to wait, completes, is cancelled or is collected, and its timer goes with it.
+// The callers know that there is a free entry to take and that the request is where it is looked for.
 ghost use mathlib.Core.Path.{_≡_};
 ghost use Prim.Native.Nat.{_<_};
 ghost use lib.ListN.{length};
@@ -9,30 +9,21 @@ ghost use Rattle.segment.specs.Table.{nth};
 ghost use Rattle.segment.specs.Fields.{entryWords};
 ghost use Rattle.requests.specs.Moves.{entryOf, out, armed, queued, waiting, disarmed, completed, cancelled, collected};
 use segment::Entry;
+use segment::forms::running_timer;
 use segment::layout;
 
-// A timer of so many seconds for a place, behind all that have as little left.
+// Arms a timer of these seconds for a place, after all timers that have as little left.
 fn arm(s: &mut [u8], place: u16, seconds: u16)
     requires { ⌜ length (now s) ≡ segmentBytes ⌝ }
     requires { ⌜ nth (now s) freeList < entries ⌝ }
     ensures { λ _. ⌜ now (s .exit) ≡ armed (now (s .entry)) place seconds ⌝ }
 {
-    let m = Entry {
-        place,
-        unit: 0,
-        limit: 0,
-        keep: 0,
-        status: 0,
-        log: 0,
-        size: 0,
-        seconds,
-    };
-    let e = ports::take_entry(s, m);
+    let e = ports::take_entry(s, running_timer(place, seconds));
     let p = ports::seek_over(s, layout::TIMER_LIST, seconds);
     ports::insert_at(s, p, e);
 }
 
-// The request m goes in at the end of list l.
+// Inserts the request m at the end of list l.
 fn queue(s: &mut [u8], l: usize, m: Entry)
     requires { ⌜ length (now s) ≡ segmentBytes ⌝ }
     requires { ⌜ (l < listCount) × (nth (now s) freeList < entries) ⌝ }
@@ -42,7 +33,7 @@ fn queue(s: &mut [u8], l: usize, m: Entry)
     ports::append_to(s, l, e);
 }
 
-// The request m begins to wait in list l, with a timer unless it has 0 seconds.
+// Makes the request m wait in list l, with a timer unless `seconds` is 0.
 pub fn wait(s: &mut [u8], l: usize, m: Entry, seconds: u16)
     requires { ⌜ length (now s) ≡ segmentBytes ⌝ }
     requires { ⌜ (l < listCount) × (nth (now s) freeList < entries) × (nth (queued (now s) l (entryWords m)) freeList < entries) ⌝ }
@@ -55,7 +46,7 @@ pub fn wait(s: &mut [u8], l: usize, m: Entry, seconds: u16)
     }
 }
 
-// The entry of a place in list l, which is taken out.
+// Takes the entry of a place out of list l, and gives its number.
 fn take_out(s: &mut [u8], l: usize, place: u16) -> u16
     requires { ⌜ length (now s) ≡ segmentBytes ⌝ }
     requires { ⌜ l < listCount ⌝ }
@@ -65,7 +56,7 @@ fn take_out(s: &mut [u8], l: usize, place: u16) -> u16
     ports::unlink_at(s, p)
 }
 
-// The timer of a place goes, if there is one.
+// Removes the timer of a place, if there is one.
 fn disarm(s: &mut [u8], place: u16)
     requires { ⌜ length (now s) ≡ segmentBytes ⌝ }
     ensures { λ _. ⌜ now (s .exit) ≡ disarmed (now (s .entry)) place ⌝ }
@@ -76,7 +67,7 @@ fn disarm(s: &mut [u8], place: u16)
     }
 }
 
-// The request of m's place, whose entry stands at slot p, is completed as m: it stands on the place's reply port.
+// Completes the request of m's place, whose entry is at slot p: the entry becomes m, on the place's reply port.
 pub fn complete(s: &mut [u8], p: usize, m: Entry)
     requires { ⌜ length (now s) ≡ segmentBytes ⌝ }
     requires { ⌜ (p < fileRows) × (m .place < deskPlaces) × (nth (now s) p < entries) ⌝ }
@@ -89,7 +80,7 @@ pub fn complete(s: &mut [u8], p: usize, m: Entry)
     ports::insert_at(s, layout::REPLY_PORTS + place as usize, e);
 }
 
-// The request of a place, whose entry stands at slot p, is gone.
+// Removes the request of a place, whose entry is at slot p.
 pub fn cancel(s: &mut [u8], p: usize, place: u16)
     requires { ⌜ length (now s) ≡ segmentBytes ⌝ }
     requires { ⌜ (p < fileRows) × (nth (now s) p < entries) ⌝ }
@@ -100,7 +91,7 @@ pub fn cancel(s: &mut [u8], p: usize, place: u16)
     ports::release_entry(s, e);
 }
 
-// The completed request of a place is gone from its reply port.
+// Removes the completed request of a place from its reply port.
 pub fn collect(s: &mut [u8], place: u16)
     requires { ⌜ length (now s) ≡ segmentBytes ⌝ }
     requires { ⌜ (place < deskPlaces) × (nth (now s) (replyPort place) < entries) ⌝ }

@@ -1,4 +1,4 @@
--- A share that stands for a store: its numbers are in their ranges, and it goes on to stand for the rules' store behind a record that is gone and a purge.
+-- A share that stands for a store: its numbers are in their ranges, and it stands for the rules' store after a record is gone and after a purge.
 use Prim.Native.Nat.{ℕ}
 use mathlib.Core.Path.{_≡_, refl, sym, ap, _∙_, subst}
 use mathlib.Core.List.{List, _∷_}

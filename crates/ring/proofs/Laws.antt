@@ -1,4 +1,4 @@
--- Laws of the ring's numbers: the count of blocks that wraps, the ring behind a record that is gone, and the exits of `purged`.
+-- Laws of the ring's numbers: the count of blocks that wraps, the ring after a record is gone, and the exits of `purged`.
 use Prim.Native.Nat.{ℕ, _+_, _-_, _*_, _/_, _%_, _≤_, _<_}
 use mathlib.Core.Path.{_≡_, refl, sym, ap, _∙_}
 use native.Mathlib.Omega.{arith}

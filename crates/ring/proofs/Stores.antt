@@ -1,4 +1,4 @@
--- The ring's numbers are the store's: behind a put, a record that is gone and a purge, and where the next record goes.
+-- The ring's numbers are the store's: after a put, after a record is gone and after a purge, and where the next record goes.
 use Prim.Native.Nat.{ℕ, _+_, _-_, _*_, _/_, _%_, _≤_, _<_}
 use mathlib.Core.Bool.{Bool, true, false}
 use mathlib.Core.Path.{_≡_, refl, sym, ap, _∙_}

@@ -1,4 +1,4 @@
--- The ring of a file's blocks as numbers: the oldest record's place, the next one's, and the ring behind a put, a record that is gone, a purge.
+-- The ring of a file's blocks as numbers: the oldest record's place, the next one's, and the ring after a put, after a record is gone, after a purge.
 use Prim.Native.Nat.{ℕ, _+_, _-_, _*_, _/_, _%_, _≤_, _<_}
 use mathlib.Core.Bool.{true, false}
 use lib.Dec.{ltb, leb, eqb}
@@ -15,7 +15,7 @@ use Rattle.ring.specs.declared.Place.{Place}
 abbrev pub geo : ℕ → Ring → Geo
 geo words r = record { words = words; factor = r .factor; blocks = r .blocks }
 
--- one that was built or loaded
+-- a ring and a record size that were built or loaded
 pub record Fitted (w : ℕ) (r : Ring) : Type 0 where
   pub words : w ≤ roomWords
   pub factor : r .factor ≤ mostFactor
@@ -42,15 +42,15 @@ pub record Ranged (r : Ring) : Type 0 where
 abbrev pub used : Ring → ℕ
 used r = r .spent + r .held
 
--- the count of blocks may go on behind the last
+-- k modulo the number d of blocks, for k < 2·d
 unfoldable pub wrapped : ℕ → ℕ → ℕ
 wrapped d k = elim (ltb k d) [ true ↦ k | false ↦ k - d ]
 
--- the record that has u before it since the start of the oldest block
+-- the place of the record that has u before it since the start of the oldest block
 unfoldable pub place : Ring → ℕ → Place
 place r u = record { block = wrapped (r .blocks) (r .block + u / r .factor); index = u % r .factor }
 
--- the next record's
+-- the place of the next record to be put
 unfoldable pub tail : Ring → Place
 tail r = place r (used r)
 
@@ -60,7 +60,7 @@ at r block spent held = record { factor = r .factor; blocks = r .blocks; block =
 abbrev pub put : Ring → Ring
 put r = at r (r .block) (r .spent) (r .held + 1)
 
--- the oldest record is gone: "A file that becomes empty has used = 0 and goes on at the next block", and so does one whose oldest block is spent
+-- the ring without its oldest record: "A file that becomes empty has used = 0 and goes on at the next block", and so does one whose oldest block is spent
 unfoldable pub advanced : Ring → Ring
 advanced r =
     elim (leb (r .held) 1) [
@@ -71,7 +71,7 @@ advanced r =
       ]
     ]
 
--- all records are gone; a tail that is not begun is behind the last record's block already
+-- the ring with all records gone; a tail block that is not begun lies after the last record's block already
 unfoldable pub purged : Ring → Ring
 purged r =
     elim (eqb (tail r .index) 0) [

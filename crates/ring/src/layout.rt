@@ -1,4 +1,4 @@
-// Where things stand in a block and in a record, in bytes; how long their heads are, and a block's own size, follow from the geometry.
+// Positions in a block and in a record, in bytes. The lengths of their heads and the size of a block follow from the geometry.
 use crate::Ring;
 pub use geometry::BLOCK_HEAD_WORDS;
 ghost use mathlib.Core.Path.{_≡_};
@@ -6,12 +6,12 @@ ghost use Prim.Native.Nat.{_+_, _≤_, _<_};
 ghost use Rattle.rules.specs.Limits.{shareBytes};
 ghost use Rattle.ring.specs.Ring.{geo, Fitted, spanOf};
 
-// Of a block: word 0 records put, word 1 words used, with these two.
+// A block's head: word 0 records put, word 1 words used with these two.
 pub const USED: usize = 2;
 
 pub const BLOCK_HEAD: usize = 2 * BLOCK_HEAD_WORDS as usize;
 
-// Of a record: a word with the bytes that follow, its type, the writer's ID, and data.
+// A record: a word with the bytes that follow, its type, the writer's ID, and data.
 pub const TYPE: usize = 2;
 
 pub const ID: usize = 4;
@@ -20,10 +20,10 @@ pub const RECORD_HEAD_WORDS: usize = geometry::RECORD_HEAD_WORDS as usize;
 
 pub const RECORD_HEAD: usize = 2 * RECORD_HEAD_WORDS;
 
-// What a record's first word counts before the data: what stands behind it there.
+// The bytes that a record's first word counts before the data: those of type and ID.
 pub const FOLLOW: u16 = (RECORD_HEAD - TYPE) as u16;
 
-// A block's bytes in the share: where it begins, and how many.
+// A block's bytes in the share: where they begin, and how many there are.
 pub struct Span {
     pub at: usize,
     pub size: usize,

@@ -1,4 +1,4 @@
-// The ring of a file's blocks: where its records begin and where the next one goes. A Ring is numbers alone; what moves it hands back the next.
+// The ring of a file's blocks: where its records begin and where the next one goes. A Ring is numbers alone; its methods hand back the next one.
 pub mod layout;
 
 ghost use mathlib.Core.Path.{_≡_};
@@ -6,10 +6,10 @@ ghost use Prim.Native.Nat.{_*_, _≤_, _<_};
 ghost use Rattle.ring.specs.Ring as spec;
 
 pub struct Ring {
-    // records to a block, and how many blocks
+    // records to a block, and the number of blocks
     pub factor: u16,
     pub blocks: u16,
-    // the oldest block still holding a record, or the one to go on at; its records that are spent; the records held
+    // the oldest block still holding a record, or the one to go on at; its spent records; the records held
     pub block: u16,
     pub spent: u16,
     pub held: u16,
@@ -21,7 +21,7 @@ pub struct Place {
     pub index: u16,
 }
 
-// A block's number, where the count may have gone on behind the last.
+// k modulo the number of blocks, for k < 2·blocks.
 pub fn wrapped(blocks: u16, k: u16) -> u16
     ensures { λ r. ⌜ r ≡ spec.wrapped blocks k ⌝ }
 {
@@ -37,7 +37,7 @@ impl Ring {
         self.spent + self.held
     }
 
-    // The place with so many records before it since the start of the oldest block.
+    // The place with `before` records before it since the start of the oldest block.
     pub fn place(self, before: u16) -> Place
         requires { ⌜ spec.Ranged self ⌝ }
         requires { ⌜ before ≤ self .factor * self .blocks ⌝ }
@@ -71,7 +71,7 @@ impl Ring {
         }
     }
 
-    // A record was put.
+    // The ring after a record is put.
     pub fn put(self) -> Ring
         requires { ⌜ spec.Ranged self ⌝ }
         ensures { λ r. ⌜ r ≡ spec.put self ⌝ }
@@ -79,7 +79,7 @@ impl Ring {
         self.at(self.block, self.spent, self.held + 1)
     }
 
-    // The oldest record is gone: the file is empty and goes on at the next block, or the oldest block is spent, or a place more of it is.
+    // The ring without its oldest record. An emptied file goes on at the next block; else the oldest block is spent, or one more place of it is.
     pub fn advanced(self) -> Ring
         requires { ⌜ spec.Ranged self ⌝ }
         ensures { λ r. ⌜ r ≡ spec.advanced self ⌝ }
@@ -96,7 +96,7 @@ impl Ring {
         self.at(self.block, spent, held)
     }
 
-    // All records are gone: the file goes on behind the last record's block.
+    // The ring without any record: the file goes on at the block after the last record's.
     pub fn purged(self) -> Ring
         requires { ⌜ spec.Ranged self ⌝ }
         ensures { λ r. ⌜ r ≡ spec.purged self ⌝ }

@@ -29,7 +29,7 @@ use Rattle.roundtrip.proofs.Trip.{saves, trip}
 use Rattle.roundtrip.proofs.Stands.{stands-written}
 use Rattle.roundtrip.proofs.Desks.{on-reply, desks}
 
--- what a reply that shows a text comes to, in an output that the text fits
+-- what is given of a reply that shows a text, in an output that the text fits
 shown-text : (st n : ℕ) (t output output′ : List ℕ) → written st n output′ ≡ shown output (shows 0 t) → length t ≤ length output → (st ≡ 0) × (n ≡ length t) × (take n output′ ≡ t)
 unfolding shown replyStatus replyBytes givenStatus givenSize givenMemory
 shown-text st n t output output′ e h =
@@ -60,7 +60,7 @@ module _ (m m′ : Memories) {d : Desk} {s : Alloc} (S : StandsFor m d s) (f : �
   is-text : (n ≡ length t) × (take n output′ ≡ t)
   is-text = let k = shown-text 0 n t output output′ (is-saved ∙ ap (shown output) (saves b (length output) t refl had-room)) had-room in (k .1, k .2)
 
-  -- and loaded into file g of a desk that the same or other memories stand for
+  -- the sheet is loaded into file g of a desk that the same or other memories stand for
   module _ (k k′ : Memories) {c : Desk} {a : Alloc} (T : StandsFor k c a) (g : ℕ) (lg : g < files) (eg : fileOf c g ≡ unbuilt) (st : ℕ)
       (loaded : Promise k (host.load g (take n output′)) (status st) k′) where
     abbrev behind : Desk

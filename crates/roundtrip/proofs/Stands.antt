@@ -11,6 +11,7 @@ use Rattle.rules.specs.Store.{used, recordWords}
 use Rattle.rules.specs.Sheet.{sheet, readSheet}
 use Rattle.rules.specs.Desk.{Desk, fileOf}
 use Rattle.rules.specs.Allocation.{Alloc}
+use Rattle.rules.specs.Memories.{shareAt}
 use Rattle.shares.specs.Groups.{All, Small}
 use Rattle.shares.specs.Laid.{GoodRec}
 use Rattle.words.specs.Word.{Bytes}
@@ -23,7 +24,7 @@ use Rattle.laws.specs.Runs.{OnFile}
 use Rattle.laws.specs.Changes.{GoodRecs, GoodSheet}
 use Rattle.laws.proofs.Room.{good-sized}
 use Rattle.memory.specs.Memories.{Memories}
-use Rattle.memory.specs.Stands.{shareAt, FileBytes}
+use Rattle.memory.specs.Stands.{FileBytes}
 use Rattle.memory.specs.Fine.{Fine, StandsFor}
 use Rattle.roundtrip.specs.Trip.{Written, sheetOf, Trip, sheetRoom}
 use Rattle.roundtrip.proofs.Plain.{part-bytes, plain-back}
@@ -60,7 +61,7 @@ fine-written b k h =
 
 module _ (ms : Memories) (d : Desk) (s : Alloc) (f : ℕ) (b : Built) (h : StandsFor ms d s) (l : f < files) (e : fileOf d f ≡ built b) where
   share-bytes : Bytes (b .store .share)
-  unfolding Bytes FileBytes shareAt
+  unfolding Bytes FileBytes
   share-bytes =
       let k : FileBytes (built b) (shareAt f (ms .blocks)) _ = rw e at (h .stands .bodies .each f l) in
       rw (← k .0) (part-bytes shareBytes (shareBytes * f) (ms .blocks) (h .stands .bodies .blocks-bytes))

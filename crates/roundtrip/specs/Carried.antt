@@ -1,4 +1,4 @@
--- The round trip for the code: of every result that meets the promises of save and load.
+-- The round trip for the code: what holds of every result that meets the promises of save and load.
 use Prim.Native.Nat.{ℕ, _≤_}
 use mathlib.Core.Path.{_≡_}
 use mathlib.Core.List.{List}
@@ -16,6 +16,6 @@ pub record Carried (b : Built) (text : List ℕ) (c : Desk) (g status : ℕ) (m 
   pub leaves : fileOf (respond c (load g text) .desk) g ≡ built back
   pub geo : back .geo ≡ b .geo
   pub recs : back .store .recs ≡ b .store .recs
-  -- and saving that gives the same sheet, in any output that the sheet fits
+  -- saving that file gives the same sheet, in any output that the sheet fits
   pub again : (output output′ : List ℕ) (st n : ℕ) (m′ : Memories) → Promise m (save g output) (written st n output′) m′ → length text ≤ length output
       → (st ≡ 0) × (n ≡ length text) × (take n output′ ≡ text)

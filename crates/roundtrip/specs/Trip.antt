@@ -23,7 +23,7 @@ pub record Written (s : Sheet) : Type 0 where
   pub good : GoodSheet s
   pub plain : All Plain (s .recs)
 
--- what is saved of a file
+-- the sheet that is saved of a file
 abbrev pub sheetOf : Built → Sheet
 sheetOf b = record { geo = b .geo; recs = b .store .recs }
 
@@ -38,7 +38,7 @@ pub record Trip (b : Built) (n : ℕ) : Type 0 where
   pub recs : back .store .recs ≡ b .store .recs
   pub again : ask (built back) (save n) .reply ≡ shows 0 text
 
--- the same of calls on desks: file f of desk d is saved, the text is loaded into file g of desk c, and that is saved
+-- the round trip of calls on desks: file f of desk d is saved, the text is loaded into file g of desk c, and that is saved
 pub record DeskTrip (d : Desk) (f : ℕ) (b : Built) (c : Desk) (g n : ℕ) : Type 0 where
   pub text : List ℕ
   pub saves : respond d (calls.save f n) .reply ≡ shows 0 text

@@ -15,10 +15,10 @@ use Rattle.rules.specs.Time as time-
 use Rattle.rules.specs.Line as line-
 use Rattle.rules.specs.Frames as frames-
 use Rattle.rules.specs.Answers as answers-
-use Rattle.rules.specs.Count as count-
+use Rattle.rules.specs.TransferCounts as transfercounts-
 use Rattle.rules.specs.Controls as controls-
 use Rattle.rules.specs.Look as look-
-use Rattle.rules.specs.Counts as counts-
+use Rattle.rules.specs.FileCounts as filecounts-
 use Rattle.rules.specs.Reply as reply-
 use Rattle.rules.specs.Calls as calls-
 use Rattle.rules.specs.Sheet as sheet-
@@ -54,12 +54,12 @@ unfolding word-.zeros word-.quiet word-.Bytes desk-.frameAsks desk-.asked desk-.
     open-.roomToOpen open-.openFile time-.due time-.failAll time-.minus time-.lessen time-.lapse
     time-.fileTime time-.timeHaps line-.digitOf line-.valueOf line-.digitsOf line-.allDigits line-.bytesOf
     line-.isLine line-.frameIn line-.lineOf line-.linesFrom line-.linesOf frames-.controlFrame frames-.sized
-    frames-.frameOf answers-.answerBytes count-.inWords count-.countBytes count-.readable count-.logOf
-    controls-.setTimeout controls-.setExtended controls-.setTyped controls-.setKeep controls-.switched
-    controls-.ofReader controls-.abort controls-.whileIdle controls-.control look-.oldest look-.lookFile
-    look-.lookReq look-.look counts-.dataCount counts-.counts reply-.hushed reply-.leaves reply-.answering
-    reply-.status reply-.unmade calls-.refusal calls-.onAcc calls-.askBuilt calls-.askUnbuilt calls-.ask
-    sheet-.headFrame sheet-.recFrame sheet-.recLines sheet-.sheet sheet-.allLines sheet-.goodHead
-    sheet-.goodRec sheet-.goodRecs sheet-.recOf sheet-.framesSheet sheet-.readSheet sheet-.loaded sheet-.load
-    sheet-.save
+    frames-.frameOf answers-.answerBytes transfercounts-.inWords transfercounts-.countBytes
+    transfercounts-.readable transfercounts-.logOf controls-.setTimeout controls-.setExtended
+    controls-.setTyped controls-.setKeep controls-.switched controls-.ofReader controls-.abort
+    controls-.whileIdle controls-.control look-.oldest look-.lookFile look-.lookReq look-.look
+    filecounts-.dataCount filecounts-.counts reply-.hushed reply-.leaves reply-.answering reply-.status
+    reply-.unmade calls-.refusal calls-.onAcc calls-.askBuilt calls-.askUnbuilt calls-.ask sheet-.headFrame
+    sheet-.recFrame sheet-.recLines sheet-.sheet sheet-.allLines sheet-.goodHead sheet-.goodRec
+    sheet-.goodRecs sheet-.recOf sheet-.framesSheet sheet-.readSheet sheet-.loaded sheet-.load sheet-.save
 All = 0

@@ -1,4 +1,4 @@
--- Sessions: what is asked and what is told, in the words of `Vocabulary`, and the calls that have no frame.
+-- Sessions: what is asked and what is answered, in the words of `Vocabulary`, and the calls that have no frame.
 use mathlib.Core.Path.{_≡_}
 use mathlib.Core.List.{List, [], _∷_, _++_, map}
 use Prim.Native.Nat.{ℕ}
@@ -20,9 +20,9 @@ pub data Exchange : Type 0 where
   _⇒_ : Asked → Told → Exchange
   -- look at a file's reader: status, and the bytes shown, in hexadecimal
   looks : ℕ → ℕ → ℕ → String → Exchange
-  -- save a file into so many bytes: status, and the sheet's lines
+  -- save a file into n bytes: status, and the sheet's lines
   saves : ℕ → ℕ → ℕ → List String → Exchange
-  -- load a file from these lines, and a text behind them: status
+  -- load a file from these lines, and a text after them: status
   loads : ℕ → List String → String → ℕ → Exchange
 
 unfoldable pub call : Exchange → Call
@@ -41,7 +41,7 @@ unfoldable pub heard : Reply → List ℕ
 heard (answers a d) = answerBytes a ++ d
 heard (shows st d) = st ∷ d
 
--- the desk behind a script
+-- the desk after a script
 unfoldable pub played : List Exchange → Desk
 played l = after freshDesk (map call l)
 

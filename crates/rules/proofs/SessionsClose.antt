@@ -21,7 +21,7 @@ pub close-record-last : Holds (
 unfolding All Plays
 close-record-last = refl
 
--- every waiting reader without extended wait ends, also one behind an extended one; an extended one waits on
+-- every waiting reader without extended wait ends, also one that waits after an extended one; an extended one waits on
 pub every-reader-ends : Holds (
     builds 0 4 1 10 1 ⇒ built 12
     ∷ opens 0 0 3 0 ⇒ opened 0 0

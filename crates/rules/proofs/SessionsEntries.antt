@@ -39,7 +39,7 @@ pub taken-in-order : (heldAt (allotted three-wait) 8 ≡ timed 0 1)
 unfolding All Plays allotted three-wait
 taken-in-order = (refl, refl, refl, refl, refl, refl)
 
--- "equals in arming order" over all files: file 1's timer goes first, so its entry lies behind the other's; the requests keep theirs
+-- "equals in arming order" over all files: file 1's timer goes first, so its entry lies after the other's; the requests keep theirs
 pub timed-out-in-order : (allotted (three-wait ++ (passes 5 ⇒ done ∷ [])) .free ≡ 4 ∷ 1 ∷ upFrom 5 123)
     × (heldAt (allotted (three-wait ++ (passes 5 ⇒ done ∷ []))) 8 ≡ own 0)
 unfolding All Plays allotted three-wait

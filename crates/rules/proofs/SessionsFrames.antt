@@ -5,7 +5,7 @@ use Rattle.rules.proofs.All.{All}
 use Rattle.rules.proofs.Vocabulary.{builds, opens, reads, writes, controls, collects, closes, passes, counts, shorter, longer, line, bytes, built, refused, malformed}
 use Rattle.rules.proofs.Script.{_⇒_, Holds, Plays}
 
--- a frame that is none of the nine shapes, or write data not as long as its count: 30, whatever its first byte
+-- a frame of none of the nine shapes, or write data not as long as its count: 30, whatever its first byte
 pub shapes : Holds (
     line "" ⇒ malformed
     ∷ line "00" ⇒ malformed

@@ -16,7 +16,7 @@ pub discards-and-waits : Holds (
 unfolding All Plays
 discards-and-waits = refl
 
--- and where it ends with status 2
+-- a read discards open and close records also where it ends with status 2
 pub discards-and-ends : Holds (
     builds 0 4 1 1 1 ⇒ built 3
     ∷ opens 0 0 3 0 ⇒ opened 0 0
@@ -31,7 +31,7 @@ pub discards-and-ends : Holds (
 unfolding All Plays
 discards-and-ends = refl
 
--- those behind the record taken stay
+-- open and close records after the record taken stay
 pub leaves-those-behind : Holds (
     builds 0 4 1 1 1 ⇒ built 3
     ∷ opens 0 3 3 0 ⇒ opened 0 1

@@ -46,7 +46,7 @@ pub loaded-full : Holds (
 unfolding All Plays
 loaded-full = refl
 
--- each number out of its range, a frame too many or too few, a line that is none, text behind the last LF: 43, and nothing is built
+-- each number out of its range, a frame too many or too few, a line that is invalid, text after the last LF: 43, and nothing is built
 pub not-a-sheet : Holds (
     loads 0 [] "" 43
     ∷ loads 0 [] "0100040100030000" 43

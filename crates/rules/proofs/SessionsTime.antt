@@ -86,7 +86,7 @@ pub zero-disables : Holds (
 unfolding All Plays
 zero-disables = refl
 
--- a waiting write times out too, and the one behind it is served later
+-- a waiting write times out too, and the one after it is served later
 pub a-write-times-out : Holds (
     builds 0 4 1 2 1 ⇒ built 4
     ∷ opens 0 3 3 0 ⇒ opened 0 1

@@ -104,6 +104,6 @@ answer op (status st) = op ∷ st ∷ []
 answer op malformed = 0 ∷ 30 ∷ []
 answer op (prints s) = said s
 
--- what is told to one who asks
+-- the answer to what was asked
 unfoldable pub told : Asked → Told → List ℕ
 told a t = answer (getD (frame a) 0 0) t

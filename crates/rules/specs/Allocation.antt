@@ -1,4 +1,4 @@
--- Beside the definition: which entry each request and each timer holds, the order of the free list, and the desk-wide order of the timers.
+-- The allocation, stated beside the definition: which entry each request and each timer holds, the order of the free list and of the desk's timers.
 -- Freed entries "go to the front of the free list and are taken from there. A request takes its own entry before its timer's and frees the timer's
 -- first."
 use mathlib.Core.List.{List, [], _∷_, _++_, map}
@@ -10,20 +10,20 @@ use Rattle.rules.specs.Requests.{withoutTimer, armIn}
 use Rattle.rules.specs.Time.{due, minus}
 use Rattle.rules.specs.Desk.{Desk, Call, Asked, on, time, bad, asked, respond, happens}
 
--- what a place holds: nothing; its request's entry; that and its timer's
+-- the entries that a place holds: none; its request's; its request's and its timer's
 pub data Held : Type 0 where
   nothing : Held
   own : ℕ → Held
   timed : ℕ → ℕ → Held
 
--- the accessor place p of file f is place 8 × f + p of the desk
+-- the place of the desk that is accessor place p of file f: 8 × f + p
 unfoldable pub placeOf : ℕ → ℕ → ℕ
 placeOf f p = places * f + p
 
 pub record Alloc : Type 0 where
   -- the free list, from its front
   pub free : List ℕ
-  -- by places of the desk
+  -- what each place of the desk holds
   pub held : List Held
   -- all running timers, smallest first, equals in arming order
   pub clock : List Timer
@@ -39,11 +39,11 @@ freshAlloc = record { free = upFrom 0 entries; held = replicate (files * places)
 unfoldable pub heldAt : Alloc → ℕ → Held
 heldAt s i = getD (s .held) i nothing
 
--- what is given where there is no entry: a number that none has
+-- the number given where there is no entry; no entry has it
 abbrev pub noEntry : ℕ
 noEntry = entries
 
--- the entry that is taken next; that none is left no run comes to (law `fed`)
+-- the entry that is taken next; every run has one left when it takes one (law `fed`)
 unfoldable pub front : Alloc → ℕ
 front s = getD (s .free) 0 noEntry
 
@@ -53,17 +53,17 @@ holds i h free s = record { free = free; held = set (s .held) i h; clock = s .cl
 unfoldable pub withClock : List Timer → Alloc → Alloc
 withClock ts s = record { free = s .free; held = s .held; clock = ts }
 
--- place i takes its request's entry
+-- takes an entry for the request at place i
 unfoldable pub takeOwn : ℕ → Alloc → Alloc
 takeOwn i s = holds i (own (front s)) (drop 1 (s .free)) s
 
--- and its timer's
+-- takes an entry for the timer of the request at place i
 unfoldable pub takeTimer : ℕ → Held → Alloc → Alloc
 takeTimer i nothing s = s
 takeTimer i (own e) s = holds i (timed e (front s)) (drop 1 (s .free)) s
 takeTimer i (timed e t) s = s
 
--- the timer's entry is freed
+-- frees the entry of the timer of place i, which leaves the clock
 unfoldable pub freeTimer : ℕ → Held → Alloc → Alloc
 freeTimer i nothing s = s
 freeTimer i (own e) s = s
@@ -74,15 +74,15 @@ freeOwn i nothing s = s
 freeOwn i (own e) s = holds i nothing (e ∷ s .free) s
 freeOwn i (timed e t) s = s
 
--- a completed request keeps its own entry, on the reply port
+-- completes the request at place i: its own entry stays, on the reply port
 unfoldable pub endsAt : ℕ → Alloc → Alloc
 endsAt i s = freeTimer i (heldAt s i) s
 
--- one that is cancelled or collected frees both, the timer's first
+-- cancels or collects the request at place i: both entries are freed, the timer's first
 unfoldable pub goesAt : ℕ → Alloc → Alloc
 goesAt i s = let t : Alloc = endsAt i s in freeOwn i (heldAt t i) t
 
--- one happening in file f
+-- the allocation after one happening in file f
 unfoldable pub allot : ℕ → Hap → Alloc → Alloc
 allot f (made g) s = s
 allot f (puts r) s = s
@@ -103,7 +103,7 @@ unfoldable pub endAll : List ℕ → Alloc → Alloc
 endAll [] s = s
 endAll (i ∷ l) s = endAll l (endsAt i s)
 
--- time passes in all files at once: the due timers go in the order of the desk's clock (`told`); the others lose e
+-- the allocation after e seconds in all files at once: the due timers go in the order of the desk's clock (`told`); the others lose e
 unfoldable pub allocTime : ℕ → Alloc → Alloc
 allocTime e s = let t : Alloc = endAll (due e (s .clock)) s in withClock (map (minus e) (t .clock)) t
 
@@ -112,7 +112,7 @@ allocAsked d (on f q) s = allotAll f (happens f d (on f q)) s
 allocAsked d (time e) s = allocTime e s
 allocAsked d bad s = s
 
--- a happening of the desk: the file that it is of, and what happens to it
+-- a happening of the desk: the file, and what happens to it
 pub record Happening : Type 0 where
   pub file : ℕ
   pub hap : Hap
@@ -120,18 +120,18 @@ pub record Happening : Type 0 where
 unfoldable pub happening : ℕ → Hap → Happening
 happening f h = record { file = f; hap = h }
 
--- the request at place i of the desk ends by time
+-- the happening that the request at place i of the desk times out
 unfoldable pub timesOut : ℕ → Happening
 timesOut i = happening (i / places) (ends (i % places) 22)
 
--- what a call does to the desk, in order: time's ends come in the order of the clock. What it says of a file is what happens to that file, and the
+-- what a call does to the desk, in order; timeouts come in the order of the clock. Its part for one file is what happens to that file, and the
 -- allocation is a fold over it (laws `told-of`, `allocated-as-told`)
 unfoldable pub told : Desk → Alloc → Asked → List Happening
 told d s (on f q) = map (happening f) (happens f d (on f q))
 told d s (time e) = map timesOut (due e (s .clock))
 told d s bad = []
 
--- the allocation after a run from desk d, and what happened to the desk
+-- the allocation after a run from desk d; `annals` is what happened to the desk in the run
 unfoldable pub allocAfter : Desk → List Call → Alloc → Alloc
 allocAfter d [] s = s
 allocAfter d (c ∷ cs) s = allocAfter (respond d c .desk) cs (allocAsked d (asked c) s)
@@ -142,7 +142,7 @@ annals d (c ∷ cs) s = told d s (asked c) ++ annals (respond d c .desk) cs (all
 
 -- the lists
 
--- the entry that is held for the request, and for its timer; where there is none no list of a run asks for it (law `held`)
+-- the entry held for the request; `timerEntry` is the one held for its timer. Where there is none, no list of a run asks for it (law `held`)
 unfoldable pub ownEntry : Held → ℕ
 ownEntry nothing = noEntry
 ownEntry (own e) = e

@@ -1,4 +1,4 @@
--- Answers: the bytes of each, in the order of document 01's table. The data of a record follow behind.
+-- Answers: the bytes of each, in the order of document 01's table. The data of a record follow them.
 use mathlib.Core.List.{List, [], _∷_, _++_}
 use Prim.Native.Nat.{ℕ}
 use Rattle.words.specs.Word.{word}
@@ -17,6 +17,6 @@ answerBytes Passed = 8 ∷ 0 ∷ []
 answerBytes (Counted records all writers readers) = 9 ∷ 0 ∷ word records ++ word all ++ word writers ++ word readers
 answerBytes (Status operation status) = operation ∷ status ∷ []
 
--- the longest of them, that of counts
+-- the length of the longest answer, that of counts
 abbrev pub mostAnswer : ℕ
 mostAnswer = 10

@@ -1,4 +1,4 @@
--- What is asked of a file, and what it replies. The refusals 31 and 32 stand here, the higher ones with each call: "the lowest that applies is
+-- What is asked of a file, and what it replies. Refusals 31 and 32 are here, the higher ones with each call: "the lowest that applies is
 -- given".
 use mathlib.Core.List.{List, []}
 use mathlib.Core.Option.{Option, none, some}
@@ -14,28 +14,28 @@ use Rattle.rules.specs.Controls as controls
 use Rattle.rules.specs.Close as closing
 use Rattle.rules.specs.Sheet as sheets
 use Rattle.rules.specs.Look as looking
-use Rattle.rules.specs.Counts as counting
+use Rattle.rules.specs.FileCounts as counting
 
 pub data Ask : Type 0 where
   -- R B N X
   build : ℕ → ℕ → ℕ → ℕ → Ask
   -- access share multiaccess
   opens : ℕ → ℕ → ℕ → Ask
-  -- accessor, count as it stands in the frame
+  -- accessor, count as in the frame
   read : ℕ → ℕ → Ask
-  -- and the data
+  -- accessor, count, data
   write : ℕ → ℕ → List ℕ → Ask
   -- accessor, one of the six controls or another code
   control : ℕ → Option Control → Ask
   collect : ℕ → Ask
   close : ℕ → Ask
   counts : Ask
-  -- the text; the length of the output lent; a reader
+  -- load: the text; save: the length of the output lent; look: a reader
   load : List ℕ → Ask
   save : ℕ → Ask
   look : ℕ → Ask
 
--- operation and status; to look, save and load the status, with nothing shown or written
+-- the reply that refuses: operation and status; for look, save and load the status, with nothing shown or written
 unfoldable pub refusal : Ask → ℕ → Reply
 refusal (build r b n x) st = answers (Status 1 st) []
 refusal (opens a s m) st = answers (Status 2 st) []
@@ -49,11 +49,11 @@ refusal (load t) st = shows st []
 refusal (save n) st = shows st []
 refusal (look p) st = shows st []
 
--- 32: accessor not open
+-- the outcome f for the accessor at place p; refused 32 if that accessor is not open
 unfoldable pub onAcc : Ask → ℕ → (Acc → Out) → Built → Out
 onAcc q p f b = elim (accAt b p) [ none ↦ leaves (refusal q 32) b | some a ↦ f a ]
 
--- 31: for build and load, already built
+-- the reply of a built file; build and load are refused 31
 unfoldable pub askBuilt : Built → Ask → Out
 askBuilt b (build r f n x) = leaves (refusal (build r f n x) 31) b
 askBuilt b (opens a s m) = opening.openFile a s m b
@@ -67,7 +67,7 @@ askBuilt b (load t) = leaves (refusal (load t) 31) b
 askBuilt b (save n) = sheets.save n b
 askBuilt b (look p) = onAcc (look p) p (λ a. looking.look a b) b
 
--- 31: not built
+-- the reply of a file that is not built; all but build and load are refused 31
 unfoldable pub askUnbuilt : Ask → Out
 askUnbuilt (build r f n x) = opening.build r f n x
 askUnbuilt (opens a s m) = unmade (refusal (opens a s m) 31)

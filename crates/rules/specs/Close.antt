@@ -30,7 +30,7 @@ lastGone b = elim (eqb (writers b) 0) [ true ↦ endReaders (b .rq) b | false �
 unfoldable pub vacate : ℕ → Built → Built
 vacate p b = withAccs (set (b .accs) p none) b
 
--- the accessor a at p goes: "then a writer's close record is put. Waiting writers stay when the last reader goes."
+-- removes the accessor a at p: "then a writer's close record is put. Waiting writers stay when the last reader goes."
 unfoldable pub closed : ℕ → Acc → Built → Built
 closed p a b = elim (a .writer) [ false ↦ vacate p b | true ↦ putRec (closeRec (a .ident)) (lastGone (vacate p b)) ]
 

@@ -22,16 +22,16 @@ setTyped v a = record { writer = a .writer; ident = a .ident; sharing = a .shari
 unfoldable pub setKeep : Bool → Acc → Acc
 setKeep v a = record { writer = a .writer; ident = a .ident; sharing = a .sharing; timeout = a .timeout; extended = a .extended; typed = a .typed; keep = v; first = a .first; req = a .req }
 
--- a setting of an accessor, "with 0 or 1": 35 any other number
+-- changes a setting of an accessor, "with 0 or 1"; any other number is refused 35
 unfoldable pub switched : ℕ → ℕ → (Bool → Acc → Acc) → Built → Out
 switched p v set b = elim (leb v 1) [ true ↦ answering Controlled (alterAcc p (set (eqb v 1)) b) | false ↦ status 5 35 b ]
 
--- 34: "46 or 47 by a writer"
+-- refusal 34: "46 or 47 by a writer"
 unfoldable pub ofReader : Acc → Built → Out → Out
 ofReader a b o = elim (a .writer) [ true ↦ status 5 34 b | false ↦ o ]
 
--- "43 removes a waiting request, and nothing is left to collect; on a completed one it answers status 2 and leaves it for collection": 39 with
--- nothing outstanding
+-- "43 removes a waiting request, and nothing is left to collect; on a completed one it answers status 2 and leaves it for collection"; refused 39
+-- with nothing outstanding
 unfoldable pub abort : ℕ → Req → Built → Out
 abort p idle b = status 5 39 b
 abort p (reading q) b = answering Controlled (cancel p b)
@@ -39,7 +39,7 @@ abort p (writing q) b = answering Controlled (cancel p b)
 abort p (readDone q) b = status 5 2 b
 abort p (writeDone q) b = status 5 2 b
 
--- 33: "control (not 43) while a request is outstanding"
+-- refusal 33: "control (not 43) while a request is outstanding"
 unfoldable pub whileIdle : Acc → Built → Out → Out
 whileIdle a b o = elim (isIdle (a .req)) [ false ↦ status 5 33 b | true ↦ o ]
 

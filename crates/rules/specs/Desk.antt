@@ -30,13 +30,13 @@ pub data Call : Type 0 where
   -- file, text
   load : ℕ → List ℕ → Call
 
--- what a call comes to: something asked of the file that it names, time, or a frame of no shape
+-- what a call asks: something of the file that it names, the passing of time, or nothing valid (a frame of no shape)
 pub data Asked : Type 0 where
   on : ℕ → Ask → Asked
   time : ℕ → Asked
   bad : Asked
 
--- the data of a write are the bytes behind its count
+-- what a frame asks; the data of a write are the bytes after its count
 unfoldable pub frameAsks : Frame → List ℕ → Asked
 frameAsks (Event (Build f r b n x)) d = on f (build r b n x)
 frameAsks (Event (Open f a s m)) d = on f (opens a s m)
@@ -56,7 +56,7 @@ asked (look f p) = on f (calls.look p)
 asked (save f n) = on f (calls.save n)
 asked (load f t) = on f (calls.load t)
 
--- "Eight files, 0 to 7": seen and changed by `fileOf`, `withFile` and `deskTime` alone, so that what the desk has beside them is one change
+-- "Eight files, 0 to 7": only `fileOf`, `withFile` and `deskTime` see and change them, so that adding another part to the desk is one change
 pub record Desk : Type 0 where
   pub files : List File
 
@@ -70,7 +70,7 @@ fileOf d f = getD (d .files) f unbuilt
 unfoldable pub withFile : Desk → ℕ → File → Desk
 withFile d f x = record { files = set (d .files) f x }
 
--- time passes in every file
+-- the desk after e seconds, which pass in every file
 unfoldable pub deskTime : ℕ → Desk → Desk
 deskTime e d = record { files = map (fileTime e) (d .files) }
 
@@ -78,7 +78,7 @@ pub record Responded : Type 0 where
   pub reply : Reply
   pub desk : Desk
 
--- 30: "answer 00 1E"; 31: "file above 7"
+-- the reply and the desk after it; refusals 30, "answer 00 1E", and 31, "file above 7"
 unfoldable pub answered : Desk → Asked → Responded
 answered d (on f q) =
     elim (ltb f files) [
@@ -101,7 +101,7 @@ unfoldable pub after : Desk → List Call → Desk
 after d [] = d
 after d (c ∷ cs) = after (respond d c .desk) cs
 
--- what a call does to file f, in order; to a file above 7 nothing
+-- what a call does to file f, in order; nothing to a file above 7
 unfoldable pub happens : ℕ → Desk → Asked → List Hap
 happens f d (on g q) = elim (eqb g f && ltb g files) [ true ↦ ask (fileOf d f) q .haps | false ↦ [] ]
 happens f d (time e) = timeHaps e (fileOf d f)
@@ -118,7 +118,7 @@ replyBytes (shows st d) = d
 
 -- the event program
 
--- "lines ended by LF (the last may lack it)": none follows the last LF
+-- "lines ended by LF (the last may lack it)": no line follows the last LF
 unfoldable pub inputLines : List ℕ → List (List ℕ)
 inputLines t =
     let l : Lines = linesOf t in
@@ -128,6 +128,6 @@ unfoldable pub answerLines : List Reply → List ℕ
 answerLines [] = []
 answerLines (r ∷ l) = lineOf (replyBytes r) ++ answerLines l
 
--- what it prints, given a text on standard input
+-- what the event program prints, given a text on standard input
 unfoldable pub program : List ℕ → List ℕ
 program t = answerLines (replies freshDesk (map (λ l. event (lineFrame l)) (inputLines t)))

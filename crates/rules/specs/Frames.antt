@@ -10,7 +10,7 @@ use Rattle.kinds.specs.declared.Control.the-variants.{Timeout, Verify, Abort, E
 use Rattle.kinds.specs.declared.Event.the-variants.{Build, Open, Read, Write, Control, Collect, Close, Time, Counts}
 use Rattle.kinds.specs.declared.Frame.{Frame}
 use Rattle.kinds.specs.declared.Frame.the-variants.{Event, Code, Shape}
-use Rattle.rules.specs.Count.{countBytes}
+use Rattle.rules.specs.TransferCounts.{countBytes}
 
 -- "Controls: 4 timeout seconds; 6 verify (nothing to do here); 43 abort; 45, 46, 47"
 unfoldable pub controlFrame : ℕ → ℕ → ℕ → ℕ → Frame
@@ -23,7 +23,7 @@ controlFrame file acc code param =
     (cond (eqb code 47) (Event (Control file acc (Keep param)))
     (Code file acc))))))
 
--- a frame that has to have n bytes
+-- the frame e if there are n bytes, else no shape
 unfoldable pub sized : ℕ → List ℕ → Frame → Frame
 sized n fr e = cond (eqb (length fr) n) e Shape
 

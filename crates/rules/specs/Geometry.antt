@@ -27,6 +27,6 @@ within lo hi n = leb lo n && leb n hi
 unfoldable pub inRange : ℕ → ℕ → ℕ → ℕ → Bool
 inRange r b n x = within 1 mostWords r && within 1 mostFactor b && within 1 mostRecords n && within 1 mostExtents x
 
--- not "D × block size above 2,048 words"
+-- the opposite of "D × block size above 2,048 words"
 unfoldable pub fitsShare : ℕ → ℕ → ℕ → Bool
 fitsShare r b d = leb (d * blockSize r b) mostShare

@@ -20,10 +20,10 @@ pub mod Time
 pub mod Line
 pub mod Frames
 pub mod Answers
-pub mod Count
+pub mod TransferCounts
 pub mod Controls
 pub mod Look
-pub mod Counts
+pub mod FileCounts
 -- Statuses
 pub mod Reply
 pub mod Calls

@@ -1,4 +1,4 @@
--- Every limit of document 01, by name. What a call is judged by and how much memory there is are two things: the first have to fit the second, and
+-- Every limit of document 01, by name. The limits used in judging a call are kept apart from the memory sizes, which they have to fit:
 -- proofs/Fits.antt says so.
 use Prim.Native.Nat.{ℕ, _+_, _*_}
 
@@ -13,7 +13,7 @@ places = 8
 abbrev pub entries : ℕ
 entries = 128
 
--- What calls are judged by.
+-- Limits used in judging calls.
 
 -- "Record size R words 1..128, blocking factor B 1..16, records N 1..2,000, extents X 1..32."
 abbrev pub mostWords : ℕ
@@ -32,7 +32,7 @@ mostExtents = 32
 abbrev pub mostShare : ℕ
 mostShare = 2048
 
--- what a read hands out: under control 46 "type and ID words before the data"
+-- what a read hands out under control 46: "type and ID words before the data"
 abbrev pub headerWords : ℕ
 headerWords = 2
 
@@ -43,14 +43,14 @@ mostReadWords = headerWords + mostWords
 abbrev pub mostReadBytes : ℕ
 mostReadBytes = 2 * mostReadWords
 
--- "Upper-case digits, at most 261 bytes": behind "04 file acc count(2)" the longest record that is written. The event program's lines
+-- a line of the event program: "Upper-case digits, at most 261 bytes", which are "04 file acc count(2)" and then the longest record that is written
 abbrev pub writeHead : ℕ
 writeHead = 5
 
 abbrev pub lineBytes : ℕ
 lineBytes = writeHead + 2 * mostWords
 
--- and a sheet's: "Lines are hexadecimal as above"
+-- the most bytes of a sheet's line: "Lines are hexadecimal as above"
 abbrev pub sheetLineBytes : ℕ
 sheetLineBytes = writeHead + 2 * mostWords
 
@@ -58,14 +58,14 @@ sheetLineBytes = writeHead + 2 * mostWords
 abbrev pub mostMode : ℕ
 mostMode = 3
 
--- a sheet needs "C ≥ 3" and "types 0 to 2"
+-- what a sheet needs: "C ≥ 3" and "types 0 to 2"
 abbrev pub leastCapacity : ℕ
 leastCapacity = 3
 
 abbrev pub mostType : ℕ
 mostType = 2
 
--- How much memory there is.
+-- Memory sizes.
 
 -- the longest record that the memories have room for
 abbrev pub roomWords : ℕ
@@ -78,11 +78,11 @@ shareWords = 2048
 abbrev pub shareBytes : ℕ
 shareBytes = 2 * shareWords
 
--- "64 record buffers of 260 bytes": that record, with what control 46 hands out before it
+-- "64 record buffers of 260 bytes": the two words that control 46 hands out first, and the longest record
 abbrev pub bufferBytes : ℕ
 bufferBytes = 2 * (headerWords + roomWords)
 
--- "264 bytes for its answer": behind "03 00 log(2)" what a buffer holds
+-- "264 bytes for its answer": "03 00 log(2)", and then what a buffer holds
 abbrev pub answerHead : ℕ
 answerHead = 4
 

@@ -6,7 +6,7 @@ use lib.Dec.{ltb, leb, eqb}
 use lib.ListN.{length}
 use Rattle.rules.specs.Limits.{lineBytes}
 
--- the digit of a number below 16, and the number of a digit: 16 where the byte is none
+-- the digit of a number below 16; `valueOf` is the number of a digit, and 16 for any other byte
 unfoldable pub digitOf : ℕ → ℕ
 digitOf n = cond (ltb n 10) (48 + n) (55 + n)
 
@@ -21,17 +21,17 @@ unfoldable pub allDigits : List ℕ → Bool
 allDigits [] = true
 allDigits (b ∷ s) = cond (ltb (valueOf b) 16) (allDigits s) false
 
--- what an even number of digits says
+-- the bytes that an even number of digits says
 unfoldable pub bytesOf : List ℕ → List ℕ
 bytesOf [] = []
 bytesOf (a ∷ []) = []
 bytesOf (a ∷ b ∷ s) = (valueOf a * 16 + valueOf b) ∷ bytesOf s
 
--- a line of at most n bytes
+-- whether s is a line of at most n bytes
 unfoldable pub isLine : ℕ → List ℕ → Bool
 isLine n s = cond (leb (length s) (2 * n)) (cond (eqb (length s % 2) 0) (allDigits s) false) false
 
--- the frame that it says; any other line says an empty one
+-- the frame that a line of at most n bytes says; any other line says an empty one
 unfoldable pub frameIn : ℕ → List ℕ → List ℕ
 frameIn n s = cond (isLine n s) (bytesOf s) []
 
@@ -43,7 +43,7 @@ lineFrame s = frameIn lineBytes s
 unfoldable pub lineOf : List ℕ → List ℕ
 lineOf xs = digitsOf xs ++ (10 ∷ [])
 
--- the lines of a text, and what stands behind its last LF
+-- the lines of a text, and the rest after its last LF
 pub record Lines : Type 0 where
   pub whole : List (List ℕ)
   pub rest : List ℕ

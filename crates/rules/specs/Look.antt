@@ -22,6 +22,6 @@ lookReq (writing q) b = lookFile b
 lookReq (readDone q) b = elim (eqb (q .status) 0) [ true ↦ leaves (shows 0 (q .bytes)) b | false ↦ lookFile b ]
 lookReq (writeDone q) b = lookFile b
 
--- look: 34 by a writer, 39 no record
+-- look: refused 34 by a writer, 39 with no record
 unfoldable pub look : Acc → Built → Out
 look a b = elim (a .writer) [ true ↦ leaves (shows 34 []) b | false ↦ lookReq (a .req) b ]

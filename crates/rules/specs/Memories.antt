@@ -3,17 +3,21 @@ use mathlib.Core.List.{List, [], _∷_, _++_}
 use mathlib.Core.Option.{Option, none, some}
 use Prim.Native.Nat.{ℕ, zero, suc, _-_, _*_}
 use lib.ListN.{length}
-use Rattle.words.specs.Word.{zeros}
+use Rattle.words.specs.Word.{zeros, part}
 use Rattle.rules.specs.Limits.{files, places, shareBytes, bufferBytes}
 use Rattle.rules.specs.State.{Req, idle, reading, writing, readDone, writeDone, Acc, File, unbuilt, built}
 use Rattle.rules.specs.Desk.{Desk, fileOf}
 
--- "blocks (eight shares of 4,096 bytes)": a file's share, from 4,096 × file on
+-- "blocks (eight shares of 4,096 bytes)": a file's share, starting at 4,096 × file
 unfoldable pub shareOf : File → List ℕ
 shareOf unbuilt = zeros shareBytes
 shareOf (built b) = b .store .share
 
--- g 0, g 1, .., one behind another
+-- The share of file f in a blocks memory.
+abbrev pub shareAt : ℕ → List ℕ → List ℕ
+shareAt f xs = part shareBytes f xs
+
+-- g 0, g 1, .., one after another
 unfoldable pub parts : ℕ → (ℕ → List ℕ) → List ℕ
 parts zero g = []
 parts (suc m) g = g 0 ++ parts m (λ f. g (suc f))
@@ -33,10 +37,14 @@ unfoldable pub buffer : Option Acc → List ℕ
 buffer none = zeros bufferBytes
 buffer (some a) = lies (a .req) ++ zeros (bufferBytes - length (lies (a .req)))
 
--- "64 record buffers of 260 bytes, one an accessor place": from 260 × (8 × file + place) on
+-- "64 record buffers of 260 bytes, one an accessor place": each starting at 260 × (8 × file + place)
 unfoldable pub fileBuffers : List (Option Acc) → List ℕ
 fileBuffers [] = []
 fileBuffers (a ∷ l) = buffer a ++ fileBuffers l
+
+-- The record buffer of place i of the desk in a buffers memory.
+abbrev pub bufferAt : ℕ → List ℕ → List ℕ
+bufferAt i xs = part bufferBytes i xs
 
 unfoldable pub buffersOf : File → List ℕ
 buffersOf unbuilt = zeros (places * bufferBytes)

@@ -15,14 +15,14 @@ use Rattle.rules.specs.Requests.{countAcc, writers, readers, opened, cap
 use Rattle.rules.specs.Settle.{settle}
 use Rattle.rules.specs.Reply.{answers, Out, answering, status, unmade}
 
--- a new file, with no accessor; that it was made is told first
+-- a new file, with no accessor; its first happening is that it was made
 unfoldable pub newFile : Geo → Store → Built
 newFile g s = record { geo = g; store = s; accs = replicate places none; rq = []; wq = []; timers = []; past = made g ∷ [] }
 
 unfoldable pub geoOf : ℕ → ℕ → ℕ → Geo
 geoOf r b d = record { words = r; factor = b; blocks = d }
 
--- build: 35 a number outside its range, 38 more than the share
+-- build: refused 35 for a number outside its range, 38 for more than the share
 unfoldable pub build : ℕ → ℕ → ℕ → ℕ → Out
 build r b n x =
     let d : ℕ = dataBlocks n b x in
@@ -41,7 +41,7 @@ sharingOf s = cond (eqb s 0) 1 s
 unfoldable pub otherShare : ℕ → Acc → Bool
 otherShare s a = not (eqb (a .sharing) s)
 
--- "1 (one reader, one writer), 2 is one reader and many writers, 3 is many of both": a second accessor the share forbids
+-- "1 (one reader, one writer), 2 is one reader and many writers, 3 is many of both": whether the share forbids a second accessor
 unfoldable pub crowded : Bool → ℕ → Built → Bool
 crowded writer s b = cond writer (eqb s 1 && ltb 0 (writers b)) (ltb s 3 && ltb 0 (readers b))
 
@@ -92,8 +92,8 @@ openWriter s b =
 unfoldable pub roomToOpen : ℕ → Built → Bool
 roomToOpen access b = leb (used (purged access b .store) + writers b + 2) (capacityOf b)
 
--- open: 35 a number above 3, 40 a share that forbids it, 41 eight accessors open, 42 no room for the open record; "Access 0 reads";
--- "Multiaccess 0 counts as 2", and nothing tells 1 from 2
+-- open: refused 35 for a number above 3, 40 for multiaccess 3, another share or one that forbids it, 41 with eight accessors open, 42 with no room
+-- for the open record; "Access 0 reads"; "Multiaccess 0 counts as 2", and 1 and 2 mean the same
 unfoldable pub openFile : ℕ → ℕ → ℕ → Built → Out
 openFile access share multi b =
     let writer : Bool = ltb 0 access in

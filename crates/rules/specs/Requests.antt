@@ -45,7 +45,7 @@ capacityOf b = capacity (b .geo .factor) (b .geo .blocks)
 unfoldable pub fits : Built → Bool
 fits b = leb (used (b .store) + writers b + 1) (capacityOf b)
 
--- the file with one part set anew
+-- the file with one part changed
 
 unfoldable pub withStore : Store → Built → Built
 withStore s b = record { geo = b .geo; store = s; accs = b .accs; rq = b .rq; wq = b .wq; timers = b .timers; past = b .past }
@@ -59,11 +59,11 @@ withQueues r w b = record { geo = b .geo; store = b .store; accs = b .accs; rq =
 unfoldable pub withTimers : List Timer → Built → Built
 withTimers ts b = record { geo = b .geo; store = b .store; accs = b .accs; rq = b .rq; wq = b .wq; timers = ts; past = b .past }
 
--- more has happened
+-- adds to what has happened
 unfoldable pub say : List Hap → Built → Built
 say hs b = record { geo = b .geo; store = b .store; accs = b .accs; rq = b .rq; wq = b .wq; timers = b .timers; past = b .past ++ hs }
 
--- the accessor at a place changed, if there is one
+-- changes the accessor at a place, if there is one
 unfoldable pub alter : (Acc → Acc) → List (Option Acc) → ℕ → List (Option Acc)
 alter f [] p = []
 alter f (none ∷ l) zero = none ∷ l
@@ -76,12 +76,12 @@ alterAcc p f b = withAccs (alter f (b .accs) p) b
 unfoldable pub putRec : Rec → Built → Built
 putRec r b = say (puts r ∷ []) (withStore (put (b .geo) r (b .store)) b)
 
--- what the read at p took, told
+-- the happening that the read at p took a record, if it took one
 unfoldable pub tookBy : ℕ → Option Rec → List Hap
 tookBy p none = []
 tookBy p (some r) = takes p r ∷ []
 
--- behind what the read at p found
+-- the file after the read at p, which found f
 unfoldable pub behind : ℕ → Found → Built → Built
 behind p f b = say (map drops (f .went) ++ tookBy p (f .took)) (withStore (f .store) b)
 
@@ -97,7 +97,7 @@ isIdle (writeDone q) = false
 unfoldable pub withReq : Req → Acc → Acc
 withReq q a = record { writer = a .writer; ident = a .ident; sharing = a .sharing; timeout = a .timeout; extended = a .extended; typed = a .typed; keep = a .keep; first = a .first; req = q }
 
--- an accepted read or write is no longer to be the first; 47: "The setting is spent by that read", so a write leaves it
+-- the accessor after an accepted read or write: the next one is not its first; 47: "The setting is spent by that read", so a write leaves it
 unfoldable pub begun : Acc → Acc
 begun a = record { writer = a .writer; ident = a .ident; sharing = a .sharing; timeout = a .timeout; extended = a .extended; typed = a .typed; keep = a .writer && a .keep; first = false; req = a .req }
 
@@ -109,34 +109,34 @@ unfoldable pub withoutTimer : ℕ → List Timer → List Timer
 withoutTimer p [] = []
 withoutTimer p (t ∷ l) = cond (eqb (t .place) p) (withoutTimer p l) (t ∷ withoutTimer p l)
 
--- "smallest first, equals in arming order": behind all that have as little left
+-- "smallest first, equals in arming order": a new timer goes after all that have as little left
 unfoldable pub armIn : Timer → List Timer → List Timer
 armIn t [] = t ∷ []
 armIn t (u ∷ l) = cond (leb (u .left) (t .left)) (u ∷ armIn t l) (t ∷ u ∷ l)
 
--- a request that begins or ceases to wait: it is q now, and the queues are r and w
+-- sets the request at p, which begins or ceases to wait, to q, and the queues to r and w
 unfoldable pub requeue : ℕ → Req → List ℕ → List ℕ → Built → Built
 requeue p q r w b = alterAcc p (withReq q) (withQueues r w b)
 
--- the request at p leaves its queue and is q now, and its timer "goes when it completes"
+-- takes the request at p out of its queue and sets it to q; its timer "goes when it completes"
 unfoldable pub leave : ℕ → Req → Built → Built
 leave p q b = withTimers (withoutTimer p (b .timers)) (requeue p q (without p (b .rq)) (without p (b .wq)) b)
 
--- a waiting request completes with a status
+-- completes a waiting request with a status
 unfoldable pub finish : ℕ → ℕ → Req → Built → Built
 finish p st q b = say (ends p st ∷ []) (leave p q b)
 
 unfoldable pub cancel : ℕ → Built → Built
 cancel p b = say (cancels p ∷ []) (leave p idle b)
 
--- what a read and a write become that complete with a status other than 0, and bring nothing
+-- a read that completed with a status other than 0 and brings nothing; `writeFails` is such a write
 abbrev pub readFails : ℕ → Req
 readFails st = readDone (record { status = st; log = 0; bytes = [] })
 
 abbrev pub writeFails : ℕ → Req
 writeFails st = writeDone (record { status = st; log = 0 })
 
--- so does a waiting request; any other stays as it is
+-- completes a waiting request with a status other than 0; any other request stays as it is
 unfoldable pub failReq : ℕ → ℕ → Req → Built → Built
 failReq p st idle b = b
 failReq p st (reading q) b = finish p st (readFails st) b
@@ -155,11 +155,11 @@ arm p n b =
       | false ↦ say (arms p n ∷ []) (withTimers (armIn (record { place = p; left = n }) (b .timers)) b)
     ]
 
--- the request q at p, of a writer or of a reader, begins to wait, behind those of its side
+-- makes the request q at p, of a writer or of a reader, wait after those of its side
 unfoldable pub wait : (writer : Bool) (p seconds : ℕ) → Req → Built → Built
 wait true p n q b = arm p n (say (waits p ∷ []) (requeue p q (b .rq) (b .wq ++ (p ∷ [])) b))
 wait false p n q b = arm p n (say (waits p ∷ []) (requeue p q (b .rq ++ (p ∷ [])) (b .wq) b))
 
--- a completed request is collected
+-- collects a completed request
 unfoldable pub freed : ℕ → Built → Built
 freed p b = say (collects p ∷ []) (alterAcc p (withReq idle) b)

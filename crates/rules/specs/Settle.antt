@@ -7,7 +7,7 @@ use lib.ListN.{length, take}
 use Rattle.words.specs.Word.{word}
 use Rattle.rules.specs.State.{Rec, Offered, Req, idle, reading, writing, readDone, writeDone, Acc, Built}
 use Rattle.rules.specs.Store.{fetch, Found}
-use Rattle.rules.specs.Count.{logOf}
+use Rattle.rules.specs.TransferCounts.{logOf}
 use Rattle.rules.specs.Requests.{accAt, fits, putRec, behind, finish}
 
 -- what a read is handed of a record: with control 46 "type and ID words before the data", and "cut to the count"
@@ -15,15 +15,15 @@ unfoldable pub handed : Bool → ℕ → Rec → List ℕ
 handed typed limit r = take limit (cond typed (word (r .typ) ++ word (r .wid) ++ r .body) (r .body))
 
 unfoldable pub readResult : Bool → List ℕ → Req
-readResult words bytes = readDone (record { status = 0; log = logOf words (length bytes); bytes = bytes })
+readResult byWords bytes = readDone (record { status = 0; log = logOf byWords (length bytes); bytes = bytes })
 
 unfoldable pub writeResult : Offered → Req
-writeResult q = writeDone (record { status = 0; log = logOf (q .words) (length (q .bytes)) })
+writeResult q = writeDone (record { status = 0; log = logOf (q .byWords) (length (q .bytes)) })
 
 unfoldable pub dataRec : Acc → List ℕ → Rec
 dataRec a bytes = record { typ = 0; wid = a .ident; body = bytes }
 
--- one turn: the file behind it, and whether a request was served
+-- one turn: the file after it, and whether a request was served
 pub record Turn : Type 0 where
   pub file : Built
   pub moved : Bool
@@ -34,13 +34,13 @@ still b = record { file = b; moved = false }
 unfoldable pub onward : Built → Turn
 onward b = record { file = b; moved = true }
 
--- the waiting read of the accessor a at p; "as first waiting reader whenever the file settles" open and close records at the head go
+-- serves the waiting read of the accessor a at p; "as first waiting reader whenever the file settles" it discards open and close records at the head
 unfoldable pub serveReader : ℕ → Acc → Req → Built → Turn
 serveReader p a (reading q) b =
     let f : Found = fetch (b .geo) (a .typed) (q .keep) (b .store) in
     elim (f .got) [
       | none ↦ still (behind p f b)
-      | some r ↦ onward (finish p 0 (readResult (q .words) (handed (a .typed) (q .limit) r)) (behind p f b))
+      | some r ↦ onward (finish p 0 (readResult (q .byWords) (handed (a .typed) (q .limit) r)) (behind p f b))
     ]
 serveReader p a idle b = still b
 serveReader p a (writing q) b = still b
@@ -58,7 +58,7 @@ serveWriter p a (reading q) b = still b
 serveWriter p a (readDone q) b = still b
 serveWriter p a (writeDone q) b = still b
 
--- the accessor at the head of a queue, handed to `serve`
+-- hands the accessor at the head of a queue to `serve`
 unfoldable pub atHead : (ℕ → Acc → Req → Built → Turn) → List ℕ → Built → Turn
 atHead serve [] b = still b
 atHead serve (p ∷ l) b = elim (accAt b p) [ none ↦ still b | some a ↦ serve p a (a .req) b ]
@@ -68,13 +68,13 @@ turn b =
     let m : Turn = atHead serveReader (b .rq) b in
     elim (m .moved) [ true ↦ m | false ↦ atHead serveWriter (b .wq) (m .file) ]
 
--- at most n turns
+-- the file after at most n turns
 unfoldable pub settleFor : ℕ → Built → Built
 settleFor zero b = b
 settleFor (suc n) b =
     let m : Turn = turn b in
     elim (m .moved) [ true ↦ settleFor n (m .file) | false ↦ m .file ]
 
--- each turn that moves serves one waiting request, so as many turns as wait are enough (law `settled`)
+-- settles the file: a turn that moves serves one waiting request, so as many turns as requests wait are enough (law `settled`)
 unfoldable pub settle : Built → Built
 settle b = settleFor (length (b .rq) + length (b .wq)) b

@@ -77,11 +77,11 @@ readSheet t =
 unfoldable pub loaded : Sheet → Built
 loaded s = say (map puts (s .recs)) (newFile (s .geo) (putAll (s .geo) (s .recs) emptyStore))
 
--- load: 43 not a sheet
+-- load: refused 43 if the text is not a sheet
 unfoldable pub load : List ℕ → Out
 load t = elim (readSheet t) [ none ↦ unmade (shows 43 []) | some s ↦ leaves (shows 0 []) (loaded s) ]
 
--- save, with n bytes of output: 44 output too short
+-- save, with n bytes of output: refused 44 if the output is too short
 unfoldable pub save : ℕ → Built → Out
 save n b =
     let t : List ℕ = sheet (b .geo) (b .store .recs) in

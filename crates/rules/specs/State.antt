@@ -16,7 +16,7 @@ pub record Geo : Type 0 where
   pub factor : ℕ
   pub blocks : ℕ
 
--- "A file is a ring of blocks": the oldest block still holding a record (or the one to go on at), the places of it that are spent,
+-- "A file is a ring of blocks": the oldest block still holding a record (or the one to go on at), how many of its places are spent,
 -- the records held, oldest first, and the bytes of the file's share
 pub record Store : Type 0 where
   pub block : ℕ
@@ -24,15 +24,15 @@ pub record Store : Type 0 where
   pub recs : List Rec
   pub share : List ℕ
 
--- a waiting read: whether it counts in words, at most how many bytes, whether under control 47
+-- a waiting read: whether it counts in words, how many bytes it takes at most, whether it is under control 47
 pub record Wanted : Type 0 where
-  pub words : Bool
+  pub byWords : Bool
   pub limit : ℕ
   pub keep : Bool
 
 -- a waiting write: whether it counts in words, and the data
 pub record Offered : Type 0 where
-  pub words : Bool
+  pub byWords : Bool
   pub bytes : List ℕ
 
 -- a completed read: how it ended, its log, and the bytes as they will be answered
@@ -65,17 +65,17 @@ pub record Acc : Type 0 where
   pub extended : Bool
   pub typed : Bool
   pub keep : Bool
-  -- no read or write accepted yet
+  -- whether no read or write was accepted yet
   pub first : Bool
   pub req : Req
 
--- the remaining timeout of the request at a place: among a file's timers a place of the file, on the desk's clock (`Allocation`) one of the desk
+-- the remaining timeout of the request at a place: a place of the file among a file's timers, of the desk on the desk's clock (`Allocation`)
 pub record Timer : Type 0 where
   pub place : ℕ
   pub left : ℕ
 
--- what happens to a file in a call, in order; what is stated beside the definition is a fold over it. Time passes in all files at once: what it
--- does to the desk, in order, is `Allocation.told`
+-- what happens to a file in a call, in order; what is stated beside the definition is a fold over it. Time passes in all files at once:
+-- `Allocation.told` gives what it does to the desk, in order
 pub data Hap : Type 0 where
   -- the file was made, by build or load
   made : Geo → Hap
@@ -99,7 +99,7 @@ pub record Built : Type 0 where
   -- the places of the waiting readers, and of the waiting writers, first come first
   pub rq : List ℕ
   pub wq : List ℕ
-  -- smallest first, equals in arming order
+  -- the running timers, smallest first, equals in arming order
   pub timers : List Timer
   -- what the call at hand has done so far; nothing between calls
   pub past : List Hap

@@ -39,14 +39,14 @@ blockBytes g = 2 * blockSize (g .words) (g .factor)
 unfoldable pub zeroed : ℕ → List ℕ
 zeroed n = word 0 ++ (word 2 ++ zeros (n - 4))
 
--- one record more in the block at `at`, "right behind the one before"
+-- adds one record to the block at `at`, "right behind the one before"
 unfoldable pub added : List ℕ → ℕ → Rec → List ℕ
 added xs at r =
     let put : ℕ = wordAt xs at in
     let end : ℕ = wordAt xs (at + 2) in
     sets (sets (sets xs (at + 2 * end) (recordBytes r)) at (word (put + 1))) (at + 2) (word (end + recordWords r))
 
--- where the block begins that takes the next record
+-- the start of the block that takes the next record
 unfoldable pub tail : Geo → Store → ℕ
 tail g s = (s .block + used s / g .factor) % g .blocks * blockBytes g
 
@@ -65,7 +65,7 @@ unfoldable pub putAll : Geo → List Rec → Store → Store
 putAll g [] s = s
 putAll g (r ∷ rest) s = putAll g rest (put g r s)
 
--- the oldest record is gone: "A file that becomes empty has used = 0 and goes on at the next block", and so does one whose oldest block is spent
+-- removes the oldest record: "A file that becomes empty has used = 0 and goes on at the next block", and so does one whose oldest block is spent
 unfoldable pub advance : Geo → Store → Store
 advance g s =
     elim (eqb (length (s .recs)) 1 || eqb (s .spent + 1) (g .factor)) [
@@ -82,15 +82,15 @@ unfoldable pub dropped : List Rec → List Rec
 dropped [] = []
 dropped (r ∷ rest) = elim (eqb (r .typ) 0) [ true ↦ [] | false ↦ r ∷ dropped rest ]
 
--- they go
+-- discards the open and close records at the head
 unfoldable pub discard : Geo → Store → Store
 discard g s = advanceBy (length (dropped (s .recs))) g s
 
--- all records go; "goes on at the next block" behind the last record's
+-- purges all records; the file "goes on at the next block" after the last record's
 unfoldable pub purge : Geo → Store → Store
 purge g s = record { block = (s .block + dividedUp (used s) (g .factor)) % g .blocks; spent = 0; recs = []; share = s .share }
 
--- what a read finds: the store behind it, the record, if there is one, the records that it discarded, in their order, and the one that it took
+-- what a read finds: the store after it, the record, if there is one, the records that it discarded, in their order, and the one that it took
 pub record Found : Type 0 where
   pub store : Store
   pub got : Option Rec
@@ -101,7 +101,7 @@ unfoldable pub headOf : List Rec → Option Rec
 headOf [] = none
 headOf (r ∷ l) = some r
 
--- the head record is taken, behind those that went; under control 47 it stays, and nothing is taken
+-- takes the head record, after those that went; under control 47 it stays, and nothing is taken
 unfoldable pub takeHead : Geo → Bool → List Rec → Store → Found
 takeHead g keep went s =
     elim (headOf (s .recs)) [

@@ -8,7 +8,7 @@ use lib.ListN.{length}
 use Rattle.kinds.specs.declared.Answer.the-variants.{Read, Written, Collected}
 use Rattle.rules.specs.State.{Req, idle, reading, writing, readDone, writeDone, Acc, Built}
 use Rattle.rules.specs.Store.{fetch, Found}
-use Rattle.rules.specs.Count.{inWords, countBytes, readable, logOf}
+use Rattle.rules.specs.TransferCounts.{inWords, countBytes, readable, logOf}
 use Rattle.rules.specs.Requests.{writers, readers, fits, alterAcc, putRec, behind, isIdle, begun, wait, freed}
 use Rattle.rules.specs.Settle.{handed, dataRec, settle}
 use Rattle.rules.specs.Reply.{answers, Out, leaves, answering, status}
@@ -27,12 +27,12 @@ readOn p a n b =
           let d : List ℕ = handed (a .typed) (countBytes n) r in
           leaves (answers (Read (logOf (inWords n) (length d))) d) (settle c)
       | none ↦ elim (mayWait (writers b) a) [
-        | true ↦ status 3 1 (settle (wait false p (a .timeout) (reading (record { words = inWords n; limit = countBytes n; keep = a .keep })) c))
+        | true ↦ status 3 1 (settle (wait false p (a .timeout) (reading (record { byWords = inWords n; limit = countBytes n; keep = a .keep })) c))
         | false ↦ status 3 2 (settle c)
       ]
     ]
 
--- read: 33 a request outstanding, 34 by a writer, 35 a count out of range
+-- read: refused 33 with a request outstanding, 34 by a writer, 35 for a count out of range
 unfoldable pub read : ℕ → Acc → ℕ → Built → Out
 read p a n b =
     elim (isIdle (a .req)) [
@@ -53,12 +53,12 @@ writeOn p a n d b =
     elim (fits b && isNil (b .wq)) [
       | true ↦ answering (Written (logOf (inWords n) (length d))) (settle (alterAcc p begun (putRec (dataRec a d) b)))
       | false ↦ elim (mayWait (readers b) a) [
-        | true ↦ status 4 1 (settle (wait true p (a .timeout) (writing (record { words = inWords n; bytes = d })) (alterAcc p begun b)))
+        | true ↦ status 4 1 (settle (wait true p (a .timeout) (writing (record { byWords = inWords n; bytes = d })) (alterAcc p begun b)))
         | false ↦ status 4 2 (settle (alterAcc p begun b))
       ]
     ]
 
--- write: 33 a request outstanding, 34 by a reader, 35 "a write has at most 2R bytes"
+-- write: refused 33 with a request outstanding, 34 by a reader, 35 unless "a write has at most 2R bytes"
 unfoldable pub write : ℕ → Acc → ℕ → List ℕ → Built → Out
 write p a n d b =
     elim (isIdle (a .req)) [
@@ -77,7 +77,7 @@ collected st log d p b =
       | false ↦ status 6 st (freed p b)
     ]
 
--- collect: 39 nothing outstanding
+-- collect: refused 39 with nothing outstanding
 unfoldable pub collect : ℕ → Req → Built → Out
 collect p idle b = status 6 39 b
 collect p (reading q) b = status 6 1 b

@@ -14,7 +14,7 @@ use Rattle.runs.proofs.Holds.{holds-bodies}
 use Rattle.runs.proofs.Steps.{Comes, step-comes, fresh-first}
 use Rattle.memory.specs.Memories.{Memories, memories}
 
--- the desk and the allocation behind calls and one more
+-- the desk and the allocation after calls and one more
 
 after-more : (d : Desk) (cs : List Call) (c : Call) → after d (cs ++ (c ∷ [])) ≡ respond (after d cs) c .desk
 unfolding after
@@ -26,7 +26,7 @@ unfolding after allocAfter
 alloc-more d [] c s = refl
 alloc-more d (b ∷ cs) c s = alloc-more (respond d b .desk) cs c (allocAsked d (asked b) s)
 
--- behind the calls cs since the desk was fresh
+-- the memories after the calls cs since the desk was fresh
 abbrev pub Since : List Call → Memories → Type 0
 Since cs m = Holds m (after freshDesk cs) (allocAfter freshDesk cs freshAlloc)
 

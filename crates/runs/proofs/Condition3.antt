@@ -14,7 +14,7 @@ use Rattle.laws.specs.Runs.{only, theirs, OnFile}
 use Rattle.laws.proofs.Isolation.{isolation}
 use Rattle.laws.proofs.EightFiles.{eight-fresh, fresh-file}
 use Rattle.promises.specs.Promise.{HostCall, fresh, event, Given, Standing, stands, replyOf, answered, said, sized, Promise}
-use Rattle.promises.proofs.Events.{lent-right}
+use Rattle.promises.proofs.Events.{room-right}
 use Rattle.promises.proofs.Room.{event-fits}
 use Rattle.promises.proofs.Fits.{FineDesk}
 use Rattle.runs.specs.Run.{Run, meant, Holds}
@@ -61,5 +61,5 @@ pub no-file : (m n : Memories) (d : Desk) (s : Alloc) → Holds m d s → (memor
 unfolding Promise replyOf
 no-file m n d s H memory frame g e b P =
     let v : Option Standing = some (record { desk = d; alloc = s }) in
-    let said : g ≡ answered memory (respond d (rules.event frame) .reply) = P v (stands d s (H .stands)) .0 ∙ ap (λ (w : Option Standing). answered memory (replyOf w (rules.event frame))) (lent-right answerRoom memory v e) in
+    let said : g ≡ answered memory (respond d (rules.event frame) .reply) = P v (stands d s (H .stands)) .0 ∙ ap (λ (w : Option Standing). answered memory (replyOf w (rules.event frame))) (room-right answerRoom memory v e) in
     ap found said ∙ answer-found memory (respond d (rules.event frame) .reply) (omega (arith, event-fits d (H .stands .fine) frame, e)) ∙ shape-found (respond d (rules.event frame) .reply) (shape-reply d frame b)

@@ -19,6 +19,7 @@ use Rattle.laws.proofs.Files.{on-file}
 use Rattle.segment.specs.Layout.{listCount, readQueue, writeQueue, replyPort, linkAt, placeWidth, placeRowAt}
 use Rattle.segment.specs.Layout as layout
 use Rattle.segment.specs.Table.{nth, row, dataOf}
+use Rattle.segment.specs.Fields.{entryWords}
 use Rattle.ports.specs.Lists.{Chain}
 use Rattle.ports.proofs.Lists.{short}
 use Rattle.memory.specs.Memories.{Memories}
@@ -58,7 +59,7 @@ placed-local f t e =
     ap (λ (p : ℕ). record { place = p; left = t .left }) k
 
 timers-sieve : (f : ℕ) (ts : List Timer) → timersOn f (map timerWords ts) ≡ map (λ t. timerWords (placed f t)) (sieve f ts)
-unfolding timersOn sieve timerWords
+unfolding timersOn sieve timerWords entryWords
 timers-sieve f [] = refl
 timers-sieve f (t ∷ ts) = go (eqb (t .place / places) f) refl (timers-sieve f ts)
   where

@@ -23,7 +23,7 @@ use Rattle.rules.specs.Desk as rules
 use Rattle.rules.specs.Allocation.{Alloc, freshAlloc, allocAfter}
 use Rattle.rules.proofs.Split.{both, opt}
 use Rattle.midst.specs.Outcome.{replyStatus}
-use Rattle.promises.specs.Promise.{HostCall, fresh, event, look, save, load, Given, Standing, stands, lent, replyOf, shown, said, sized, Promise}
+use Rattle.promises.specs.Promise.{HostCall, fresh, event, look, save, load, Given, Standing, stands, withRoom, replyOf, shown, said, sized, Promise}
 use Rattle.promises.specs.Promise as host
 use Rattle.promises.proofs.Room.{event-told}
 use Rattle.runs.specs.Run.{Run, ended, then, Holds}
@@ -90,8 +90,8 @@ module _ (m n : Memories) (d : Desk) (s : Alloc) (H : Holds m d s) where
   abbrev seen : Option Standing
   seen = some (record { desk = d; alloc = s })
 
-  answer-29 : (memory frame : List ℕ) (g : Given) → g ≡ host.answered memory (replyOf (lent answerRoom memory seen) (rules.event frame)) → is29 g ≡ not (eqb (length memory) answerRoom)
-  unfolding lent
+  answer-29 : (memory frame : List ℕ) (g : Given) → g ≡ host.answered memory (replyOf (withRoom answerRoom memory seen) (rules.event frame)) → is29 g ≡ not (eqb (length memory) answerRoom)
+  unfolding withRoom
   answer-29 memory frame g = go (eqb (length memory) answerRoom)
     where
       go : (t : Bool) → g ≡ host.answered memory (replyOf (elim t as (λ (b : Bool). Option Standing) [ true ↦ seen | false ↦ none ]) (rules.event frame)) → is29 g ≡ not t
@@ -99,8 +99,8 @@ module _ (m n : Memories) (d : Desk) (s : Alloc) (H : Holds m d s) where
           ap is29 e ∙ (unfold is29 host.answered replyOf in ne-eqb (length (replyBytes (respond d (rules.event frame) .reply))) 0 (λ z. omega (arith, z, event-told d (H .stands .fine) frame)))
       go false e = ap is29 e ∙ (unfold is29 host.answered replyOf replyBytes in refl)
 
-  look-29 : (f p : ℕ) (memory : List ℕ) (g : Given) → g ≡ shown memory (replyOf (lent recordRoom memory seen) (rules.look f p)) → is29 g ≡ not (eqb (length memory) recordRoom)
-  unfolding lent
+  look-29 : (f p : ℕ) (memory : List ℕ) (g : Given) → g ≡ shown memory (replyOf (withRoom recordRoom memory seen) (rules.look f p)) → is29 g ≡ not (eqb (length memory) recordRoom)
+  unfolding withRoom
   look-29 f p memory g = go (eqb (length memory) recordRoom)
     where
       go : (t : Bool) → g ≡ shown memory (replyOf (elim t as (λ (b : Bool). Option Standing) [ true ↦ seen | false ↦ none ]) (rules.look f p)) → is29 g ≡ not t

@@ -14,7 +14,7 @@ use Rattle.rules.specs.Reply.{Reply}
 use Rattle.rules.specs.Desk.{Desk, Call, respond, replyBytes, freshDesk, after}
 use Rattle.rules.specs.Desk as rules
 use Rattle.rules.specs.Allocation.{Alloc, freshAlloc, allocAfter}
-use Rattle.promises.specs.Promise.{HostCall, fresh, event, look, save, load, Given, givenSize, givenMemory, Standing, stands, lent, replyOf, answered, shown, said, sized, Promise}
+use Rattle.promises.specs.Promise.{HostCall, fresh, event, look, save, load, Given, givenSize, givenMemory, Standing, stands, withRoom, replyOf, answered, shown, said, sized, Promise}
 use Rattle.promises.proofs.Room.{event-fits}
 use Rattle.promises.proofs.Fits.{look-fits, save-fits}
 use Rattle.runs.specs.Run.{Run, ended, then, Holds}
@@ -45,9 +45,9 @@ module _ (m n : Memories) (d : Desk) (s : Alloc) (H : Holds m d s) where
   seen = some (record { desk = d; alloc = s })
 
   -- what replies to a call that is lent memory of a size fits that memory
-  lent-fits : (size : ℕ) (memory : List ℕ) (c : Call) → length (replyBytes (respond d c .reply)) ≤ size → length (replyBytes (replyOf (lent size memory seen) c)) ≤ length memory
-  unfolding lent
-  lent-fits size memory c h = go (eqb (length memory) size) refl
+  room-fits : (size : ℕ) (memory : List ℕ) (c : Call) → length (replyBytes (respond d c .reply)) ≤ size → length (replyBytes (replyOf (withRoom size memory seen) c)) ≤ length memory
+  unfolding withRoom
+  room-fits size memory c h = go (eqb (length memory) size) refl
     where
       go : (t : Bool) → eqb (length memory) size ≡ t → length (replyBytes (replyOf (elim t as (λ (b : Bool). Option Standing) [ true ↦ seen | false ↦ none ]) c)) ≤ length memory
       go true e = unfold replyOf in omega (arith, h, eqb-true (length memory) size e)
@@ -58,9 +58,9 @@ module _ (m n : Memories) (d : Desk) (s : Alloc) (H : Holds m d s) where
   step-stays fresh g P = subst (λ (h : Given). Stayed h []) (sym (fresh-first m n g (size-true m n d s H) P .0)) (unfold givenSize givenMemory in refl)
   step-stays (event memory frame) g P =
       subst (λ (h : Given). Stayed h memory) (sym (P seen (stands d s (H .stands)) .0))
-      (answer-behind memory _ (lent-fits answerRoom memory (rules.event frame) (event-fits d (H .stands .fine) frame)))
+      (answer-behind memory _ (room-fits answerRoom memory (rules.event frame) (event-fits d (H .stands .fine) frame)))
   step-stays (look f p memory) g P =
-      subst (λ (h : Given). Stayed h memory) (sym (P seen (stands d s (H .stands)) .0)) (shown-behind memory _ (lent-fits recordRoom memory (rules.look f p) (look-fits d (H .stands .fine) f p)))
+      subst (λ (h : Given). Stayed h memory) (sym (P seen (stands d s (H .stands)) .0)) (shown-behind memory _ (room-fits recordRoom memory (rules.look f p) (look-fits d (H .stands .fine) f p)))
   step-stays (save f output) g P =
       subst (λ (h : Given). Stayed h output) (sym (P seen (stands d s (H .stands)) .0)) (unfold replyOf in shown-behind output _ (save-fits d f (length output)))
   step-stays (load f text) g P = subst (λ (h : Given). Stayed h []) (sym (P seen (stands d s (H .stands)) .0)) (unfold said givenSize givenMemory in refl)

@@ -15,14 +15,14 @@ use Rattle.rules.specs.Allocation.{Alloc, allocAsked, freshAlloc}
 use Rattle.rules.proofs.Split.{true-and}
 use Rattle.segment.specs.Layout.{segmentBytes}
 use Rattle.midst.specs.Outcome.{replyStatus, Stays}
-use Rattle.promises.specs.Promise.{HostCall, fresh, event, look, save, load, Given, status, Standing, stands, lent, replyOf, said, Behind, sized, Promise}
+use Rattle.promises.specs.Promise.{HostCall, fresh, event, look, save, load, Given, status, Standing, stands, withRoom, replyOf, said, Behind, sized, Promise}
 use Rattle.runs.specs.Run.{Meant, anew, unfit, asks, lending, meant, gives, Holds}
 use Rattle.runs.proofs.Holds.{holds-fresh}
 use Rattle.promises.proofs.Unbuilt.{unbuilt-before}
 use Rattle.memory.specs.Memories.{Memories}
 use Rattle.memory.specs.Fresh.{freshMemories}
 
--- what a call comes to, by what it means
+-- the outcome of a call, by what it means
 unfoldable pub Comes : Meant → Desk → Alloc → HostCall → Given → Memories → Type 0
 Comes anew d s x g n = (g ≡ gives x (shows 0 [])) × Holds n freshDesk freshAlloc
 Comes unfit d s x g n = (g ≡ gives x (shows 29 [])) × Holds n d s
@@ -47,16 +47,16 @@ module _ (m n : Memories) (d : Desk) (s : Alloc) (H : Holds m d s) where
         (T .rest f h u .0 ∙ v .0, T .rest f h u .1 ∙ v .1);
   }
 
-  -- of a call of the rules
+  -- the outcome of a call of the rules
   asked-comes : (c : Call) (x : HostCall) (g : Given) → (g ≡ gives x (replyOf seen c)) × Behind seen c m n → Comes (asks c) d s x g n
   unfolding Comes replyOf Behind
   asked-comes c x g (e, B) = (e, held c B)
 
-  -- of one for which memory of so many bytes is lent
-  lent-comes : (size : ℕ) (memory : List ℕ) (c : Call) (x : HostCall) (g : Given) → (g ≡ gives x (replyOf (lent size memory seen) c)) × Behind (lent size memory seen) c m n
+  -- the outcome of a call that is lent memory of n bytes
+  room-comes : (size : ℕ) (memory : List ℕ) (c : Call) (x : HostCall) (g : Given) → (g ≡ gives x (replyOf (withRoom size memory seen) c)) × Behind (withRoom size memory seen) c m n
       → Comes (lending size memory c) d s x g n
-  unfolding lent lending
-  lent-comes size memory c x g = go (eqb (length memory) size)
+  unfolding withRoom lending
+  room-comes size memory c x g = go (eqb (length memory) size)
     where
       go : (t : Bool) → (g ≡ gives x (replyOf (elim t as (λ (b : Bool). Option Standing) [ true ↦ seen | false ↦ none ]) c))
           × Behind (elim t as (λ (b : Bool). Option Standing) [ true ↦ seen | false ↦ none ]) c m n
@@ -74,7 +74,7 @@ module _ (m n : Memories) (d : Desk) (s : Alloc) (H : Holds m d s) where
   pub step-comes : (x : HostCall) (g : Given) → Promise m x g n → Comes (meant x) d s x g n
   unfolding Promise meant gives Comes said replyStatus
   step-comes fresh g P = fresh-first m n g size-true P
-  step-comes (event memory frame) g P = lent-comes answerRoom memory (rules.event frame) (event memory frame) g (P seen (stands d s (H .stands)))
-  step-comes (look f p memory) g P = lent-comes recordRoom memory (rules.look f p) (look f p memory) g (P seen (stands d s (H .stands)))
+  step-comes (event memory frame) g P = room-comes answerRoom memory (rules.event frame) (event memory frame) g (P seen (stands d s (H .stands)))
+  step-comes (look f p memory) g P = room-comes recordRoom memory (rules.look f p) (look f p memory) g (P seen (stands d s (H .stands)))
   step-comes (save f output) g P = asked-comes (rules.save f (length output)) (save f output) g (P seen (stands d s (H .stands)))
   step-comes (load f text) g P = asked-comes (rules.load f text) (load f text) g (P seen (stands d s (H .stands)))

@@ -16,7 +16,7 @@ unfoldable pub stretch : List HostCall → List Call
 stretch [] = []
 stretch (x ∷ xs) = elim (meant x) [ anew ↦ [] | unfit ↦ stretch xs | asks c ↦ c ∷ stretch xs ]
 
--- what the host is given, where rs are the rules' replies to the calls until then: behind a fresh call their replies from a fresh desk on
+-- what the host is given, where rs are the rules' replies to the calls until the next fresh call; after that, the rules reply from a fresh desk
 unfoldable pub heard : List HostCall → List Reply → List Given
 heard [] rs = []
 heard (x ∷ xs) rs =
@@ -26,12 +26,12 @@ heard (x ∷ xs) rs =
       | asks c ↦ gives x (getD rs 0 (shows 29 [])) ∷ heard xs (drop 1 rs)
     ]
 
--- the calls made since the desk was last fresh, where cs are those before
+-- the calls made since the desk was last fresh, where cs are those made before xs
 unfoldable pub since : List Call → List HostCall → List Call
 since cs [] = cs
 since cs (x ∷ xs) = elim (meant x) [ anew ↦ since [] xs | unfit ↦ since cs xs | asks c ↦ since (cs ++ (c ∷ [])) xs ]
 
--- of a fresh call and the calls xs behind it the host was given gs, and they left m
+-- condition 2 of a fresh call and the calls xs after it: the host was given gs, and they left m
 pub record Condition2 (xs : List HostCall) (gs : List Given) (m : Memories) : Type 0 where
   -- every status, every length and every byte of answer, record and output memory
   pub given : gs ≡ heard (fresh ∷ xs) []

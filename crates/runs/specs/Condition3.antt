@@ -36,7 +36,7 @@ sortOf (host.look f p memory) = look f p (length memory)
 sortOf (host.save f output) = save f (length output)
 sortOf (host.load f text) = load f text
 
--- calls naming that file, of wrong lengths too
+-- whether a call names file f; calls of wrong lengths do too
 unfoldable pub namesFile : ℕ → Sort → Bool
 namesFile f made = false
 namesFile f (event n frame) = names f (asked (rules.event frame))
@@ -49,7 +49,7 @@ isTime (on g q) = false
 isTime (time e) = true
 isTime bad = false
 
--- passages of time: those that are not refused for the length of the answer memory
+-- whether a call is a passage of time, which is not refused for the length of the answer memory
 unfoldable pub passes : Sort → Bool
 passes made = false
 passes (event n frame) = eqb n answerRoom && isTime (asked (rules.event frame))
@@ -57,12 +57,12 @@ passes (look g p n) = false
 passes (save g n) = false
 passes (load g text) = false
 
--- of a run, the calls naming f and the passages of time, in order
+-- the calls of a run that name f and the passages of time, in order
 unfoldable pub ours : ℕ → List HostCall → List Sort
 ours f [] = []
 ours f (x ∷ xs) = elim (namesFile f (sortOf x) || passes (sortOf x)) [ true ↦ sortOf x ∷ ours f xs | false ↦ ours f xs ]
 
--- neither is made fresh again on the way
+-- whether no call makes the desk fresh again
 unfoldable pub unmade : List HostCall → Bool
 unmade [] = true
 unmade (x ∷ xs) = elim (meant x) [ anew ↦ false | unfit ↦ unmade xs | asks c ↦ unmade xs ]
@@ -76,13 +76,13 @@ pub record Found : Type 0 where
 unfoldable pub found : Given → Found
 found g = record { status = givenStatus g; size = givenSize g; bytes = take (givenSize g) (givenMemory g) }
 
--- all answers to calls naming our file
+-- the answers to all calls that name file f
 unfoldable pub finds : ℕ → List HostCall → List Given → List Found
 finds f [] gs = []
 finds f (x ∷ xs) [] = []
 finds f (x ∷ xs) (g ∷ gs) = elim (namesFile f (sortOf x)) [ true ↦ found g ∷ finds f xs gs | false ↦ finds f xs gs ]
 
--- behind an answer every memory stays as it was lent
+-- the memory that a call lends for its answer; `Stay`: its bytes after the answer stay as they were lent
 unfoldable pub lentBy : HostCall → List ℕ
 lentBy host.fresh = []
 lentBy (host.event memory frame) = memory
@@ -95,7 +95,7 @@ Stay [] gs = Unit {0}
 Stay (x ∷ xs) [] = ⊥
 Stay (x ∷ xs) (g ∷ gs) = (drop (givenSize g) (givenMemory g) ≡ drop (givenSize g) (lentBy x)) × Stay xs gs
 
--- two runs behind fresh calls: what they were given, and the memories that they left
+-- condition 3 of two runs after fresh calls: what they were given, and the memories that they left
 pub record Condition3 (f : ℕ) (xs ys : List HostCall) (gs hs : List Given) (m n : Memories) : Type 0 where
   pub answers : finds f (host.fresh ∷ xs) gs ≡ finds f (host.fresh ∷ ys) hs
   pub stay : Stay (host.fresh ∷ xs) gs × Stay (host.fresh ∷ ys) hs

@@ -7,21 +7,22 @@ use lib.Dec.{ltb, eqb}
 use lib.ListN.{getD}
 use Rattle.rules.specs.Limits.{places, entries}
 use Rattle.rules.specs.Allocation.{placeOf, upFrom}
+use Rattle.rules.specs.Memories.{shareAt}
 use Rattle.segment.specs.Layout.{readQueue, writeQueue, replyPort, timerList, linkAt, fileWidth, placeWidth, fileRowAt, placeRowAt}
 use Rattle.segment.specs.Table.{nth, row, dataOf}
 use Rattle.memory.specs.Memories.{Memories}
-use Rattle.memory.specs.Stands.{shareAt, buffersAt}
+use Rattle.memory.specs.Stands.{buffersAt}
 
--- the nine words of each entry of a list, from its head on: place, unit, limit, keep, status, log, size, seconds, and one to spare
+-- the nine words of each entry of a list, starting at its head: place, unit, limit, keep, status, log, size, seconds, and one spare word
 unfoldable pub walk : ℕ → List ℕ → ℕ → List (List ℕ)
 walk zero s slot = []
 walk (suc n) s slot = elim (ltb (nth s slot) entries) [ true ↦ dataOf s (nth s slot) ∷ walk n s (linkAt (nth s slot)) | false ↦ [] ]
 
--- no list is longer than there are entries
+-- what list l holds; no list is longer than the number of entries
 unfoldable pub listed : List ℕ → ℕ → List (List ℕ)
 listed s l = walk entries s l
 
--- of the desk's timers those of file f, by their places
+-- the timers of file f among the desk's, by their places
 unfoldable pub timersOn : ℕ → List (List ℕ) → List (List ℕ)
 timersOn f [] = []
 timersOn f (t ∷ ts) = cond (eqb (getD t 0 0 / places) f) (t ∷ timersOn f ts) (timersOn f ts)

@@ -1,4 +1,4 @@
--- 29, and the calls that get it in a run.
+-- Refusal 29, and the calls that get it in a run.
 use mathlib.Core.Bool.{Bool, false, not}
 use lib.Dec.{eqb}
 use lib.ListN.{length}
@@ -11,7 +11,7 @@ is29 (status st) = eqb st 29
 is29 (answer n memory) = eqb n 0
 is29 (written st n memory) = eqb st 29
 
--- a wrong length of answer or record memory
+-- whether the answer or record memory has a wrong length
 unfoldable pub wrongLength : HostCall → Bool
 wrongLength fresh = false
 wrongLength (event memory frame) = not (eqb (length memory) answerRoom)

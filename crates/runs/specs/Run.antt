@@ -27,7 +27,7 @@ pub data Meant : Type 0 where
   unfit : Meant
   asks : Call → Meant
 
--- the memory that is lent for so many bytes has so many
+-- what a call means that is lent memory for n bytes: it asks c if that memory has n bytes, else it is unfit
 unfoldable pub lending : ℕ → List ℕ → Call → Meant
 lending n memory c = elim (eqb (length memory) n) [ true ↦ asks c | false ↦ unfit ]
 
@@ -46,7 +46,7 @@ gives (look f p memory) r = shown memory r
 gives (save f output) r = shown output r
 gives (load f text) r = said r
 
--- The memories are those of a desk and an allocation, to the last byte: bytes of files that are not built are zero. Two memories that are so are equal
+-- The memories are those of a desk and an allocation, to the last byte: bytes of files that are not built are zero. Two such memories are equal
 -- (proofs/Holds.antt).
 pub record Holds (m : Memories) (d : Desk) (s : Alloc) : Type 0 where
   pub stands : StandsFor m d s

@@ -1,1 +1,1 @@
-// No code: what the five calls come to over whole runs.
+// No code: what the five calls do over whole runs. specs/ states it, proofs/ proves it.

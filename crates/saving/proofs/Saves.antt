@@ -1,4 +1,4 @@
--- What save comes to, by the way out.
+-- What save gives, on each way out.
 use Prim.Native.Nat.{ℕ, _≤_, _<_}
 use mathlib.Core.Path.{_≡_, refl, sym, ap, _∙_}
 use mathlib.Core.List.{List, []}
@@ -18,10 +18,10 @@ use Rattle.rules.specs.Calls as calls
 use Rattle.rules.specs.Desk.{Desk, fileOf, replyBytes, asked, answered, respond}
 use Rattle.rules.specs.Desk as rules
 use Rattle.rules.specs.Allocation.{Alloc}
+use Rattle.rules.specs.Memories.{shareAt}
 use Rattle.shares.proofs.Back.{back}
 use Rattle.laws.proofs.Room.{good-sized}
 use Rattle.segment.specs.Fields.{fileAt}
-use Rattle.blocks.specs.Memory.{shareAt}
 use Rattle.memory.specs.Memories.{Memories, memories}
 use Rattle.memory.specs.Fine.{StandsFor}
 use Rattle.midst.specs.declared.File as hand

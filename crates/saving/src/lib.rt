@@ -1,4 +1,4 @@
-// "Save also gives the length, 0 if refused; output behind it stays."
+// Save writes a file's sheet into the output. "Save also gives the length, 0 if refused; output behind it stays."
 mod writing;
 
 use accessors::words_of;
@@ -7,23 +7,18 @@ use kinds::refusals;
 use writing::sheet_length;
 use writing::write_sheet;
 ghost use mathlib.Core.Path.{_≡_};
-ghost use mathlib.Core.List.{List};
-ghost use Prim.Native.Nat.{ℕ, _≤_};
+ghost use Prim.Native.Nat.{_≤_};
 ghost use lib.ListN.{length};
-ghost use Rattle.rules.specs.State.{Built, built};
-ghost use Rattle.rules.specs.Sheet as sheets;
-ghost use Rattle.rules.specs.Desk.{Desk, fileOf};
-ghost use Rattle.rules.specs.Allocation.{Alloc};
-ghost use Rattle.memory.specs.Memories.{memories};
-ghost use Rattle.memory.specs.Fine.{StandsFor};
+ghost use Rattle.memory.specs.Memories.{was};
 ghost use Rattle.midst.specs.FileStands.{FileStands};
-ghost use Rattle.promises.specs.Promise.{written, shown, Promise};
+ghost use Rattle.saving.specs.Sheets.{SavesFile};
+ghost use Rattle.promises.specs.Promise.{written, Promise};
 ghost use Rattle.promises.specs.Promise as host;
 
-// Output that is long enough for every sheet: two digits for each byte of the share.
+// Output length that is enough for every sheet: two digits for each byte of the share.
 pub const SHEET_ROOM: usize = 2 * SHARE_BYTES;
 
-// The status, and the length of the sheet.
+// The status of a save, and the length of the sheet.
 pub struct Saved {
     pub status: u8,
     pub length: usize,
@@ -35,10 +30,10 @@ fn refused(status: u8) -> Saved
     Saved { status, length: 0 }
 }
 
-// A file that is built, into the output if that is long enough.
+// Saves a file that is built, if the output is long enough.
 fn save_file(segment: &[u8], blocks: &[u8], file: usize, output: &mut [u8]) -> Saved
     requires { ⌜ FileStands (now segment) (now blocks) file ⌝ }
-    ensures saved { λ r. ⌜ ((buffers : List ℕ) (d : Desk) (s : Alloc) (b : Built) → StandsFor (memories (now (segment .entry)) (now (blocks .entry)) buffers) d s → fileOf d file ≡ built b → written (r .status) (r .length) (now (output .exit)) ≡ shown (now (output .entry)) (sheets.save (length (now (output .entry))) b .reply)) ⌝ }
+    ensures saved { λ r. ⌜ SavesFile (now (segment .entry)) (now (blocks .entry)) file (now (output .entry)) (written (r .status) (r .length) (now (output .exit))) ⌝ }
     ensures fits { λ r. ⌜ r .length ≤ length (now (output .entry)) ⌝ }
 {
     let taken = midst::take_file(segment, file);
@@ -54,10 +49,10 @@ fn save_file(segment: &[u8], blocks: &[u8], file: usize, output: &mut [u8]) -> S
     }
 }
 
-// A file's sheet, from the first byte of the output on. 29: a memory of the wrong length, or unsound; 31: file above 7 or not built; 44: output too
-// short, with nothing written.
+// Writes a file's sheet, starting at the first byte of the output. Status 29: a memory has the wrong length or is unsound; 31: file above 7 or not built;
+// 44: output too short. Then nothing is written.
 pub fn save(segment: &[u8], blocks: &[u8], buffers: &[u8], file: usize, output: &mut [u8]) -> Saved
-    ensures saved { λ r. ⌜ Promise (memories (now (segment .entry)) (now (blocks .entry)) (now (buffers .entry))) (host.save file (now (output .entry))) (written (r .status) (r .length) (now (output .exit))) (memories (now (segment .entry)) (now (blocks .entry)) (now (buffers .entry))) ⌝ }
+    ensures saved { λ r. ⌜ Promise (was segment blocks buffers) (host.save file (now (output .entry))) (written (r .status) (r .length) (now (output .exit))) (was segment blocks buffers) ⌝ }
     ensures fits { λ r. ⌜ r .length ≤ length (now (output .entry)) ⌝ }
 {
     if !sound::sound(segment, blocks, buffers) {

@@ -1,4 +1,4 @@
-// A file's sheet: how long it is, and its lines written into the output.
+// A file's sheet: gives its length, and writes its lines into the output.
 use reader::HEAD;
 use reader::HEAD_BLOCKS;
 use reader::HEAD_BYTES;
@@ -16,7 +16,7 @@ ghost use Rattle.ring.specs.Held.{Held};
 ghost use Rattle.records.specs.Cursor.{heldRecs};
 ghost use Rattle.saving.specs.Sheets.{sheetOf};
 
-// The first line: the bytes of its frame, two digits each, and LF.
+// The length of the first line: two digits for each byte of its frame, and LF.
 const HEAD_LINE: usize = 2 * HEAD_BYTES + 1;
 
 // The length of the sheet.
@@ -46,7 +46,7 @@ fn head_frame(ring: Ring, words: u16) -> [u8; HEAD_BYTES]
     frame
 }
 
-// "Then one frame a record, oldest first", from a place of the output on.
+// Writes the records' lines, starting at `from` in the output: "Then one frame a record, oldest first".
 fn write_records(share: &[u8], ring: Ring, words: u16, output: &mut [u8], from: usize)
     requires { ⌜ Held words ring (now share) ⌝ }
     requires { ⌜ from + length (recLines (heldRecs words ring (now share))) ≤ length (now output) ⌝ }
@@ -61,7 +61,7 @@ fn write_records(share: &[u8], ring: Ring, words: u16, output: &mut [u8], from: 
     }
 }
 
-// The sheet stands from the first byte of the output on.
+// Writes the sheet, starting at the first byte of the output.
 pub fn write_sheet(share: &[u8], ring: Ring, words: u16, output: &mut [u8])
     requires { ⌜ Held words ring (now share) ⌝ }
     requires { ⌜ length (sheetOf words ring (now share)) ≤ length (now output) ⌝ }

@@ -1,5 +1,5 @@
 -- Where each word of the segment lies, counted in words and computed from the counts and the widths of its parts: list heads, entries, a row for
--- each file and for each accessor place. The limits of document 01 come from the rules; the widths stand here, and src/layout.rt has the same names.
+-- each file and for each accessor place. The limits of document 01 come from the rules; the widths are set here, and src/layout.rt has the same names.
 use Prim.Native.Nat.{ℕ, _+_, _-_, _*_}
 use mathlib.Core.Bool.{cond}
 use lib.Dec.{ltb}
@@ -36,11 +36,11 @@ writeQueue f = writeQueues + f
 abbrev pub replyPort : ℕ → ℕ
 replyPort i = replyPorts + i
 
--- a list ends at this word; whatever is not an entry's number ends a walk
+-- the word that ends a list; any word that is not an entry's number ends a walk
 abbrev pub nil : ℕ
 nil = 65535
 
--- "entries of ten 16-bit words": an entry's link, and its data behind it
+-- "entries of ten 16-bit words": an entry's link, and its data after it
 abbrev pub dataWords : ℕ
 dataWords = 9
 
@@ -60,7 +60,7 @@ fileWidth = 8
 abbrev pub placeFields : ℕ
 placeFields = 8
 
--- words behind a place's fields: zero, asked to be zero, and written by fresh alone
+-- the number of spare words after a place's fields: they must be zero, and only fresh writes them
 abbrev pub placeSpare : ℕ
 placeSpare = 0
 
@@ -85,7 +85,7 @@ fileRowAt f = fileRows + fileWidth * f
 abbrev pub placeRowAt : ℕ → ℕ
 placeRowAt i = placeRows + placeWidth * i
 
--- all rows by one number: where row i begins, and how wide it is
+-- all rows under one numbering: `rowAt` is where row i begins, `rowWidth` how wide it is
 abbrev pub rowCount : ℕ
 rowCount = files + deskPlaces
 

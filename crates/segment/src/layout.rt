@@ -1,9 +1,9 @@
-// Where each word of the segment lies, counted in words and computed from the counts and the widths of its parts; specs/Layout.antt has the same.
+// The position of each word of the segment, counted in words and computed from the counts and widths of its parts; specs/Layout.antt has the same.
 pub use kinds::limits::ENTRIES;
 use kinds::limits::FILES;
 use kinds::limits::PLACES;
 
-// The lists. A queue's or a port's number is the first one's and the file's or the place's.
+// The lists. A queue's number is that of the first queue plus the file's number; a port's number is that of the first port plus the place's.
 pub const DESK_PLACES: usize = FILES * PLACES;
 
 pub const FREE_LIST: usize = 0;
@@ -18,10 +18,10 @@ pub const TIMER_LIST: usize = REPLY_PORTS + DESK_PLACES;
 
 pub const LISTS: usize = TIMER_LIST + 1;
 
-// A word from ENTRIES on is no entry's number and ends a list; NIL is the one that is stored.
+// The word that is stored at the end of a list. Any word from ENTRIES upward is not an entry's number and ends a list.
 pub const NIL: u16 = 65535;
 
-// An entry: its link, and its data behind.
+// An entry: its link, then its data.
 pub const DATA_WORDS: usize = 9;
 
 pub const ENTRY_WORDS: usize = 1 + DATA_WORDS;
@@ -51,7 +51,7 @@ pub const FILE_ROW_WORDS: usize = 8;
 
 pub const PLACE_FIELDS: usize = 8;
 
-// Words behind a place's fields: zero, and asked to be zero.
+// The number of spare words after a place's fields; they must be zero.
 pub const PLACE_SPARE: usize = 0;
 
 pub const PLACE_ROW_WORDS: usize = PLACE_FIELDS + PLACE_SPARE;
@@ -88,7 +88,7 @@ pub const PLACE_KEEP: usize = 6;
 
 pub const PLACE_FIRST: usize = 7;
 
-// The whole.
+// The size of the whole segment.
 pub const SEGMENT_WORDS: usize = PLACE_ROWS + PLACE_ROW_WORDS * DESK_PLACES;
 
 pub const SEGMENT_BYTES: usize = 2 * SEGMENT_WORDS;

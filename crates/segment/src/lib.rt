@@ -1,5 +1,5 @@
 // The segment, word by word: heads and links, entries, the rows of files and of places. docs/SEGMENT.md has the picture.
-// Nothing is asked of what the words hold: a caller that was handed a bad segment reads numbers, and stays inside it.
+// The words may hold anything: a caller with a bad segment reads numbers and stays inside the segment.
 ghost use mathlib.Core.Path.{_≡_};
 ghost use Prim.Native.Nat.{_+_, _<_, _≤_};
 ghost use lib.ListN.{length};
@@ -8,13 +8,14 @@ ghost use Rattle.segment.specs.Layout.{deskPlaces, linkAt, dataAt, dataW
 ghost use Rattle.segment.specs.Table.{nth, putNth, row, fill, putData};
 ghost use Rattle.segment.specs.Fields.{entryWords, fileWords, placeWords, entryAt, fileAt, placeAt};
 
+pub mod forms;
 pub mod layout;
 
-// The data of an entry: of a waiting or completed request, or of a timer, which has a place and seconds alone.
+// The data of an entry: of a waiting or completed request, or of a timer, which has only a place and seconds.
 pub struct Entry {
     // 8 × file + accessor
     pub place: u16,
-    // 1 where the count asked was in words
+    // 1 if the count asked was in words
     pub unit: u16,
     pub limit: u16,
     pub keep: u16,
@@ -24,7 +25,7 @@ pub struct Entry {
     pub seconds: u16,
 }
 
-// R, B and D; the oldest block, the records spent in it, and the records held.
+// The row of a file: R, B and D; the oldest block, the records spent in it, and the records held.
 pub struct FileRow {
     pub words: u16,
     pub factor: u16,
@@ -34,7 +35,7 @@ pub struct FileRow {
     pub held: u16,
 }
 
-// An accessor place.
+// The row of an accessor place.
 pub struct PlaceRow {
     // 0 not open, 1 a reader, 2 a writer
     pub side: u16,
@@ -47,7 +48,7 @@ pub struct PlaceRow {
     pub first: u16,
 }
 
-// Word k.
+// Word k of the segment.
 pub fn get(s: &[u8], k: usize) -> u16
     requires { ⌜ length (now s) ≡ segmentBytes ⌝ }
     requires { ⌜ k < segmentWords ⌝ }
@@ -56,7 +57,7 @@ pub fn get(s: &[u8], k: usize) -> u16
     words::get(s, 2 * k)
 }
 
-// The word v is stored as word k.
+// Stores v as word k.
 pub fn put(s: &mut [u8], k: usize, v: u16)
     requires { ⌜ length (now s) ≡ segmentBytes ⌝ }
     requires { ⌜ k < segmentWords ⌝ }
@@ -65,7 +66,7 @@ pub fn put(s: &mut [u8], k: usize, v: u16)
     words::put(s, 2 * k, v);
 }
 
-// The words from word k on are copied, as many as there is room for.
+// Fills vs with the words of the segment, starting at word k.
 fn get_row(s: &[u8], k: usize, vs: &mut [u16])
     requires { ⌜ length (now s) ≡ segmentBytes ⌝ }
     requires { ⌜ k + length (now vs) ≤ segmentWords ⌝ }
@@ -78,7 +79,7 @@ fn get_row(s: &[u8], k: usize, vs: &mut [u16])
     }
 }
 
-// The words vs are stored from word k on.
+// Stores the words vs, starting at word k.
 fn put_row(s: &mut [u8], k: usize, vs: &[u16])
     requires { ⌜ length (now s) ≡ segmentBytes ⌝ }
     requires { ⌜ k + length (now vs) ≤ segmentWords ⌝ }
@@ -91,7 +92,7 @@ fn put_row(s: &mut [u8], k: usize, vs: &[u16])
     }
 }
 
-// The word that is entry e's link.
+// The number of the word that is entry e's link.
 pub fn link_at(e: u16) -> usize
     requires { ⌜ e < entries ⌝ }
     ensures { λ r. ⌜ (r ≡ linkAt e) × (r < fileRows) ⌝ }
@@ -99,7 +100,7 @@ pub fn link_at(e: u16) -> usize
     layout::LINKS + layout::ENTRY_WORDS * (e as usize)
 }
 
-// The first word of entry e's data, of file f's row, of place i's row.
+// The number of the first word of entry e's data.
 fn data_at(e: u16) -> usize
     requires { ⌜ e < entries ⌝ }
     ensures { λ r. ⌜ (r ≡ dataAt e) × (r + dataWords ≤ segmentWords) ⌝ }
@@ -107,6 +108,7 @@ fn data_at(e: u16) -> usize
     layout::DATA + layout::ENTRY_WORDS * (e as usize)
 }
 
+// The number of the first word of file f's row.
 fn file_at(f: usize) -> usize
     requires { ⌜ f < files ⌝ }
     ensures { λ r. ⌜ (r ≡ fileRowAt f) × (r + fileWidth ≤ segmentWords) ⌝ }
@@ -114,6 +116,7 @@ fn file_at(f: usize) -> usize
     layout::FILE_ROWS + layout::FILE_ROW_WORDS * f
 }
 
+// The number of the first word of place i's row.
 fn place_at(i: usize) -> usize
     requires { ⌜ i < deskPlaces ⌝ }
     ensures { λ r. ⌜ (r ≡ placeRowAt i) × (r + placeWidth ≤ segmentWords) ⌝ }
@@ -121,7 +124,7 @@ fn place_at(i: usize) -> usize
     layout::PLACE_ROWS + layout::PLACE_ROW_WORDS * i
 }
 
-// Entry e's data.
+// Reads entry e's data.
 pub fn read_entry(s: &[u8], e: u16) -> Entry
     requires { ⌜ length (now s) ≡ segmentBytes ⌝ }
     requires { ⌜ e < entries ⌝ }
@@ -141,7 +144,7 @@ pub fn read_entry(s: &[u8], e: u16) -> Entry
     }
 }
 
-// Entry e's data become m.
+// Makes m the data of entry e.
 pub fn write_entry(s: &mut [u8], e: u16, m: Entry)
     requires { ⌜ length (now s) ≡ segmentBytes ⌝ }
     requires { ⌜ e < entries ⌝ }
@@ -161,7 +164,7 @@ pub fn write_entry(s: &mut [u8], e: u16, m: Entry)
     put_row(s, data_at(e), &w);
 }
 
-// The place, and the seconds, of entry e alone.
+// The place of entry e, read alone.
 pub fn entry_place(s: &[u8], e: u16) -> u16
     requires { ⌜ length (now s) ≡ segmentBytes ⌝ }
     requires { ⌜ e < entries ⌝ }
@@ -170,6 +173,7 @@ pub fn entry_place(s: &[u8], e: u16) -> u16
     get(s, data_at(e) + layout::ENTRY_PLACE)
 }
 
+// The seconds of entry e, read alone.
 pub fn entry_seconds(s: &[u8], e: u16) -> u16
     requires { ⌜ length (now s) ≡ segmentBytes ⌝ }
     requires { ⌜ e < entries ⌝ }
@@ -178,7 +182,7 @@ pub fn entry_seconds(s: &[u8], e: u16) -> u16
     get(s, data_at(e) + layout::ENTRY_SECONDS)
 }
 
-// The row of file f.
+// Reads the row of file f.
 pub fn read_file(s: &[u8], f: usize) -> FileRow
     requires { ⌜ length (now s) ≡ segmentBytes ⌝ }
     requires { ⌜ f < files ⌝ }
@@ -196,7 +200,7 @@ pub fn read_file(s: &[u8], f: usize) -> FileRow
     }
 }
 
-// The row of file f becomes r.
+// Makes r the row of file f.
 pub fn write_file(s: &mut [u8], f: usize, r: FileRow)
     requires { ⌜ length (now s) ≡ segmentBytes ⌝ }
     requires { ⌜ f < files ⌝ }
@@ -206,7 +210,7 @@ pub fn write_file(s: &mut [u8], f: usize, r: FileRow)
     put_row(s, file_at(f), &w);
 }
 
-// The row of place i.
+// Reads the row of place i.
 pub fn read_place(s: &[u8], i: usize) -> PlaceRow
     requires { ⌜ length (now s) ≡ segmentBytes ⌝ }
     requires { ⌜ i < deskPlaces ⌝ }
@@ -226,7 +230,7 @@ pub fn read_place(s: &[u8], i: usize) -> PlaceRow
     }
 }
 
-// The side of place i alone.
+// The side of place i, read alone.
 pub fn place_side(s: &[u8], i: usize) -> u16
     requires { ⌜ length (now s) ≡ segmentBytes ⌝ }
     requires { ⌜ i < deskPlaces ⌝ }
@@ -235,7 +239,7 @@ pub fn place_side(s: &[u8], i: usize) -> u16
     get(s, place_at(i) + layout::PLACE_SIDE)
 }
 
-// The ID of place i, and its controls 46 and 47, each alone.
+// The ID of place i, read alone.
 pub fn place_id(s: &[u8], i: usize) -> u16
     requires { ⌜ length (now s) ≡ segmentBytes ⌝ }
     requires { ⌜ i < deskPlaces ⌝ }
@@ -244,6 +248,7 @@ pub fn place_id(s: &[u8], i: usize) -> u16
     get(s, place_at(i) + layout::PLACE_ID)
 }
 
+// Control 46 of place i, read alone.
 pub fn place_typed(s: &[u8], i: usize) -> u16
     requires { ⌜ length (now s) ≡ segmentBytes ⌝ }
     requires { ⌜ i < deskPlaces ⌝ }
@@ -252,6 +257,7 @@ pub fn place_typed(s: &[u8], i: usize) -> u16
     get(s, place_at(i) + layout::PLACE_TYPED)
 }
 
+// Control 47 of place i, read alone.
 pub fn place_keep(s: &[u8], i: usize) -> u16
     requires { ⌜ length (now s) ≡ segmentBytes ⌝ }
     requires { ⌜ i < deskPlaces ⌝ }
@@ -260,7 +266,7 @@ pub fn place_keep(s: &[u8], i: usize) -> u16
     get(s, place_at(i) + layout::PLACE_KEEP)
 }
 
-// The row of place i becomes r.
+// Makes r the row of place i.
 pub fn write_place(s: &mut [u8], i: usize, r: PlaceRow)
     requires { ⌜ length (now s) ≡ segmentBytes ⌝ }
     requires { ⌜ i < deskPlaces ⌝ }

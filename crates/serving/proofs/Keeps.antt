@@ -15,6 +15,6 @@ use Rattle.memory.specs.Memories.{Memories}
 pub line-kept : (m : Memories) (line out : List ℕ) (m′ : Memories) (out′ : List ℕ) (used r : ℕ) → Asked m line out m′ out′ used r → Kept m m′
 line-kept m line out m′ out′ used r a h = event-keeps m (zeros answerRoom) (lineFrame line) (length-zeros answerRoom) m′ (a .answer) (a .size) (a .event) h
 
--- one change behind another
+-- one change after another
 pub kept-on : (m m′ m″ : Memories) → Kept m m′ → Kept m′ m″ → Kept m m″
 kept-on m m′ m″ k l h = let x = k h in l (ap soundly x ∙ h) ∙ x

@@ -13,14 +13,14 @@ use Rattle.rules.specs.Line.{isLine, lineFrame, frameIn}
 use Rattle.rules.proofs.Split.{by-cases}
 use Rattle.serving.specs.Going.{mostHeld}
 
--- output is filled from `used` on
+-- output is filled from `used` onward
 pub filled-more : (out vs : List ℕ) (used r : ℕ) → r ≡ used + length vs → used + length vs ≤ length out → take r (sets out used vs) ≡ take used out ++ vs
 filled-more out vs used r e h =
     let first = length-take-le used out (omega arith) in
     let whole : length (take used out ++ vs) ≡ r = omega (arith, e, first, length-append (take used out) vs) in
     ap (take r) (sets-eq vs out used h) ∙ take-at (take used out ++ vs) (drop (used + length vs) out) r whole
 
--- a byte is stored behind the n that are held
+-- a byte is stored after the n that are held
 pub held-more : (line : List ℕ) (n m b : ℕ) → length line ≡ m → n < m → take (n + 1) (set line n b) ≡ take m (take n line ++ (b ∷ []))
 held-more line n m b l h =
     let size : length (take n line ++ (b ∷ [])) ≡ n + 1 = omega (arith, length-append (take n line) (b ∷ []), length-take-le n line (omega arith)) in
@@ -41,7 +41,7 @@ kept-more p m b =
     let size = length-take-le m p (omega arith) in
     take-append-le m (take m p) (b ∷ []) (omega arith) ∙ take-take m m p (omega arith) ∙ sym (take-append-le m p (b ∷ []) (omega arith)))
 
--- a digit more than the longest line has shows that it is none
+-- a line one digit longer than the longest valid one is invalid, whatever follows
 pub frame-kept : (p : List ℕ) → lineFrame (take mostHeld p) ≡ lineFrame p
 unfolding frameIn isLine
 frame-kept p =

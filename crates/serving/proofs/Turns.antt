@@ -1,4 +1,4 @@
--- The desk behind what was read so far.
+-- The desk after what was read so far.
 use Prim.Native.Nat.{ℕ}
 use mathlib.Core.Path.{_≡_, refl, sym, _∙_, subst}
 use mathlib.Core.Bool.{Bool, true, false, true≢false}
@@ -47,7 +47,7 @@ unfolding written
 chunk-turned g l m line out n true h on = record { text = l; stands = on refl .printed .stands; on = on }
 chunk-turned g l m line out n false h on = turned-last g m line out n false refl h
 
--- one turn behind others
+-- one turn after others
 pub turned-on : (g : Going) (m : Memories) (line out : List ℕ) (m′ : Memories) (line′ out′ : List ℕ) (n n′ : ℕ) (more : Bool) (t : Turned g m line out n true)
     → Turned (goes g (t .text)) m′ line′ out′ n′ more → Turned g m′ line′ out′ n′ more
 turned-on g m line out m′ line′ out′ n n′ more t u =

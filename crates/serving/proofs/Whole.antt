@@ -33,7 +33,7 @@ unfolding calls
 calls-append [] b = refl
 calls-append (x ∷ a) b = ap (λ (l : List Call). event (lineFrame x) ∷ l) (calls-append a b)
 
--- behind a text: the desk behind its lines, what follows the last of them, and their answers
+-- the state after a text: the desk after its lines, what follows the last of them, and their answers
 pub record Behind (g : Going) (t : List ℕ) : Type 0 where
   pub desk : goes g t .desk ≡ after (g .desk) (calls (linesFrom (g .part) t .whole))
   pub part : goes g t .part ≡ linesFrom (g .part) t .rest
@@ -93,7 +93,7 @@ prints t =
     ∙ ap (λ (x : List Call). answerLines (replies freshDesk x)) (sym (calls-append (l .whole) (l .rest ∷ [])))
     ∙ ap (λ (x : List (List ℕ)). answerLines (replies freshDesk (calls x))) (sym (pick-false _ _ _ e)))
 
--- it begins with the memories of a fresh desk
+-- the program begins with the memories of a fresh desk
 pub begins-at : (line out : List ℕ) → At begins freshMemories line out 0 0
 unfolding begun begins after allocAfter
 begins-at line out = record { printed = record { stands = reached [] freshMemories fresh-stands; filled = refl }; held = refl }

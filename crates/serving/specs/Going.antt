@@ -12,29 +12,29 @@ use Rattle.rules.specs.Allocation.{Alloc, freshAlloc, allocAsked}
 use Rattle.memory.specs.Memories.{Memories}
 use Rattle.memory.specs.Fine.{StandsFor}
 
--- a digit more than the longest line has: so much of a line shows that it is none, whatever follows
+-- one digit more than the longest valid line has; a line of that length is invalid, whatever follows
 abbrev pub mostHeld : ℕ
 mostHeld = 2 * lineBytes + 1
 
--- the output that is written at once
+-- the number of bytes of the output memory, which is written at once
 abbrev pub outBytes : ℕ
 outBytes = 65536
 
--- the desk and its allocation, the bytes of a line that has not ended, and what was printed
+-- the state of the event program: the desk and its allocation, the bytes of a line that has not ended, and what was printed
 pub record Going : Type 0 where
   pub desk : Desk
   pub alloc : Alloc
   pub part : List ℕ
   pub printed : List ℕ
 
--- before any of the input
+-- the state before any of the input
 unfoldable pub begun : Desk → Alloc → Going
 begun d s = record { desk = d; alloc = s; part = []; printed = [] }
 
 unfoldable pub begins : Going
 begins = begun freshDesk freshAlloc
 
--- the line ends, and is answered by a line
+-- the state after the line ends, which is answered by a line
 unfoldable pub lineEnds : Going → Going
 lineEnds g =
     let c : Call = event (lineFrame (g .part)) in
@@ -52,7 +52,7 @@ unfoldable pub goes : Going → List ℕ → Going
 goes g [] = g
 goes g (b ∷ t) = goes (byte g b) t
 
--- what was printed is written, and no longer held
+-- the state after what was printed is written, and no longer held
 unfoldable pub written : Going → Going
 written g = record { desk = g .desk; alloc = g .alloc; part = g .part; printed = [] }
 
@@ -60,12 +60,12 @@ written g = record { desk = g .desk; alloc = g .alloc; part = g .part; printed =
 unfoldable pub ends : Going → Going
 ends g = elim (eqb (length (g .part)) 0) [ true ↦ g | false ↦ lineEnds g ]
 
--- the memories stand for its desk, and the first m bytes of `out` are what it printed
+-- the memories stand for the state's desk, and the first m bytes of `out` are what was printed
 pub record Printed (g : Going) (ms : Memories) (out : List ℕ) (m : ℕ) : Type 0 where
   pub stands : StandsFor ms (g .desk) (g .alloc)
   pub filled : take m out ≡ g .printed
 
--- and the first n bytes of `line` are those of its line, as far as they are kept
+-- memories and `out` are the state's, and the first n bytes of `line` are those of the state's line, as far as they are kept
 pub record At (g : Going) (ms : Memories) (line out : List ℕ) (n m : ℕ) : Type 0 where
   pub printed : Printed g ms out m
   pub held : take n line ≡ take mostHeld (g .part)

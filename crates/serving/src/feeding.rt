@@ -1,4 +1,4 @@
-// From bytes of input to bytes of output: each line that ends is answered by the desk.
+// Turns bytes of input into bytes of output: the desk answers each line that ends.
 use crate::held::keep;
 use hex::LF;
 use kinds::limits::ANSWER_ROOM;
@@ -9,12 +9,12 @@ ghost use lib.ListN.{length, take};
 ghost use Rattle.lines.specs.Asked.{answerLine};
 ghost use Rattle.serving.specs.Going.{mostHeld, outBytes, Going, byte, goes, ends, Printed, At};
 ghost use Rattle.serving.specs.Served.{Kept};
-ghost use Rattle.memory.specs.Memories.{memories};
+ghost use Rattle.memory.specs.Memories.{was, left};
 
-// The digits of the longest answer, and LF.
+// The longest line of output: the digits of the longest answer, and LF.
 const ANSWER_LINE: usize = 2 * ANSWER_ROOM + 1;
 
-// The output that is written at once.
+// The most bytes of output that are written at once.
 pub const OUT_BYTES: usize = 65536;
 
 // How many bytes of the line are held, and how many of the output are filled.
@@ -23,14 +23,14 @@ struct Filled {
     used: usize,
 }
 
-// How many bytes of the input were taken, and what is held and filled behind them.
+// How many bytes of the input were taken, and how much is held and filled after them.
 pub struct Fed {
     pub taken: usize,
     pub held: usize,
     pub used: usize,
 }
 
-// One byte of the input.
+// Takes one byte of the input: keeps it, or answers the line that it ends.
 fn feed_byte(
     segment: &mut [u8],
     blocks: &mut [u8],
@@ -42,8 +42,8 @@ fn feed_byte(
 ) -> Filled
     requires { ⌜ (length (now line) ≡ mostHeld) × (length (now out) ≡ outBytes) × (at .held ≤ mostHeld) × (at .used + answerLine ≤ outBytes) ⌝ }
     ensures bound { λ r. ⌜ (r .held ≤ mostHeld) × (r .used ≤ outBytes) ⌝ }
-    ensures at { λ r. ⌜ ((g : Going) → At g (memories (now (segment .entry)) (now (blocks .entry)) (now (buffers .entry))) (now (line .entry)) (now (out .entry)) (at .held) (at .used) → At (byte g b) (memories (now (segment .exit)) (now (blocks .exit)) (now (buffers .exit))) (now (line .exit)) (now (out .exit)) (r .held) (r .used)) ⌝ }
-    ensures kept { λ _. ⌜ Kept (memories (now (segment .entry)) (now (blocks .entry)) (now (buffers .entry))) (memories (now (segment .exit)) (now (blocks .exit)) (now (buffers .exit))) ⌝ }
+    ensures at { λ r. ⌜ ((g : Going) → At g (was segment blocks buffers) (now (line .entry)) (now (out .entry)) (at .held) (at .used) → At (byte g b) (left segment blocks buffers) (now (line .exit)) (now (out .exit)) (r .held) (r .used)) ⌝ }
+    ensures kept { λ _. ⌜ Kept (was segment blocks buffers) (left segment blocks buffers) ⌝ }
 {
     let held = at.held;
     let used = at.used;
@@ -58,7 +58,7 @@ fn feed_byte(
     }
 }
 
-// The bytes of a chunk, as many as the output has room for: one at least.
+// Takes the bytes of a chunk, as many as the output has room for, but at least one.
 pub fn feed(
     segment: &mut [u8],
     blocks: &mut [u8],
@@ -71,8 +71,8 @@ pub fn feed(
     requires { ⌜ (length (now line) ≡ mostHeld) × (length (now out) ≡ outBytes) × (held ≤ mostHeld) ⌝ }
     ensures bound { λ r. ⌜ (r .taken ≤ length (now (chunk .entry))) × (r .held ≤ mostHeld) × (r .used ≤ outBytes) ⌝ }
     ensures some { λ r. ⌜ (0 < length (now (chunk .entry)) → 0 < r .taken) ⌝ }
-    ensures at { λ r. ⌜ ((g : Going) → At g (memories (now (segment .entry)) (now (blocks .entry)) (now (buffers .entry))) (now (line .entry)) (now (out .entry)) held 0 → At (goes g (take (r .taken) (now (chunk .entry)))) (memories (now (segment .exit)) (now (blocks .exit)) (now (buffers .exit))) (now (line .exit)) (now (out .exit)) (r .held) (r .used)) ⌝ }
-    ensures kept { λ _. ⌜ Kept (memories (now (segment .entry)) (now (blocks .entry)) (now (buffers .entry))) (memories (now (segment .exit)) (now (blocks .exit)) (now (buffers .exit))) ⌝ }
+    ensures at { λ r. ⌜ ((g : Going) → At g (was segment blocks buffers) (now (line .entry)) (now (out .entry)) held 0 → At (goes g (take (r .taken) (now (chunk .entry)))) (left segment blocks buffers) (now (line .exit)) (now (out .exit)) (r .held) (r .used)) ⌝ }
+    ensures kept { λ _. ⌜ Kept (was segment blocks buffers) (left segment blocks buffers) ⌝ }
 {
     let mut at = Filled {
         held: held,
@@ -97,7 +97,7 @@ pub fn feed(
     }
 }
 
-// The end of the input: the last line may lack its LF. How much of the output is filled.
+// Answers a last line that lacks its LF, and gives how much of the output is filled.
 pub fn finish(
     segment: &mut [u8],
     blocks: &mut [u8],
@@ -108,8 +108,8 @@ pub fn finish(
 ) -> usize
     requires { ⌜ (length (now line) ≡ mostHeld) × (length (now out) ≡ outBytes) × (held ≤ mostHeld) ⌝ }
     ensures bound { λ r. ⌜ r ≤ outBytes ⌝ }
-    ensures printed { λ r. ⌜ ((g : Going) → At g (memories (now (segment .entry)) (now (blocks .entry)) (now (buffers .entry))) (now (line .entry)) (now (out .entry)) held 0 → Printed (ends g) (memories (now (segment .exit)) (now (blocks .exit)) (now (buffers .exit))) (now (out .exit)) r) ⌝ }
-    ensures kept { λ _. ⌜ Kept (memories (now (segment .entry)) (now (blocks .entry)) (now (buffers .entry))) (memories (now (segment .exit)) (now (blocks .exit)) (now (buffers .exit))) ⌝ }
+    ensures printed { λ r. ⌜ ((g : Going) → At g (was segment blocks buffers) (now (line .entry)) (now (out .entry)) held 0 → Printed (ends g) (left segment blocks buffers) (now (out .exit)) r) ⌝ }
+    ensures kept { λ _. ⌜ Kept (was segment blocks buffers) (left segment blocks buffers) ⌝ }
 {
     if held == 0 {
         return 0;

@@ -6,10 +6,10 @@ ghost use lib.ListN.{length, take};
 ghost use Rattle.serving.specs.Going.{mostHeld};
 use kinds::limits::LINE_BYTES;
 
-// A digit more than the longest line has: so much of a line shows that it is none, and no more of it is kept.
+// The most bytes of a line that are kept: one digit more than the longest valid line has. A line that fills it is invalid whatever follows.
 pub const MOST_HELD: usize = 2 * LINE_BYTES + 1;
 
-// One byte more of the line; how many are held then.
+// Keeps one more byte of the line, and gives how many are held then.
 pub fn keep(line: &mut [u8], held: usize, b: u8) -> usize
     requires { ⌜ (length (now line) ≡ mostHeld) × (held ≤ mostHeld) ⌝ }
     ensures bytes { λ r. ⌜ take r (now (line .exit)) ≡ take mostHeld (take held (now (line .entry)) ++ (b ∷ [])) ⌝ }

@@ -1,4 +1,4 @@
-// Frames on standard input, a hexadecimal line each, are asked of a desk; their answers go to standard output, a line each, as they come.
+// Sends the frames of standard input, one hexadecimal line each, to a desk; prints their answers, one line each, as they come.
 mod feeding;
 mod held;
 
@@ -11,12 +11,12 @@ ghost use Prim.Native.Nat.{_≤_};
 ghost use lib.ListN.{length};
 ghost use Rattle.serving.specs.Going.{mostHeld, outBytes, Going, goes, written, At};
 ghost use Rattle.serving.specs.Served.{Behind, Turned, Served, Kept};
-ghost use Rattle.memory.specs.Memories.{memories};
+ghost use Rattle.memory.specs.Memories.{was, left};
 
-// The input that is read at once.
+// The most bytes of input that are read at once.
 const IN_BYTES: usize = 65536;
 
-// Answers are printed where the desk is served aloud; whether that went well. Where it did not, that is told.
+// Prints answers if the desk is served aloud, and says whether that succeeded. Reports a failure on standard error.
 fn print(aloud: bool, answers: &[u8]) -> bool {
     if !aloud {
         return true;
@@ -31,7 +31,7 @@ fn print(aloud: bool, answers: &[u8]) -> bool {
     false
 }
 
-// What is held of a line behind a read, and whether to read on.
+// How much of a line is held after a read, and whether to read on.
 struct Turn {
     held: usize,
     more: bool,
@@ -47,7 +47,7 @@ fn last() -> Turn
     }
 }
 
-// A chunk of the input: its answers are written whenever the output is full, and at its end.
+// Answers a chunk of the input. Writes the answers whenever the output is full, and at the end of the chunk.
 fn answer_chunk(
     segment: &mut [u8],
     blocks: &mut [u8],
@@ -60,9 +60,9 @@ fn answer_chunk(
 ) -> Turn
     requires { ⌜ (length (now line) ≡ mostHeld) × (length (now out) ≡ outBytes) × (before ≤ mostHeld) ⌝ }
     ensures bound { λ r. ⌜ r .held ≤ mostHeld ⌝ }
-    ensures at { λ r. ⌜ ((g : Going) → At (written g) (memories (now (segment .entry)) (now (blocks .entry)) (now (buffers .entry))) (now (line .entry)) (now (out .entry)) before 0 → r .more ≡ true → At (written (goes g (now (chunk .entry)))) (memories (now (segment .exit)) (now (blocks .exit)) (now (buffers .exit))) (now (line .exit)) (now (out .exit)) (r .held) 0) ⌝ }
-    ensures stands { λ r. ⌜ ((g : Going) → At (written g) (memories (now (segment .entry)) (now (blocks .entry)) (now (buffers .entry))) (now (line .entry)) (now (out .entry)) before 0 → Behind g (memories (now (segment .exit)) (now (blocks .exit)) (now (buffers .exit)))) ⌝ }
-    ensures kept { λ _. ⌜ Kept (memories (now (segment .entry)) (now (blocks .entry)) (now (buffers .entry))) (memories (now (segment .exit)) (now (blocks .exit)) (now (buffers .exit))) ⌝ }
+    ensures at { λ r. ⌜ ((g : Going) → At (written g) (was segment blocks buffers) (now (line .entry)) (now (out .entry)) before 0 → r .more ≡ true → At (written (goes g (now (chunk .entry)))) (left segment blocks buffers) (now (line .exit)) (now (out .exit)) (r .held) 0) ⌝ }
+    ensures stands { λ r. ⌜ ((g : Going) → At (written g) (was segment blocks buffers) (now (line .entry)) (now (out .entry)) before 0 → Behind g (left segment blocks buffers)) ⌝ }
+    ensures kept { λ _. ⌜ Kept (was segment blocks buffers) (left segment blocks buffers) ⌝ }
 {
     let mut held = before;
     let mut at = 0;
@@ -81,7 +81,7 @@ fn answer_chunk(
     }
 }
 
-// One read, and the answers to it. A read or a write that fails is the last.
+// Reads once, and answers what was read. A read or a write that fails is the last.
 fn answer_read(
     segment: &mut [u8],
     blocks: &mut [u8],
@@ -94,8 +94,8 @@ fn answer_read(
 ) -> Turn
     requires { ⌜ (length (now line) ≡ mostHeld) × (length (now out) ≡ outBytes) × (held ≤ mostHeld) ⌝ }
     ensures bound { λ r. ⌜ r .held ≤ mostHeld ⌝ }
-    ensures turned { λ r. ⌜ ((g : Going) → At (written g) (memories (now (segment .entry)) (now (blocks .entry)) (now (buffers .entry))) (now (line .entry)) (now (out .entry)) held 0 → Turned g (memories (now (segment .exit)) (now (blocks .exit)) (now (buffers .exit))) (now (line .exit)) (now (out .exit)) (r .held) (r .more)) ⌝ }
-    ensures kept { λ _. ⌜ Kept (memories (now (segment .entry)) (now (blocks .entry)) (now (buffers .entry))) (memories (now (segment .exit)) (now (blocks .exit)) (now (buffers .exit))) ⌝ }
+    ensures turned { λ r. ⌜ ((g : Going) → At (written g) (was segment blocks buffers) (now (line .entry)) (now (out .entry)) held 0 → Turned g (left segment blocks buffers) (now (line .exit)) (now (out .exit)) (r .held) (r .more)) ⌝ }
+    ensures kept { λ _. ⌜ Kept (was segment blocks buffers) (left segment blocks buffers) ⌝ }
 {
     let got = libc::read(STDIN_FILENO, chunk);
     if got < 0 {
@@ -119,7 +119,7 @@ fn answer_read(
     )
 }
 
-// All of the input. A proved loop ends, so it counts its reads down from a number that no run uses up.
+// Answers all of the input. A proved loop ends, so it counts its reads down from a number that no run uses up.
 fn answer_all(
     segment: &mut [u8],
     blocks: &mut [u8],
@@ -130,8 +130,8 @@ fn answer_all(
     aloud: bool,
 )
     requires { ⌜ (length (now line) ≡ mostHeld) × (length (now out) ≡ outBytes) ⌝ }
-    ensures served { λ _. ⌜ Served (memories (now (segment .entry)) (now (blocks .entry)) (now (buffers .entry))) (memories (now (segment .exit)) (now (blocks .exit)) (now (buffers .exit))) ⌝ }
-    ensures kept { λ _. ⌜ Kept (memories (now (segment .entry)) (now (blocks .entry)) (now (buffers .entry))) (memories (now (segment .exit)) (now (blocks .exit)) (now (buffers .exit))) ⌝ }
+    ensures served { λ _. ⌜ Served (was segment blocks buffers) (left segment blocks buffers) ⌝ }
+    ensures kept { λ _. ⌜ Kept (was segment blocks buffers) (left segment blocks buffers) ⌝ }
 {
     let mut held = 0;
     let mut reads = u64::MAX;
@@ -145,10 +145,10 @@ fn answer_all(
     }
 }
 
-// All frames of standard input. Served aloud, their answers are printed.
+// Sends all frames of standard input to the desk, and prints their answers if it is served aloud.
 pub fn serve(segment: &mut [u8], blocks: &mut [u8], buffers: &mut [u8], aloud: bool)
-    ensures served { λ _. ⌜ Served (memories (now (segment .entry)) (now (blocks .entry)) (now (buffers .entry))) (memories (now (segment .exit)) (now (blocks .exit)) (now (buffers .exit))) ⌝ }
-    ensures kept { λ _. ⌜ Kept (memories (now (segment .entry)) (now (blocks .entry)) (now (buffers .entry))) (memories (now (segment .exit)) (now (blocks .exit)) (now (buffers .exit))) ⌝ }
+    ensures served { λ _. ⌜ Served (was segment blocks buffers) (left segment blocks buffers) ⌝ }
+    ensures kept { λ _. ⌜ Kept (was segment blocks buffers) (left segment blocks buffers) ⌝ }
 {
     let mut line = [0u8; held::MOST_HELD];
     let mut out = [0u8; feeding::OUT_BYTES];

@@ -1,140 +1,141 @@
-// The calls that have no frame. What each is answered, as a line of a table has it: the status, and what is given, behind spaces.
+// The calls that a line in digits makes on the desk.
+use crate::judging::Played;
+use crate::judging::asked_end;
+use crate::judging::begin;
+use crate::judging::end;
+use crate::judging::judge;
+use crate::judging::judge_status;
+use crate::text::first;
+use crate::text::number;
+use crate::text::put;
+use crate::text::put_replaced;
+use crate::text::within;
 use hex::LF;
+use kinds::limits::ANSWER_ROOM;
+use kinds::limits::BLOCKS_BYTES;
+use kinds::limits::BUFFERS_BYTES;
+use kinds::limits::RECORD_ROOM;
+use lines::answer_line;
 use loading::load;
 use looking::look;
 use looking::look_status;
 use saving::SHEET_ROOM;
 use saving::save;
-ghost use Prim.Native.Nat.{_+_, _≤_};
+use segment::layout::SEGMENT_BYTES;
+ghost use Prim.Native.Nat.{_≤_};
 ghost use lib.ListN.{length};
 
-// The status stands in two digits, and behind a space what is given.
-const STATUS: usize = 2;
+// Where the number of a file stands in a line, and after it that of a reader, or a sheet.
+const FILE: usize = 2;
 
-const GIVEN: usize = 3;
+const READER: usize = 4;
 
-// Room for what every call is answered: save tells a sheet.
-pub const TOLD: usize = GIVEN + SHEET_ROOM;
+const SHEET: usize = 4;
 
-// The number that the digit at a place of a line says; where there is none, one that no file and no place has.
-fn number_at(line: &[u8], i: usize) -> usize {
-    if i >= line.len() {
-        return 255;
+// The digits of the bytes that look shows.
+const SHOWN: usize = 2 * RECORD_ROOM;
+
+// The digits of the longest answer, and LF.
+const ANSWER_LINE: usize = 2 * ANSWER_ROOM + 1;
+
+// Returns the length of a text without its last LF.
+fn without_last(n: usize) -> usize {
+    if n == 0 {
+        return 0;
     }
-    let digit = line[i];
-    if digit < b'0' {
-        return 255;
-    }
-    if digit > b'9' {
-        return 255;
-    }
-    (digit - b'0') as usize
+    n - 1
 }
 
-// What stands in a line from a place on.
-fn behind<'a>(line: &'a [u8], from: usize) -> &'a [u8]
-    ensures { λ r. ⌜ length (now r) ≤ length (now (line .entry)) ⌝ }
-{
-    if from > line.len() {
-        return &line[0..0];
-    }
-    &line[from..]
+// Saves, `? FILE`: the frames of the sheet are given.
+fn call_save(segment: &[u8], blocks: &[u8], buffers: &[u8], line: &[u8], at: Played) -> Played {
+    let mut sheet = [0u8; SHEET_ROOM];
+    let saved = save(segment, blocks, buffers, number(line, FILE), &mut sheet);
+    judge_status(line, saved.status, &sheet, without_last(saved.length), at)
 }
 
-// Lines become words of one line.
-fn join_lines(text: &mut [u8]) {
-    let mut i = 0;
-    while i < text.len() {
-        let b = text[i];
-        text[i] = if b == LF { b' ' } else { b };
-        i += 1;
-    }
-}
-
-// Words of one line become lines, each ended by LF; how long they are.
-fn split_words(words: &[u8], text: &mut [u8]) -> usize
-    requires { ⌜ length (now words) + 1 ≤ length (now text) ⌝ }
-    ensures { λ r. ⌜ r ≤ length (now (text .entry)) ⌝ }
-{
-    let mut i = 0;
-    while i < words.len() {
-        let b = words[i];
-        text[i] = if b == b' ' { LF } else { b };
-        i += 1;
-    }
-    text[i] = LF;
-    i + 1
-}
-
-// The status, and so many bytes behind it; where that ends.
-fn tell_status(status: u8, given: usize, told: &mut [u8]) -> usize
-    requires { ⌜ 3 + given ≤ length (now told) ⌝ }
-    ensures { λ r. ⌜ r ≤ 3 + given ⌝ }
-{
-    let one = [status; 1];
-    hex::encode(&one, told);
-    told[STATUS] = b' ';
-    if given == 0 {
-        return STATUS;
-    }
-    GIVEN + given
-}
-
-// Save, `? FILE`: the sheet's frames.
-pub fn tell_save(
-    segment: &[u8],
-    blocks: &[u8],
-    buffers: &[u8],
-    line: &[u8],
-    told: &mut [u8],
-) -> usize
-    requires { ⌜ 3 ≤ length (now told) ⌝ }
-    ensures { λ r. ⌜ r ≤ length (now (told .entry)) ⌝ }
-{
-    let saved = save(
-        segment,
-        blocks,
-        buffers,
-        number_at(line, 2),
-        &mut told[GIVEN..],
-    );
-    join_lines(told);
-    if saved.length == 0 {
-        return tell_status(saved.status, 0, told);
-    }
-    tell_status(saved.status, saved.length - 1, told)
-}
-
-// Load, `+ FILE FRAME ..`: nothing is given.
-pub fn tell_load(
-    segment: &mut [u8],
-    blocks: &mut [u8],
-    buffers: &mut [u8],
-    line: &[u8],
-    told: &mut [u8],
-) -> usize
-    requires { ⌜ (3 ≤ length (now told)) × (length (now line) + 1 ≤ length (now told)) ⌝ }
-    ensures { λ r. ⌜ r ≤ length (now (told .entry)) ⌝ }
-{
-    let n = split_words(behind(line, 4), told);
-    let status = load(segment, blocks, buffers, number_at(line, 2), &told[0..n]);
-    tell_status(status, 0, told)
-}
-
-// Look, `@ FILE READER`: the bytes shown.
-pub fn tell_look<'a>(
+// Looks, `@ FILE READER`: the bytes shown are given.
+fn call_look<'a>(
     segment: &[u8],
     blocks: &'a [u8],
     buffers: &'a [u8],
     line: &[u8],
-    told: &mut [u8],
-) -> usize
-    requires { ⌜ 1000 ≤ length (now told) ⌝ }
-    ensures { λ r. ⌜ r ≤ length (now (told .entry)) ⌝ }
-{
-    let file = number_at(line, 2);
-    let reader = number_at(line, 4);
+    at: Played,
+) -> Played {
+    let mut shown = [0u8; SHOWN];
+    let file = number(line, FILE);
+    let reader = number(line, READER);
     let part = look(segment, blocks, buffers, file, reader);
-    let n = hex::encode(part, &mut told[GIVEN..]);
-    tell_status(look_status(segment, blocks, buffers, file, reader), n, told)
+    let n = hex::encode(part, &mut shown);
+    let status = look_status(segment, blocks, buffers, file, reader);
+    judge_status(line, status, &shown, n, at)
+}
+
+// Writes the sheet whose frames stand in what is asked; returns where it ends.
+fn put_sheet(asked: &[u8], out: &mut [u8]) -> usize
+    ensures { λ r. ⌜ r ≤ length (now (out .entry)) ⌝ }
+{
+    let from = within(asked, SHEET);
+    let last = put_replaced(out, 0, &asked[from..], b' ', LF);
+    let end = put(out, last, LF);
+    within(out, end)
+}
+
+// Loads, `+ FILE FRAME ..`: nothing is given.
+fn call_load(
+    segment: &mut [u8; SEGMENT_BYTES],
+    blocks: &mut [u8; BLOCKS_BYTES],
+    buffers: &mut [u8; BUFFERS_BYTES],
+    line: &[u8],
+    at: Played,
+) -> Played {
+    let mut sheet = [0u8; SHEET_ROOM];
+    let asked = asked_end(line);
+    let n = put_sheet(&line[0..asked], &mut sheet);
+    let status = load(segment, blocks, buffers, number(line, FILE), &sheet[0..n]);
+    judge_status(line, status, &sheet, 0, at)
+}
+
+// Asks an event.
+fn call_event(
+    segment: &mut [u8; SEGMENT_BYTES],
+    blocks: &mut [u8; BLOCKS_BYTES],
+    buffers: &mut [u8; BUFFERS_BYTES],
+    line: &[u8],
+    at: Played,
+) -> Played {
+    let mut told = [0u8; ANSWER_LINE];
+    let asked = asked_end(line);
+    let end = answer_line(segment, blocks, buffers, &line[0..asked], &mut told, 0);
+    judge(line, &told, end - 1, at)
+}
+
+// Begins a session on a fresh desk, `= NAME`.
+fn call_fresh(
+    segment: &mut [u8; SEGMENT_BYTES],
+    blocks: &mut [u8; BLOCKS_BYTES],
+    buffers: &mut [u8; BUFFERS_BYTES],
+    line: &[u8],
+    at: Played,
+) -> Played {
+    fresh::fresh(segment, blocks, buffers);
+    begin(line, at)
+}
+
+// Asks what a line in digits asks, by its first byte.
+pub fn call(
+    segment: &mut [u8; SEGMENT_BYTES],
+    blocks: &mut [u8; BLOCKS_BYTES],
+    buffers: &mut [u8; BUFFERS_BYTES],
+    line: &[u8],
+    at: Played,
+) -> Played {
+    match first(line) {
+        0 => end(at),
+        b'-' => at,
+        b'=' => call_fresh(segment, blocks, buffers, line, at),
+        b'?' => call_save(segment, blocks, buffers, line, at),
+        b'+' => call_load(segment, blocks, buffers, line, at),
+        b'@' => call_look(segment, blocks, buffers, line, at),
+        _ => call_event(segment, blocks, buffers, line, at),
+    }
 }

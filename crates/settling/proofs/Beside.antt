@@ -25,7 +25,7 @@ use Rattle.midst.proofs.Begins.{mid-row}
 use Rattle.midst.proofs.Heads.{writes-at, head-none, head-some}
 use Rattle.settling.specs.Turns.{Beside, Counts}
 
--- as many as there are places
+-- at most n of n places have the given side
 sides-most : (xs : List ℕ) (side i n : ℕ) → sidesFrom xs side i n ≤ n
 unfolding sidesFrom
 sides-most xs side i zero = omega arith

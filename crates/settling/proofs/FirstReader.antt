@@ -1,4 +1,4 @@
--- The first waiting reader: what the segment says of it, what it finds, and what serving it comes to.
+-- The first waiting reader: what the segment says of it, what it finds, and what serving it gives.
 use Prim.Native.Nat.{ℕ, _≤_, _<_}
 use mathlib.Core.Path.{_≡_, refl, sym, ap, _∙_, subst}
 use mathlib.Core.Bool.{Bool, true, false}
@@ -14,11 +14,12 @@ use Rattle.rules.specs.Allocation.{placeOf}
 use Rattle.laws.specs.Outstanding.{reqOf}
 use Rattle.laws.specs.Bounds.{Bounded}
 use Rattle.laws.proofs.Bounds.{bounds-at}
+use Rattle.laws.proofs.Happenings.{place-of-desk}
 use Rattle.segment.specs.declared.Entry.{Entry}
 use Rattle.segment.specs.declared.PlaceRow.{PlaceRow}
 use Rattle.segment.specs.Layout.{readQueue, deskPlaces}
 use Rattle.segment.specs.Table.{nth}
-use Rattle.segment.specs.Fields.{entryOf, entryAt, placeAt, placeRowOf}
+use Rattle.segment.specs.Fields.{entryWords, waitingRead, entryOf, entryAt, placeAt, placeRowOf}
 use Rattle.memory.specs.Memories.{Memories}
 use Rattle.memory.specs.Image.{reqWords, placeWords}
 use Rattle.memory.specs.Fine.{Fine}
@@ -27,7 +28,6 @@ use Rattle.midst.specs.Mid.{Start, Mid}
 use Rattle.midst.proofs.Begins.{mid-place}
 use Rattle.midst.proofs.Heads.{reads-at, head-none, head-some}
 use Rattle.midst.proofs.Changes.{mid-below}
-use Rattle.midst.proofs.Lists.{place-under}
 
 -- whether a word is 1, of a bit
 pub bit-one : (w : Bool) → eqb (bit w) 1 ≡ w
@@ -43,11 +43,11 @@ pub record Reader (xs : List ℕ) (f : ℕ) (b : Built) : Type 0 where
   pub first : b .rq ≡ place ∷ rest
   pub opens : accAt b place ≡ some acc
   pub asks : acc .req ≡ reading wanted
-  pub entry : entryAt xs (nth xs (readQueue f)) ≡ record { place = placeOf f place; unit = bit (wanted .words); limit = wanted .limit; keep = bit (wanted .keep); status = 0; log = 0; size = 0; seconds = 0 }
+  pub entry : entryAt xs (nth xs (readQueue f)) ≡ waitingRead (placeOf f place) (bit (wanted .byWords)) (wanted .limit) (bit (wanted .keep))
 
 module _ {f : ℕ} {o : Start} {ms : Memories} {x : hand.File} {b : Built} (M : Mid Fine f o ms x b) where
   reader-at : (p : ℕ) (rest : List ℕ) → b .rq ≡ p ∷ rest → Reader (ms .segment) f b
-  unfolding entryOf reqWords reqOf
+  unfolding entryOf reqWords reqOf entryWords
   reader-at p rest q =
       let (a, w, e, r) = reads-at b p rest (M .good .queues) q in
       record {
@@ -77,7 +77,7 @@ module _ {f : ℕ} {o : Start} {ms : Memories} {x : hand.File} {b : Built} (M : 
     reader-below = mid-below M (r .place) (r .acc) (r .opens)
 
     pub reader-place : placeOf f (r .place) < deskPlaces
-    reader-place = place-under f (r .place) (M .file) reader-below
+    reader-place = place-of-desk f (r .place) (M .file) reader-below
 
     -- control 46, as its row has it
     pub reader-typed : (m : Entry) (row : PlaceRow) → m ≡ entryAt (ms .segment) (nth (ms .segment) (readQueue f)) → row ≡ placeAt (ms .segment) (m .place) → eqb (row .typed) 1 ≡ r .acc .typed

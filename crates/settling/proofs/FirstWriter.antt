@@ -13,19 +13,18 @@ use Rattle.rules.specs.Limits.{places, entries, bufferBytes}
 use Rattle.rules.specs.State.{Offered, Req, writing, Acc, Built}
 use Rattle.rules.specs.Requests.{accAt}
 use Rattle.rules.specs.Allocation.{placeOf}
-use Rattle.rules.specs.Memories.{lies, buffer}
+use Rattle.rules.specs.Memories.{bufferAt, lies, buffer}
 use Rattle.laws.specs.Outstanding.{reqOf}
 use Rattle.laws.specs.Bounds.{Bounded}
 use Rattle.laws.proofs.Bounds.{bounds-at, length-buffer}
+use Rattle.laws.proofs.Happenings.{place-of-desk}
 use Rattle.segment.specs.declared.Entry.{Entry}
 use Rattle.segment.specs.declared.PlaceRow.{PlaceRow}
 use Rattle.segment.specs.Layout.{writeQueue, deskPlaces}
 use Rattle.segment.specs.Table.{nth, row}
-use Rattle.segment.specs.Fields.{entryOf, entryAt, placeAt, placeRowOf}
-use Rattle.buffers.specs.Buffer as code
+use Rattle.segment.specs.Fields.{entryWords, waitingWrite, entryOf, entryAt, placeAt, placeRowOf}
 use Rattle.memory.specs.Memories.{Memories}
 use Rattle.memory.specs.Image.{reqWords, placeWords}
-use Rattle.memory.specs.Stands.{bufferAt}
 use Rattle.memory.specs.Fine.{Fine}
 use Rattle.memory.proofs.Frames.{bufferAt-is}
 use Rattle.midst.specs.declared.File as hand
@@ -33,7 +32,6 @@ use Rattle.midst.specs.Mid.{Start, Mid}
 use Rattle.midst.proofs.Begins.{mid-place}
 use Rattle.midst.proofs.Heads.{writes-at, head-none, head-some}
 use Rattle.midst.proofs.Changes.{mid-below}
-use Rattle.midst.proofs.Lists.{place-under}
 use Rattle.settling.specs.Turns.{dataOf}
 
 -- the writer at the head of the queue
@@ -45,11 +43,11 @@ pub record Writer (xs : List ℕ) (f : ℕ) (b : Built) : Type 0 where
   pub first : b .wq ≡ place ∷ rest
   pub opens : accAt b place ≡ some acc
   pub asks : acc .req ≡ writing offered
-  pub entry : entryAt xs (nth xs (writeQueue f)) ≡ record { place = placeOf f place; unit = bit (offered .words); limit = 0; keep = 0; status = 0; log = 0; size = length (offered .bytes); seconds = 0 }
+  pub entry : entryAt xs (nth xs (writeQueue f)) ≡ waitingWrite (placeOf f place) (bit (offered .byWords)) (length (offered .bytes))
 
 module _ {f : ℕ} {o : Start} {ms : Memories} {x : hand.File} {b : Built} (M : Mid Fine f o ms x b) where
   writer-at : (p : ℕ) (rest : List ℕ) → b .wq ≡ p ∷ rest → Writer (ms .segment) f b
-  unfolding entryOf reqWords reqOf
+  unfolding entryOf reqWords reqOf entryWords
   writer-at p rest q =
       let (a, w, e, r) = writes-at b p rest (M .good .queues) q in
       record {
@@ -79,7 +77,7 @@ module _ {f : ℕ} {o : Start} {ms : Memories} {x : hand.File} {b : Built} (M : 
     writer-below = mid-below M (r .place) (r .acc) (r .opens)
 
     pub writer-place : placeOf f (r .place) < deskPlaces
-    writer-place = place-under f (r .place) (M .file) writer-below
+    writer-place = place-of-desk f (r .place) (M .file) writer-below
 
     pub writer-id : (m : Entry) (row : PlaceRow) → m ≡ entryAt (ms .segment) (nth (ms .segment) (writeQueue f)) → row ≡ placeAt (ms .segment) (m .place) → row .id ≡ r .acc .ident
     unfolding placeRowOf placeWords
@@ -91,7 +89,7 @@ module _ {f : ℕ} {o : Start} {ms : Memories} {x : hand.File} {b : Built} (M : 
     unfolding Bounded
     writer-short = bounds-at (r .place) (r .acc) _ b (r .opens) (r .asks) (M .good .bounds)
 
-    -- its data lie in its buffer
+    -- the waiting writer's data lie in its buffer
     writer-buffer : bufferAt (placeOf f (r .place)) (ms .buffers) ≡ buffer (accAt b (r .place))
     unfolding accAt placeOf
     writer-buffer =
@@ -99,7 +97,7 @@ module _ {f : ℕ} {o : Start} {ms : Memories} {x : hand.File} {b : Built} (M : 
         (λ y k. length-buffer (b .geo .words) (getD (b .accs) y none) (M .good .room .geo .words-high) (M .good .bounds y)) (M .buffer) (r .place) writer-below
 
     module _ (e : ℕ) (m : Entry) (at : e ≡ nth (ms .segment) (writeQueue f)) (em : m ≡ entryAt (ms .segment) e) where
-      pub writer-is : m ≡ record { place = placeOf f (r .place); unit = bit (r .offered .words); limit = 0; keep = 0; status = 0; log = 0; size = length (r .offered .bytes); seconds = 0 }
+      pub writer-is : m ≡ waitingWrite (placeOf f (r .place)) (bit (r .offered .byWords)) (length (r .offered .bytes))
       writer-is = em ∙ ap (entryAt (ms .segment)) at ∙ r .entry
 
       pub writer-under : m .place < deskPlaces
@@ -109,8 +107,8 @@ module _ {f : ℕ} {o : Start} {ms : Memories} {x : hand.File} {b : Built} (M : 
       writer-size = omega (arith, ap (λ (n : Entry). n .size) writer-is, writer-short, M .good .room .geo .words-high)
 
       pub writer-data : dataOf m (ms .buffers) ≡ r .offered .bytes
-      unfolding bufferAt buffer lies
+      unfolding buffer lies
       writer-data =
-          ap (λ (n : Entry). take (n .size) (code.bufferAt (n .place) (ms .buffers))) writer-is
+          ap (λ (n : Entry). take (n .size) (bufferAt (n .place) (ms .buffers))) writer-is
           ∙ ap (take (length (r .offered .bytes))) (writer-buffer ∙ ap buffer (r .opens) ∙ ap (λ (q : Req). lies q ++ zeros (bufferBytes - length (lies q))) (r .asks))
           ∙ take-append-seam (r .offered .bytes) (zeros (bufferBytes - length (r .offered .bytes)))

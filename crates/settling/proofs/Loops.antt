@@ -58,7 +58,7 @@ module _ {f : ℕ} {ms₀ : Memories} {x₀ : hand.File} {ms : Memories} {x : ha
         let N = K .mid o b M in
         omega (arith, mid-waiting N, mid-waiting (S o c N .mid), shrunk-turn c (turn-moved o c N), ap (λ (m : Turn). many (m .file)) (turned o c N))
 
-  -- it was not, and the writer's turn it is
+  -- the reader was not served, and it is the writer's turn
   module _ (stays : r .moved ≡ false) {ms₂ : Memories} {q : code.Turn}
       (T : (o : Start) (b : Built) → Mid Fine f o (memories xs₁ (ms .blocks) buffers₁) (r .file) b → Served f o ms₂ q (atHead serveWriter (b .wq) b)) where
     module _ (o : Start) (c : Built) (M : Mid Fine f o ms x c) where
@@ -92,7 +92,7 @@ module _ {f : ℕ} {ms₀ : Memories} {x₀ : hand.File} {ms : Memories} {x : ha
           let N = K .mid o b M in
           omega (arith, mid-waiting N, mid-waiting (served o c N .mid), shrunk-turn c (sym (served o c N .moved) ∙ moved))
 
-    -- nor was he: the file has settled
+    -- the writer was not served either: the file has settled
     pub at-rest : q .moved ≡ false → (o : Start) (b : Built) → Mid Fine f o ms₀ x₀ b → Mid Fine f o ms₂ (q .file) (settle b)
     at-rest stay o b M =
         let c : Built = K .to o b M in

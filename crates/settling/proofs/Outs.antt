@@ -1,4 +1,4 @@
--- What is left of a call: the file in hand goes back into its row, and the memories stand for what the call comes to.
+-- What is left of a call: the file in hand goes back into its row, and the memories stand for the call's outcome.
 use Prim.Native.Nat.{ℕ}
 use mathlib.Core.Path.{_≡_, sym, subst}
 use mathlib.Core.List.{List}

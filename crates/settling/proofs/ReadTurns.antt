@@ -16,7 +16,7 @@ use Rattle.rules.specs.Store.{fetch}
 use Rattle.rules.specs.Requests.{accAt, behind, finish, withStore, say}
 use Rattle.rules.specs.Settle.{handed, readResult, still, onward, serveReader, atHead}
 use Rattle.rules.specs.Allocation.{placeOf}
-use Rattle.rules.specs.Memories.{lies}
+use Rattle.rules.specs.Memories.{shareAt, lies}
 use Rattle.laws.specs.Outstanding.{waitsRead}
 use Rattle.laws.specs.Changes.{Ends, readEnds}
 use Rattle.laws.proofs.Walk.{behind-at, length-handed}
@@ -24,10 +24,9 @@ use Rattle.segment.specs.declared.Entry.{Entry}
 use Rattle.segment.specs.declared.PlaceRow.{PlaceRow}
 use Rattle.segment.specs.Layout.{readQueue}
 use Rattle.segment.specs.Table.{nth}
-use Rattle.segment.specs.Fields.{entryAt, placeAt}
+use Rattle.segment.specs.Fields.{entryWords, waitingRead, entryAt, placeAt}
 use Rattle.requests.specs.Moves.{completed}
 use Rattle.buffers.specs.Buffer.{filled}
-use Rattle.blocks.specs.Memory as code
 use Rattle.shares.specs.Back.{recAt}
 use Rattle.memory.specs.Memories.{Memories, memories}
 use Rattle.memory.specs.Image.{reqWords}
@@ -79,11 +78,11 @@ module _ {f : ℕ} {o : Start} {ms : Memories} {x : hand.File} {b : Built} (M : 
     abbrev typed : Bool
     typed = r .acc .typed
 
-    -- the file behind the read
+    -- the file after the read
     abbrev B : Built
     B = fetching (r .place) typed (r .wanted .keep) b
 
-    entry-is : m ≡ record { place = placeOf f (r .place); unit = bit (r .wanted .words); limit = r .wanted .limit; keep = bit (r .wanted .keep); status = 0; log = 0; size = 0; seconds = 0 }
+    entry-is : m ≡ waitingRead (placeOf f (r .place)) (bit (r .wanted .byWords)) (r .wanted .limit) (bit (r .wanted .keep))
     entry-is = v .entry ∙ ap (entryAt (ms .segment)) (v .first) ∙ r .entry
 
     is-typed : eqb (row .typed) 1 ≡ typed
@@ -95,20 +94,20 @@ module _ {f : ℕ} {o : Start} {ms : Memories} {x : hand.File} {b : Built} (M : 
     mid-fetched : Mid Fine f o ms (z .file) (fetching (r .place) typed (r .wanted .keep) b)
     mid-fetched = fetched-mid M _ _ z (r .place) (v .keeps (r .place)) (v .gets) typed (r .wanted .keep) is-typed is-kept
 
-    -- it finds nothing
+    -- the read finds nothing
     pub turn-nothing : z .got ≡ false → Served f o ms (record { moved = false; file = z .file }) (atHead serveReader (b .rq) b)
     turn-nothing n =
         subst (Served f o ms (record { moved = false; file = z .file }))
         (sym (reads-none b (r .place) (r .rest) (r .acc) (r .opens) (r .wanted) (r .first) (r .asks) (fetched-none M _ _ z (r .place) (v .keeps (r .place)) (v .gets) typed (r .wanted .keep) is-typed is-kept n)))
         (still-served f o ms (z .file) B mid-fetched)
 
-    -- it finds a record, d, and the bytes that the code hands over are those of d
-    module _ (some-got : z .got ≡ true) (own : List ℕ) (share : own ≡ code.shareAt f (ms .blocks)) (bytes : List ℕ) (given : bytes ≡ handed (eqb (row .typed) 1) (m .limit) (recAt own (z .at))) where
+    -- the read finds a record, d, and the bytes that the code hands over are those of d
+    module _ (some-got : z .got ≡ true) (own : List ℕ) (share : own ≡ shareAt f (ms .blocks)) (bytes : List ℕ) (given : bytes ≡ handed (eqb (row .typed) 1) (m .limit) (recAt own (z .at))) where
       abbrev d : Rec
-      d = recAt (code.shareAt f (ms .blocks)) (z .at)
+      d = recAt (shareAt f (ms .blocks)) (z .at)
 
       abbrev q : Req
-      q = readResult (r .wanted .words) (handed typed (r .wanted .limit) d)
+      q = readResult (r .wanted .byWords) (handed typed (r .wanted .limit) d)
 
       ends : Ends 0 (reading (r .wanted)) q
       unfolding readResult
@@ -143,4 +142,4 @@ module _ {f : ℕ} {o : Start} {ms : Memories} {x : hand.File} {b : Built} (M : 
           entry-words : completed (ms .segment) (readQueue f) (m .place) (readWords m (length bytes)) ≡ completed (ms .segment) (readQueue f) (placeOf f (r .place)) (reqWords (placeOf f (r .place)) q)
           entry-words =
               ap (λ (n : Entry). completed (ms .segment) (readQueue f) (n .place) (readWords n (length bytes))) entry-is
-              ∙ ap (completed (ms .segment) (readQueue f) (placeOf f (r .place))) (unfold readWords reqWords readResult in rw (bytes-are, bit-one (r .wanted .words)) refl)
+              ∙ ap (completed (ms .segment) (readQueue f) (placeOf f (r .place))) (unfold readWords reqWords readResult entryWords in rw (bytes-are, bit-one (r .wanted .byWords)) refl)

@@ -27,9 +27,9 @@ module _ (b : Built) (p : ℕ) (rest : List ℕ) (a : Acc) (e : accAt b p ≡ so
     reads-none n = first-reader ∙ pick-none (fetch (b .geo) (a .typed) (w .keep) (b .store) .got) _ _ n
 
     pub reads-some : (d : Rec) → fetch (b .geo) (a .typed) (w .keep) (b .store) .got ≡ some d
-        → atHead serveReader (b .rq) b ≡ onward (finish p 0 (readResult (w .words) (handed (a .typed) (w .limit) d)) (behind p (fetch (b .geo) (a .typed) (w .keep) (b .store)) b))
+        → atHead serveReader (b .rq) b ≡ onward (finish p 0 (readResult (w .byWords) (handed (a .typed) (w .limit) d)) (behind p (fetch (b .geo) (a .typed) (w .keep) (b .store)) b))
     unfolding serveReader
-    reads-some d n = first-reader ∙ pick-some (fetch (b .geo) (a .typed) (w .keep) (b .store) .got) _ (λ r. onward (finish p 0 (readResult (w .words) (handed (a .typed) (w .limit) r)) (behind p (fetch (b .geo) (a .typed) (w .keep) (b .store)) b))) d n
+    reads-some d n = first-reader ∙ pick-some (fetch (b .geo) (a .typed) (w .keep) (b .store) .got) _ (λ r. onward (finish p 0 (readResult (w .byWords) (handed (a .typed) (w .limit) r)) (behind p (fetch (b .geo) (a .typed) (w .keep) (b .store)) b))) d n
 
   module _ (w : Offered) (q : b .wq ≡ p ∷ rest) (r : a .req ≡ writing w) where
     first-writer : atHead serveWriter (b .wq) b ≡ serveWriter p a (writing w) b

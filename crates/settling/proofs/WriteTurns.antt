@@ -14,7 +14,7 @@ use Rattle.rules.specs.State.{Rec, Req, writing, Built}
 use Rattle.rules.specs.Requests.{accAt, fits, withStore, say, putRec, finish}
 use Rattle.rules.specs.Settle.{writeResult, dataRec, serveWriter, atHead}
 use Rattle.rules.specs.Allocation.{placeOf}
-use Rattle.rules.specs.Memories.{lies}
+use Rattle.rules.specs.Memories.{shareAt, lies}
 use Rattle.laws.specs.Outstanding.{waitsWrite}
 use Rattle.laws.specs.Changes.{Ends, writeEnds}
 use Rattle.laws.proofs.Walk.{put-at}
@@ -22,9 +22,8 @@ use Rattle.segment.specs.declared.Entry.{Entry}
 use Rattle.segment.specs.declared.PlaceRow.{PlaceRow}
 use Rattle.segment.specs.Layout.{writeQueue}
 use Rattle.segment.specs.Table.{nth}
-use Rattle.segment.specs.Fields.{entryAt, placeAt}
+use Rattle.segment.specs.Fields.{entryWords, entryAt, placeAt}
 use Rattle.requests.specs.Moves.{completed}
-use Rattle.blocks.specs.Memory as code
 use Rattle.blocks.specs.Memory.{blocksBytes}
 use Rattle.blocks.specs.Writing.{recOf, Ready}
 use Rattle.accessors.specs.Sides.{countSide}
@@ -64,10 +63,10 @@ module _ {f : ℕ} {o : Start} {ms : Memories} {x : hand.File} {b : Built} (M : 
 
     -- what a put of its data asks
     module _ (e : ℕ) (m : Entry) (at : e ≡ nth (ms .segment) (writeQueue f)) (em : m ≡ entryAt (ms .segment) e) where
-      pub data-ready : ((length (ms .blocks) ≡ blocksBytes) × (f < files)) × Ready (x .words) (x .ring) (code.shareAt f (ms .blocks)) (length (dataOf m (ms .buffers)))
+      pub data-ready : ((length (ms .blocks) ≡ blocksBytes) × (f < files)) × Ready (x .words) (x .ring) (shareAt f (ms .blocks)) (length (dataOf m (ms .buffers)))
       data-ready = hand-ready M (fine-stored (M .good)) (recOf 0 0 (dataOf m (ms .buffers))) (omega (arith, ap length (writer-data M r e m at em), writer-short M r))
 
-      -- it is served
+      -- the writer is served
       module _ (row : PlaceRow) (er : row ≡ placeAt (ms .segment) (m .place)) (fit : fitsRing (x .ring) (countSide (ms .segment) f 2) ≡ true) where
         abbrev d : Rec
         d = dataRec (r .acc) (r .offered .bytes)
@@ -120,4 +119,4 @@ module _ {f : ℕ} {o : Start} {ms : Memories} {x : hand.File} {b : Built} (M : 
             entry-words : completed (ms .segment) (writeQueue f) (m .place) (wroteWords m) ≡ completed (ms .segment) (writeQueue f) (placeOf f (r .place)) (reqWords (placeOf f (r .place)) q)
             entry-words =
                 ap (λ (n : Entry). completed (ms .segment) (writeQueue f) (n .place) (wroteWords n)) (writer-is M r e m at em)
-                ∙ ap (completed (ms .segment) (writeQueue f) (placeOf f (r .place))) (unfold wroteWords reqWords writeResult in rw (bit-one (r .offered .words)) refl)
+                ∙ ap (completed (ms .segment) (writeQueue f) (placeOf f (r .place))) (unfold wroteWords reqWords writeResult entryWords in rw (bit-one (r .offered .byWords)) refl)

@@ -1,5 +1,5 @@
 // "then the file settles: while something can be done, serve the first waiting reader, else the first waiting writer."
-// The file is in hand, and the settled file is handed back or put into its row; the memories are those of a call in its midst.
+// The file is in hand. The settled file is handed back or put into its row. The memories are those of a call in its midst.
 ghost use mathlib.Core.Path.{_≡_};
 ghost use Prim.Native.Nat.{_<_};
 ghost use lib.Dec.{ltb};
@@ -8,21 +8,19 @@ ghost use Rattle.segment.specs.Layout.{segmentBytes};
 ghost use Rattle.rules.specs.Limits.{files};
 ghost use Rattle.rules.specs.State.{Built};
 ghost use Rattle.rules.specs.Settle.{settle};
-ghost use Rattle.rules.specs.Reply.{Reply, leaves};
-ghost use Rattle.memory.specs.Memories.{memories};
+ghost use Rattle.memory.specs.Memories.{lent, was, left};
 ghost use Rattle.accessors.specs.Sides.{countSide};
-ghost use Rattle.memory.specs.Stands.{Bodies};
 ghost use Rattle.memory.specs.Fine.{Fine};
 ghost use Rattle.midst.specs.File.{RowStands};
 ghost use Rattle.midst.specs.Mid.{Start, Mid};
-ghost use Rattle.midst.specs.Outcome.{Outcome};
-ghost use Rattle.settling.specs.Turns.{Amid, Beside, Counts};
+ghost use Rattle.settling.specs.Turns.{Amid, Beside, Counts, Settles};
 
 mod readers;
 mod writers;
 
 use accessors::sides::count_side;
 use kinds::sides::WRITER;
+use kinds::statuses;
 use midst::File;
 use midst::put_file;
 use midst::put_ring;
@@ -30,13 +28,16 @@ use readers::serve_reader;
 use segment::layout;
 use writers::serve_writer;
 
-// One turn: the file behind it, and whether a request was served.
+// The status of a request that was served.
+const DONE: u16 = statuses::DONE as u16;
+
+// The result of one turn: whether a request was served, and the file after it.
 pub struct Turn {
     pub moved: bool,
     pub file: File,
 }
 
-// The settled file. No turn changes how many writers are open, so they are counted once, before it.
+// Settles the file and hands it back. No turn changes how many writers are open, so they are counted once, before the loop.
 pub fn settle(
     segment: &mut [u8],
     blocks: &mut [u8],
@@ -45,8 +46,8 @@ pub fn settle(
     from: File,
     writers: u16,
 ) -> File
-    requires { ⌜ Amid f (memories (now segment) (now blocks) (now buffers)) from × Beside writers f (now segment) ⌝ }
-    ensures { λ r. ⌜ ((o : Start) (b : Built) → Mid Fine f o (memories (now (segment .entry)) (now (blocks .entry)) (now (buffers .entry))) from b → Mid Fine f o (memories (now (segment .exit)) (now (blocks .exit)) (now (buffers .exit))) r (settle b)) ⌝ }
+    requires { ⌜ Amid f (lent segment blocks buffers) from × Beside writers f (now segment) ⌝ }
+    ensures { λ r. ⌜ ((o : Start) (b : Built) → Mid Fine f o (was segment blocks buffers) from b → Mid Fine f o (left segment blocks buffers) r (settle b)) ⌝ }
 {
     let mut file = from;
     let settled = loop {
@@ -65,7 +66,7 @@ pub fn settle(
     settled
 }
 
-// The file settles, and goes back into its row. Who calls this for `rest` has counted the open writers.
+// Settles the file and writes it back into its row. A caller that uses this in place of `conclude` has counted the open writers.
 pub fn settle_back(
     segment: &mut [u8],
     blocks: &mut [u8],
@@ -74,19 +75,19 @@ pub fn settle_back(
     file: File,
     writers: u16,
 )
-    requires { ⌜ Amid f (memories (now segment) (now blocks) (now buffers)) file × Beside writers f (now segment) ⌝ }
-    ensures { λ _. ⌜ ((o : Start) (b : Built) → Mid Fine f o (memories (now (segment .entry)) (now (blocks .entry)) (now (buffers .entry))) file b → Bodies (o .memories) (o .desk) → (r : Reply) → Outcome f (o .desk) (o .alloc) (leaves r (settle b)) (o .memories) (memories (now (segment .exit)) (now (blocks .exit)) (now (buffers .exit)))) ⌝ }
+    requires { ⌜ Amid f (lent segment blocks buffers) file × Beside writers f (now segment) ⌝ }
+    ensures { λ _. ⌜ Settles f (was segment blocks buffers) file (left segment blocks buffers) ⌝ }
 {
     let settled = settle(segment, blocks, buffers, f, file, writers);
     put_file(segment, f, settled);
 }
 
-// What is left of a call that has acted: the file settles, and goes back into its row. Most often nobody waits, and it goes back as it is. `settle_back` is
-// called at several places, so that the compiler leaves it a function, and what it gets ready for the settling loop is not got ready here.
-// The open writers are counted where a writer waits: nothing else asks for them.
-pub fn rest(segment: &mut [u8], blocks: &mut [u8], buffers: &mut [u8], f: usize, file: File)
-    requires { ⌜ Amid f (memories (now segment) (now blocks) (now buffers)) file ⌝ }
-    ensures { λ _. ⌜ ((o : Start) (b : Built) → Mid Fine f o (memories (now (segment .entry)) (now (blocks .entry)) (now (buffers .entry))) file b → Bodies (o .memories) (o .desk) → (r : Reply) → Outcome f (o .desk) (o .alloc) (leaves r (settle b)) (o .memories) (memories (now (segment .exit)) (now (blocks .exit)) (now (buffers .exit)))) ⌝ }
+// Ends a call that has acted: settles the file and writes its row. Most often nobody waits, and the file is written as it is. `settle_back` has several callers so
+// that the compiler keeps it out of line: the common path then does not save the settling loop's registers.
+// The open writers are counted only if a writer waits: nothing else needs them.
+pub fn conclude(segment: &mut [u8], blocks: &mut [u8], buffers: &mut [u8], f: usize, file: File)
+    requires { ⌜ Amid f (lent segment blocks buffers) file ⌝ }
+    ensures { λ _. ⌜ Settles f (was segment blocks buffers) file (left segment blocks buffers) ⌝ }
 {
     if segment::get(segment, layout::WRITE_QUEUES + f) < layout::ENTRIES {
         let writers = count_side(segment, f, WRITER);
@@ -100,12 +101,18 @@ pub fn rest(segment: &mut [u8], blocks: &mut [u8], buffers: &mut [u8], f: usize,
     put_file(segment, f, file);
 }
 
-// The same after a read or a write that was served at once, whose file has its row as the call found it: most often nobody waits, and of the row only where the
-// ring stands goes back. `rest` is called from elsewhere too, so that the compiler leaves it a function and takes this one into its callers: nothing is got ready
-// for the settling loop there.
-pub fn quick_rest(segment: &mut [u8], blocks: &mut [u8], buffers: &mut [u8], f: usize, file: File)
-    requires { ⌜ Amid f (memories (now segment) (now blocks) (now buffers)) file × RowStands (now segment) f file ⌝ }
-    ensures { λ _. ⌜ ((o : Start) (b : Built) → Mid Fine f o (memories (now (segment .entry)) (now (blocks .entry)) (now (buffers .entry))) file b → Bodies (o .memories) (o .desk) → (r : Reply) → Outcome f (o .desk) (o .alloc) (leaves r (settle b)) (o .memories) (memories (now (segment .exit)) (now (blocks .exit)) (now (buffers .exit)))) ⌝ }
+// Ends a read or a write that was served at once, as `conclude` does. The file's row is still as the call found it, so if nobody waits, as most often, only the three
+// ring words are written. `conclude` has other callers too, so that the compiler keeps it out of line and inlines this function: its callers then do not save the settling
+// loop's registers.
+pub fn quick_conclude(
+    segment: &mut [u8],
+    blocks: &mut [u8],
+    buffers: &mut [u8],
+    f: usize,
+    file: File,
+)
+    requires { ⌜ Amid f (lent segment blocks buffers) file × RowStands (now segment) f file ⌝ }
+    ensures { λ _. ⌜ Settles f (was segment blocks buffers) file (left segment blocks buffers) ⌝ }
 {
     if segment::get(segment, layout::READ_QUEUES + f) >= layout::ENTRIES {
         if segment::get(segment, layout::WRITE_QUEUES + f) >= layout::ENTRIES {
@@ -113,10 +120,10 @@ pub fn quick_rest(segment: &mut [u8], blocks: &mut [u8], buffers: &mut [u8], f: 
             return;
         }
     }
-    rest(segment, blocks, buffers, f, file);
+    conclude(segment, blocks, buffers, f, file);
 }
 
-// Whether a writer is open. One that waits is, and then W is left to be counted where the file settles.
+// Whether a writer is open. If one waits, one is; W is then counted by settling.
 pub fn has_writer(segment: &[u8], f: usize) -> bool
     requires { ⌜ (length (now segment) ≡ segmentBytes) × (f < files) × Counts f (now segment) ⌝ }
     ensures { λ r. ⌜ r ≡ ltb 0 (countSide (now (segment .entry)) f 2) ⌝ }

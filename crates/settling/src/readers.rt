@@ -1,51 +1,44 @@
-// The first waiting reader.
+// Serves the first waiting reader.
 ghost use mathlib.Core.Path.{_≡_};
 ghost use Prim.Native.Nat.{_*_, _≤_, _<_};
 ghost use lib.ListN.{length};
 ghost use lib.Seq.{sets};
 ghost use Rattle.segment.specs.Layout.{segmentBytes, readQueue, deskPlaces};
 ghost use Rattle.segment.specs.Table.{nth};
-ghost use Rattle.rules.specs.Limits.{entries, bufferBytes};
+ghost use Rattle.rules.specs.Limits.{files, entries, bufferBytes};
 ghost use Rattle.rules.specs.State.{Built};
 ghost use Rattle.rules.specs.Settle.{handed, serveReader, atHead};
 ghost use Rattle.requests.specs.Moves.{completed};
 ghost use Rattle.buffers.specs.Buffer.{buffersBytes, filled};
-ghost use Rattle.memory.specs.Memories.{memories};
+ghost use Rattle.memory.specs.Memories.{memories, lent, was};
 ghost use Rattle.memory.specs.Fine.{Fine};
 ghost use Rattle.midst.specs.Mid.{Start, Mid};
 ghost use Rattle.settling.specs.Turns.{Amid, Served, readWords};
+use crate::DONE;
 use crate::Turn;
 use blocks::by_file::share;
 use midst::File;
 use records::fetch::handed;
 use segment::Entry;
+use segment::forms::completed_request;
 use segment::layout;
 use store::fetch;
 use transfer_counts::log_of;
 
-// The bytes go to the waiting read m, the first of its queue, which is done.
+// Hands the bytes to the waiting read m, the first of its queue, and completes it.
 fn hand_over(segment: &mut [u8], buffers: &mut [u8], f: usize, m: Entry, bytes: &[u8])
-    requires { ⌜ (length (now segment) ≡ segmentBytes) × (length (now buffers) ≡ buffersBytes) × (f < 8) ⌝ }
+    requires { ⌜ (length (now segment) ≡ segmentBytes) × (length (now buffers) ≡ buffersBytes) × (f < files) ⌝ }
     requires { ⌜ (m .place < deskPlaces) × (length (now bytes) ≤ bufferBytes) × (nth (now segment) (readQueue f) < entries) ⌝ }
     ensures segment { λ _. ⌜ now (segment .exit) ≡ completed (now (segment .entry)) (readQueue f) (m .place) (readWords m (length (now (bytes .entry)))) ⌝ }
     ensures buffers { λ _. ⌜ now (buffers .exit) ≡ sets (now (buffers .entry)) (bufferBytes * m .place) (filled (now (bytes .entry))) ⌝ }
 {
     let n = bytes.len() as u16;
-    let done = Entry {
-        place: m.place,
-        unit: 0,
-        limit: 0,
-        keep: 0,
-        status: 0,
-        log: log_of(m.unit == 1, n),
-        size: n,
-        seconds: 0,
-    };
+    let done = completed_request(m.place, DONE, log_of(m.unit == 1, n), n);
     buffers::fill_at(buffers, m.place as usize, bytes);
     requests::complete(segment, layout::READ_QUEUES + f, done);
 }
 
-// The first waiting reader gets its record, if there is one for it.
+// Gives the first waiting reader its record, if there is one for it.
 pub fn serve_reader(
     segment: &mut [u8],
     blocks: &[u8],
@@ -53,8 +46,8 @@ pub fn serve_reader(
     f: usize,
     file: File,
 ) -> Turn
-    requires { ⌜ Amid f (memories (now segment) (now blocks) (now buffers)) file ⌝ }
-    ensures { λ r. ⌜ ((o : Start) (b : Built) → Mid Fine f o (memories (now (segment .entry)) (now (blocks .entry)) (now (buffers .entry))) file b → Served f o (memories (now (segment .exit)) (now (blocks .entry)) (now (buffers .exit))) r (atHead serveReader (b .rq) b)) ⌝ }
+    requires { ⌜ Amid f (lent segment blocks buffers) file ⌝ }
+    ensures { λ r. ⌜ ((o : Start) (b : Built) → Mid Fine f o (was segment blocks buffers) file b → Served f o (memories (now (segment .exit)) (now (blocks .entry)) (now (buffers .exit))) r (atHead serveReader (b .rq) b)) ⌝ }
 {
     let e = segment::get(segment, layout::READ_QUEUES + f);
     if e >= layout::ENTRIES {

@@ -66,7 +66,7 @@ pub blockRecs-stands : (xs : List ℕ) (a n : ℕ) (rs : List Rec) → 4 + 2 * w
 unfolding blockRecs
 blockRecs-stands xs a n rs f l h = rw (image-put xs a n rs h) (recsAt-stands xs (a + 4) rs (omega arith) (apart xs a n rs h .recs))
 
--- the held blocks, and whatever the e blocks behind them have left
+-- the held blocks, and whatever the e blocks after them have left
 pub ringRecs-at : (g : Geo) → Sized g → (xs : List ℕ) → length xs ≡ shareBytes → (qs : List (List Rec)) (k n e : ℕ) → n ≡ length qs + e
     → Shape (g .factor) qs → At g xs k qs
     → ringRecs g xs k n ≡ flat qs ++ ringRecs g xs (k + length qs) e

@@ -108,7 +108,7 @@ headAt-read g s r rest o h e =
     let y = headAt-stands g s r rest o h e in
     recAt-stands (s .share) (headAt g s) r (omega (arith, y .1, h .long, block-inside g o (s .block) (h .block))) (y .0)
 
--- Records of the full size, one right behind another: their places follow from their number. Words used say that all of a block are so.
+-- Records of the full size, one right after another: their places follow from their number. Words used say that all of a block are so.
 
 full-part : (m : ℕ) (f t : List Rec) → wordsOf (f ++ t) ≡ length (f ++ t) * m → Small m f → Small m t → wordsOf f ≡ length f * m
 full-part m f t e a b =

@@ -1,4 +1,4 @@
--- A record that is put stands behind those held.
+-- A record that is put comes after those held.
 use Prim.Native.Nat.{ℕ, zero, suc, _+_, _*_, _/_, _%_, _≤_, _<_}
 use mathlib.Core.Path.{_≡_, refl, sym, ap, _∙_}
 use mathlib.Core.List.{List, [], _∷_, _++_}
@@ -43,7 +43,7 @@ inscribed-first n xs a r f h =
       within-then xs ys (added ys a r) a n (zeroed-within n a xs (omega arith)) (added-within ys a n [] r (omega arith) o),
     )
 
--- one behind others
+-- a record put after others
 pub inscribed-next : (n : ℕ) (xs : List ℕ) (a i : ℕ) (rs : List Rec) (r : Rec) → 1 ≤ i → 4 + 2 * (wordsOf rs + recordWords r) ≤ n → a + n ≤ length xs
     → Stands xs a (image n rs)
     → Inscribed n xs (inscribedAt n xs a i r) a (rs ++ (r ∷ []))

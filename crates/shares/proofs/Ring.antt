@@ -20,7 +20,7 @@ use Rattle.rules.proofs.Split.{by-cases}
 use Rattle.shares.proofs.Image.{length-image}
 use Rattle.shares.proofs.Groups.{wordsOf-small}
 
--- a count that has gone on behind the last of d
+-- k modulo d, for a k that is not below d but below 2·d
 pub mod-high : (d k : ℕ) → d ≤ k → k < d + d → k % d ≡ k - d
 mod-high d k h l = mod-eq-sub-mod h ∙ mod-eq-of-lt (let e : k - d < d = omega arith in e)
 
@@ -29,7 +29,7 @@ mod-next d k l e =
     let f : (k + 1) % d ≡ (l + 1) % d = sym (mod-add-mod k d 1) ∙ (ap (λ (x : ℕ). (x + 1) % d) e ∙ mod-add-mod l d 1) in
     rw (← add-one k, ← add-one l) f
 
--- fewer than d on, it is another
+-- two counts that are less than d apart differ modulo d
 pub mod-apart : (d k l : ℕ) → k < l → l < k + d → (k % d < l % d) ⊎ (l % d < k % d)
 mod-apart d k l p q =
     let t = l - k in

@@ -64,7 +64,7 @@ sweep-swept g xs o b l (suc n) k left h =
       proper = all-append GoodRec (blockRecs xs a) (flat (r .groups)) (s .2) (r .proper);
     })
 
--- and groups that stand pass
+-- groups that stand pass the test
 sweep-true : (g : Geo) (xs : List ℕ) → (qs : List (List Rec)) (k n left : ℕ) → Shape (g .factor) qs → length qs ≤ n → length (flat qs) ≡ left
     → At g xs k qs → All GoodRec (flat qs)
     → sweep g xs k n left ≡ true

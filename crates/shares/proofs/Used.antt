@@ -53,7 +53,7 @@ module _ (P : Rec → Type 0) (g : Geo) (o : Sized g) where
   all-recs : (s : Store) → Holds g s → All P (usedRecs g s) → All P (s .recs)
   all-recs s h a = rw (← drop-usedRecs g s o h) (all-drop P (s .spent) (usedRecs g s) a)
 
-  -- the same block is the oldest: as many records are used, and they are the same
+  -- the same block is the oldest: the used records are the same
   all-onward : (s : Store) (r : Rec) (rest : List Rec) → s .recs ≡ r ∷ rest → All P (usedRecs g s)
       → All P (usedRecs g (record { block = s .block; spent = s .spent + 1; recs = rest; share = s .share }))
   unfolding usedRecs used

@@ -25,12 +25,12 @@ unfoldable pub Shape : ℕ → List (List Rec) → Type 0
 Shape b [] = Unit {0}
 Shape b (q ∷ qs) = (1 ≤ length q) × (length q ≤ b) × (length q < b → qs ≡ []) × Shape b qs
 
--- the first group has a record behind those that are spent
+-- the first group has a record after those that are spent
 unfoldable pub Begun : ℕ → List (List Rec) → Type 0
 Begun spent [] = spent ≡ 0
 Begun spent (q ∷ qs) = spent < length q
 
--- one record more
+-- the groups with one record more
 unfoldable pub addTo : ℕ → List (List Rec) → Rec → List (List Rec)
 addTo b [] r = (r ∷ []) ∷ []
 addTo b (q ∷ qs) r = elim (ltb (length q) b) [ true ↦ (q ++ (r ∷ [])) ∷ qs | false ↦ q ∷ addTo b qs r ]

@@ -17,12 +17,12 @@ pub record Sized (g : Geo) : Type 0 where
   pub blocks : 0 < g .blocks
   pub fits : g .blocks * blockSize (g .words) (g .factor) ≤ shareWords
 
--- the groups stand in the blocks of the ring from k on, no record longer than its place; k may count on behind the last block
+-- the groups lie in the blocks of the ring, starting at block k modulo the number of blocks, no record longer than its place
 unfoldable pub At : Geo → List ℕ → ℕ → List (List Rec) → Type 0
 At g xs k [] = Unit {0}
 At g xs k (q ∷ qs) = Small (g .words + 3) q × Stands xs (k % g .blocks * blockBytes g) (image (blockBytes g) q) × At g xs (suc k) qs
 
--- `groups` are the records held, and before them those of the oldest block that are spent
+-- the share holds the store: `groups` are the records held, and before them those of the oldest block that are spent
 pub record Holds (g : Geo) (s : Store) : Type 0 where
   pub long : length (s .share) ≡ shareBytes
   pub block : s .block < g .blocks

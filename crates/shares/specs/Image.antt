@@ -6,7 +6,7 @@ use Rattle.words.specs.Word.{word, zeros}
 use Rattle.rules.specs.State.{Rec}
 use Rattle.rules.specs.Store.{recordBytes, recordWords}
 
--- records one right behind another
+-- the bytes of records, one right after another
 unfoldable pub bytesOf : List Rec → List ℕ
 bytesOf [] = []
 bytesOf (r ∷ rs) = recordBytes r ++ bytesOf rs

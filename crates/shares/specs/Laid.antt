@@ -17,7 +17,7 @@ pub record GoodRec (r : Rec) : Type 0 where
   pub from : 1 ≤ r .wid
   pub bare : (r .typ ≡ 0 → ⊥) → r .body ≡ []
 
--- a proper record with at most `words` words of data stands at p, whole before e
+-- whether a proper record with at most `words` words of data lies at p, whole before e
 unfoldable pub fair : ℕ → List ℕ → ℕ → ℕ → Bool
 fair words xs e p =
     leb (p + 6) e
@@ -29,11 +29,11 @@ fair words xs e p =
     && (eqb (wordAt xs (p + 2)) 0 || eqb (wordAt xs p) 4)
     && (eqb (wordAt xs p % 2) 0 || eqb (getD xs (p + 2 + wordAt xs p) 0) 0)
 
--- n such records stand from p on, the last ends at `end`, and all is zero from there to e
+-- whether n proper records lie one after another from p, the last ends at `end`, and all is zero from there to e
 unfoldable pub walk : ℕ → List ℕ → ℕ → ℕ → ℕ → ℕ → Bool
 walk words xs e end p zero = eqb p end && quiet xs p (e - p)
 walk words xs e end p (suc n) = elim (fair words xs e p) [ true ↦ walk words xs e end (next xs p) n | false ↦ false ]
 
--- the block that begins at `at`: "word 0 records put, word 1 words used with these two"
+-- whether the block that begins at `at` is laid out so: "word 0 records put, word 1 words used with these two"
 unfoldable pub laid : Geo → List ℕ → ℕ → Bool
 laid g xs at = walk (g .words) xs (at + blockBytes g) (at + 2 * wordAt xs (at + 2)) (at + 4) (wordAt xs at)

@@ -9,7 +9,7 @@ use Rattle.rules.specs.Store.{blockBytes}
 use Rattle.shares.specs.Back.{readBack}
 use Rattle.shares.specs.Laid.{laid}
 
--- `left` records stand in at most n blocks of the ring from k on, each block full but the last
+-- whether `left` records lie in at most n blocks of the ring, starting at block k, each block full except the last
 unfoldable pub sweep : Geo → List ℕ → ℕ → ℕ → ℕ → Bool
 sweep g xs k zero left = eqb left 0
 sweep g xs k (suc n) left =
@@ -20,11 +20,11 @@ sweep g xs k (suc n) left =
           && sweep g xs (suc k) n (left - g .factor)
     ]
 
--- the oldest block, the records of it that are spent, and how many are held
+-- whether the share is sound, given the oldest block, how many of its records are spent, and how many records are held
 unfoldable pub sound : Geo → List ℕ → ℕ → ℕ → ℕ → Bool
 sound g xs block spent held =
     ltb block (g .blocks) && (eqb spent 0 || (ltb spent (g .factor) && ltb 0 held)) && sweep g xs block (g .blocks) (spent + held)
 
--- the store that such a share stands for
+-- the store that a sound share stands for
 unfoldable pub storeAt : Geo → List ℕ → ℕ → ℕ → ℕ → Store
 storeAt g xs block spent held = record { block = block; spent = spent; recs = readBack g xs block spent held; share = xs }

@@ -1,1 +1,1 @@
-// No code: what stands in a file's share is defined in specs/, and the laws of it are in proofs/.
+// No code: specs/ defines what a file's share holds, proofs/ has the laws.

@@ -1,5 +1,5 @@
-// sheet FILE [SHEET] < SESSION: the frames of standard input, a hexadecimal line each, are asked of a desk, fresh but for FILE, which is loaded from
-// SHEET where one is named; then the sheet of FILE is printed.
+// sheet FILE [SHEET] < SESSION: sends the frames of standard input, one hexadecimal line each, to a fresh desk, with FILE loaded from SHEET if one is
+// named; then prints the sheet of FILE.
 use arguments::NO_FILE;
 use arguments::Named;
 use arguments::TEXT_BYTES;
@@ -27,7 +27,7 @@ fn print_sheet(segment: &[u8], blocks: &[u8], buffers: &[u8], file: usize) {
     }
 }
 
-// FILE is loaded where a sheet is named; whether the program can go on.
+// Loads FILE if a sheet is named, and says whether the program can go on.
 fn load_named(
     segment: &mut [u8],
     blocks: &mut [u8],

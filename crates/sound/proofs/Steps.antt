@@ -61,7 +61,7 @@ unfolding owned placeIn entryWord
 owned-place s busy side f e v k h =
     rw (k) (ltb-true (nth s (dataAt e + 0)) (files * places) (and-first _ _ (and-first _ _ (and-first _ _ h))))
 
--- the rest of a buffer behind its end
+-- the rest of a buffer after its end
 pub rest-none : (bufs : List ℕ) (i n : ℕ) → bufferBytes < n → restZero bufs i n ≡ true
 unfolding restZero quiet
 rest-none bufs i n h = let z : bufferBytes - n ≡ 0 = omega arith in rw z

@@ -1,4 +1,4 @@
--- How longer tests begin, where the code asks that much by itself.
+-- How longer tests begin, for code that tests only that much.
 use Prim.Native.Nat.{ℕ, _*_, _/_}
 use mathlib.Core.Bool.{Bool, _&&_}
 use mathlib.Core.List.{List}
@@ -8,7 +8,7 @@ use Rattle.rules.specs.Limits.{files, places}
 use Rattle.sound.specs.Rows.{sideAt}
 use Rattle.sound.specs.Walks.{placeIn}
 
--- entry e belongs to an accessor of file f, on that side, that has nothing outstanding yet
+-- whether entry e belongs to an accessor of file f, on the given side, that has nothing outstanding yet
 unfoldable pub owned : List ℕ → List ℕ → ℕ → ℕ → ℕ → Bool
 owned s busy side f e =
     ltb (placeIn s e) (files * places)

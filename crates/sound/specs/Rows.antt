@@ -1,4 +1,4 @@
--- The rows of the segment: which are those of a file, built or not, and of its eight places.
+-- The rows of the segment: whether they are sound rows of a file, built or not, and of its eight places.
 use Prim.Native.Nat.{ℕ, zero, suc, _+_, _*_}
 use mathlib.Core.Bool.{Bool, true, false, _&&_, _||_}
 use mathlib.Core.List.{List}
@@ -9,19 +9,19 @@ use Rattle.rules.specs.State.{Geo}
 use Rattle.segment.specs.Layout.{fileWidth, placeFields, placeSpare, placeWidth, fileRowAt, placeRowAt}
 use Rattle.segment.specs.Table.{nth}
 
--- word j of file f's row, and of place i's
+-- word j of file f's row; `placeWord`: of place i's row
 unfoldable pub fileWord : List ℕ → ℕ → ℕ → ℕ
 fileWord s f j = nth s (fileRowAt f + j)
 
 unfoldable pub placeWord : List ℕ → ℕ → ℕ → ℕ
 placeWord s i j = nth s (placeRowAt i + j)
 
--- n words from word k on are zero
+-- whether n words starting at word k are zero
 unfoldable pub zeroWords : List ℕ → ℕ → ℕ → Bool
 zeroWords s k zero = true
 zeroWords s k (suc n) = elim (eqb (nth s k) 0) [ true ↦ zeroWords s (suc k) n | false ↦ false ]
 
--- R is 1 at least, so a file is built exactly when its R is not 0
+-- whether file f is built: R is at least 1, so a file is built exactly when its R is not 0
 unfoldable pub builtAt : List ℕ → ℕ → Bool
 builtAt s f = leb 1 (fileWord s f 0)
 
@@ -35,7 +35,7 @@ goodGeo g = within 1 roomWords (g .words) && within 1 mostFactor (g .factor) && 
 unfoldable pub sideAt : List ℕ → ℕ → ℕ
 sideAt s i = placeWord s i 0
 
--- a reader's ID is 0 and a writer's is 1 at least; the settings are 0 or 1
+-- whether the row of an open place is good: a reader's ID is 0 and a writer's at least 1; the settings are 0 or 1
 unfoldable pub goodPlace : List ℕ → ℕ → Bool
 goodPlace s i =
     (eqb (sideAt s i) 1 && eqb (placeWord s i 1) 0 || eqb (sideAt s i) 2 && leb 1 (placeWord s i 1))
@@ -44,15 +44,15 @@ goodPlace s i =
     && leb (placeWord s i 6) 1
     && leb (placeWord s i 7) 1
 
--- a place of a built file: not open, or good and nothing in the words to spare
+-- whether the row of a place of a built file is sound: zero if the place is not open, else good, with zero spare words
 unfoldable pub placeOk : List ℕ → ℕ → Bool
 placeOk s i = elim (eqb (sideAt s i) 0) [ true ↦ zeroWords s (placeRowAt i) placeWidth | false ↦ goodPlace s i && zeroWords s (placeRowAt i + placeFields) placeSpare ]
 
--- the n places from place i on
+-- whether the rows of the n places starting at place i are sound
 unfoldable pub placesOk : List ℕ → ℕ → ℕ → Bool
 placesOk s i zero = true
 placesOk s i (suc n) = elim (placeOk s i) [ true ↦ placesOk s (suc i) n | false ↦ false ]
 
--- all of a file that is not built is zero: its row and those of its places, which stand one behind the other
+-- whether all of a file that is not built is zero: its row and the rows of its places, which lie one after the other
 unfoldable pub unbuiltOk : List ℕ → ℕ → Bool
 unbuiltOk s f = zeroWords s (fileRowAt f) fileWidth && zeroWords s (placeRowAt (places * f)) (places * placeWidth)

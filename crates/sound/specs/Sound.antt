@@ -7,15 +7,21 @@ use lib.ListN.{length, getD}
 use Rattle.rules.specs.Limits.{files, places, entries, shareBytes, bufferBytes}
 use Rattle.rules.specs.Geometry.{capacity}
 use Rattle.rules.specs.State.{Geo}
+use Rattle.rules.specs.Memories.{shareAt}
 use Rattle.segment.specs.Layout.{segmentBytes}
 use Rattle.shares.specs.Sound.{sound}
 use Rattle.memory.specs.Memories.{Memories}
-use Rattle.memory.specs.Stands.{shareAt}
 use Rattle.accessors.specs.Sides.{countSide}
 use Rattle.sound.specs.Rows.{fileWord, builtAt, geoAt, goodGeo, placesOk, unbuiltOk}
 use Rattle.sound.specs.Walks.{Walked, restZero, allWalks, allMet}
 
--- a built file: geometry, places, the held blocks' layout, and "one place is kept for each close record"
+-- whether there is room: "one place is kept for each close record", and the open writers alone leave room for a record
+abbrev pub roomOk : List ℕ → ℕ → Bool
+roomOk s f =
+    leb (fileWord s f 4 + fileWord s f 5 + countSide s f 2) (capacity (fileWord s f 1) (fileWord s f 2))
+    && leb (countSide s f 2 + 1) (capacity (fileWord s f 1) (fileWord s f 2))
+
+-- whether a built file is sound: geometry, places, the held blocks' layout, and "one place is kept for each close record"
 unfoldable pub builtOk : List ℕ → List ℕ → ℕ → Bool
 builtOk s blocks f =
     let g : Geo = geoAt s f in
@@ -30,12 +36,12 @@ builtOk s blocks f =
 unfoldable pub fileOk : List ℕ → List ℕ → ℕ → Bool
 fileOk s blocks f = elim (builtAt s f) [ true ↦ builtOk s blocks f | false ↦ unbuiltOk s f ]
 
--- n files from file f on
+-- whether the n files starting at file f are sound
 unfoldable pub filesOk : List ℕ → List ℕ → ℕ → ℕ → Bool
 filesOk s blocks f zero = true
 filesOk s blocks f (suc n) = elim (fileOk s blocks f) [ true ↦ filesOk s blocks (suc f) n | false ↦ false ]
 
--- the buffers of n places of a built file, from place i on: those that no request uses are zero
+-- whether the buffers that no request uses are zero, among those of n places of a built file, starting at place i
 unfoldable pub idleZero : List ℕ → List ℕ → ℕ → ℕ → Bool
 idleZero bufs busy i zero = true
 idleZero bufs busy i (suc n) =
@@ -52,7 +58,7 @@ idlesZero s bufs busy f (suc n) =
       | true ↦ elim (idleZero bufs busy (places * f) places) [ true ↦ idlesZero s bufs busy (suc f) n | false ↦ false ]
     ]
 
--- the lists, with each entry on exactly one, and the buffers that no request of them uses
+-- whether the lists are sound, with each entry on exactly one, and the buffers that no request uses are zero
 unfoldable pub listsOk : List ℕ → List ℕ → Bool
 listsOk s bufs = let w : Walked = allWalks s bufs in w .ok && allMet (w .seen) entries && idlesZero s bufs (w .busy) 0 files
 

@@ -12,7 +12,7 @@ use Rattle.words.specs.Word.{quiet}
 use Rattle.laws.specs.Bounds.{leastRefusal}
 use Rattle.sound.specs.Rows.{fileWord, sideAt, zeroWords}
 
--- the marks: an entry that was met is 1; a place is 0 idle, 1 waiting, 2 completed, 3 waiting with a timer
+-- the marks of a walk: an entry that was met is 1; a place is 0 idle, 1 waiting, 2 completed, 3 waiting with a timer
 pub record Walked : Type 0 where
   pub ok : Bool
   pub seen : List ℕ
@@ -31,7 +31,7 @@ placeIn s e = entryWord s e 0
 unfoldable pub sizeIn : List ℕ → ℕ → ℕ
 sizeIn s e = entryWord s e 6
 
--- the buffer of place i is zero from its byte n on
+-- whether the buffer of place i is zero from its byte n to its end
 unfoldable pub restZero : List ℕ → ℕ → ℕ → Bool
 restZero bufs i n = quiet bufs (bufferBytes * i + n) (bufferBytes - n)
 
@@ -65,7 +65,7 @@ writeEntry s bufs busy f e =
     && zeroWords s (dataAt e + 7) 2
     && restZero bufs (placeIn s e) (sizeIn s e)
 
--- a completed request of place i: place, status, which is no refusal's number, log, for a read the size, and zeros
+-- a completed request of place i: place, status, which is no refusal number, log, for a read the size, and zeros
 unfoldable pub portEntry : List ℕ → List ℕ → List ℕ → ℕ → ℕ → Bool
 portEntry s bufs busy i e =
     eqb (placeIn s e) i
@@ -77,7 +77,7 @@ portEntry s bufs busy i e =
     && zeroWords s (dataAt e + 7) 2
     && restZero bufs i (sizeIn s e)
 
--- a timer of a waiting place, with as much left as the one before; the first has a second at least
+-- a timer of a waiting place, with no less left than the one before; the first has at least one second
 unfoldable pub timerEntry : List ℕ → List ℕ → ℕ → ℕ → Bool
 timerEntry s busy low e =
     ltb (placeIn s e) (files * places)
@@ -86,7 +86,7 @@ timerEntry s busy low e =
     && leb low (entryWord s e 7)
     && eqb (entryWord s e 8) 0
 
--- the walks, from slot p on, with at most n steps: a list ends at nil, and nowhere else
+-- the walk of the free list from slot p, with at most n steps. A list ends at nil, and nowhere else
 
 unfoldable pub freeWalk : List ℕ → ℕ → List ℕ → List ℕ → ℕ → Walked
 freeWalk s p seen busy zero = walked false seen busy
@@ -99,7 +99,7 @@ freeWalk s p seen busy (suc n) =
       ]
     ]
 
--- of file f, `side` 1 for its read queue, 2 for its write queue
+-- the walk of a queue of file f from slot p; `side` is 1 for its read queue, 2 for its write queue
 unfoldable pub queueWalk : List ℕ → List ℕ → ℕ → ℕ → ℕ → List ℕ → List ℕ → ℕ → Walked
 queueWalk s bufs side f p seen busy zero = walked false seen busy
 queueWalk s bufs side f p seen busy (suc n) =
@@ -122,7 +122,7 @@ timerWalk s low p seen busy (suc n) =
       ]
     ]
 
--- the reply port of place i has one entry at most
+-- the walk of the reply port of place i, which has at most one entry
 unfoldable pub portWalk : List ℕ → List ℕ → ℕ → List ℕ → List ℕ → Walked
 portWalk s bufs i seen busy =
     let v : ℕ = nth s (replyPort i) in
@@ -134,22 +134,22 @@ portWalk s bufs i seen busy =
       ]
     ]
 
--- one after another: the next only where all was well
+-- one walk after another: the next is made only if all was well
 unfoldable pub andThen : Walked → (List ℕ → List ℕ → Walked) → Walked
 andThen w next = elim (w .ok) [ true ↦ next (w .seen) (w .busy) | false ↦ w ]
 
--- the queues of n files from file f on, on one side
+-- the walks of the queues of n files starting at file f, on one side
 unfoldable pub queueWalks : List ℕ → List ℕ → ℕ → ℕ → List ℕ → List ℕ → ℕ → Walked
 queueWalks s bufs side f seen busy zero = walked true seen busy
 queueWalks s bufs side f seen busy (suc n) =
     andThen (queueWalk s bufs side f (queueOf f side) seen busy (entries + 1)) (λ seen′ busy′. queueWalks s bufs side (suc f) seen′ busy′ n)
 
--- the ports of n places from place i on
+-- the walks of the ports of n places starting at place i
 unfoldable pub portWalks : List ℕ → List ℕ → ℕ → List ℕ → List ℕ → ℕ → Walked
 portWalks s bufs i seen busy zero = walked true seen busy
 portWalks s bufs i seen busy (suc n) = andThen (portWalk s bufs i seen busy) (λ seen′ busy′. portWalks s bufs (suc i) seen′ busy′ n)
 
--- all lists
+-- the walks of all lists
 unfoldable pub allWalks : List ℕ → List ℕ → Walked
 allWalks s bufs =
     andThen (freeWalk s freeList (replicate entries 0) (replicate (files * places) 0) (entries + 1)) (λ seen busy.
@@ -158,7 +158,7 @@ allWalks s bufs =
     andThen (portWalks s bufs 0 seen″ busy″ (files * places)) (λ seen‴ busy‴.
     timerWalk s 1 timerList seen‴ busy‴ (entries + 1)))))
 
--- every one of n entries was met
+-- whether every one of n entries was met
 unfoldable pub allMet : List ℕ → ℕ → Bool
 allMet seen zero = true
 allMet seen (suc n) = elim (eqb (getD seen n 0) 1) [ true ↦ allMet seen n | false ↦ false ]

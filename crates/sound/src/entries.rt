@@ -1,5 +1,5 @@
-// What an entry holds on each kind of list. A place that is read may be any word: it is tested before it is used.
-use crate::WAITING;
+// Tests what an entry holds on each kind of list. The place in an entry may be any word, so it is tested before it is used.
+use crate::marks::WAITING;
 use crate::quick::bytes::bare;
 use crate::rows::file_word;
 use crate::rows::place_word;
@@ -24,11 +24,11 @@ ghost use Rattle.sound.specs.Walks.{restZero, freeEntry, readEntry, writ
 
 const BUFFER_SIZE: u16 = limits::BUFFER_BYTES as u16;
 
-// A completed request's status is below the numbers of refusals.
+// The lowest refusal number. A completed request's status is below it.
 const LEAST_REFUSAL: u16 = refusals::UNSOUND as u16;
 
-// How many words of an entry's data are zero: of a read behind its keep, of a write between its unit and its size,
-// of a completed request before its status, and behind the size of both, and of a timer between its place and its seconds.
+// The number of words of an entry's data that are zero: of a read after its keep, of a write between its unit and its size, of a completed request between its
+// place and its status, of these two after the size, and of a timer between its place and its seconds.
 const READ_REST: usize = layout::DATA_WORDS - layout::ENTRY_STATUS;
 
 const WRITE_MIDDLE: usize = layout::ENTRY_SIZE - layout::ENTRY_LIMIT;
@@ -41,7 +41,7 @@ const TIMER_MIDDLE: usize = layout::ENTRY_SECONDS - layout::ENTRY_UNIT;
 
 const ENTRY_SPARE: usize = layout::ENTRY_SECONDS + 1;
 
-// Whether the buffer of place i is zero from its byte n on.
+// Whether the buffer of place i is zero from its byte n upward.
 pub fn rest_zero(buffers: &[u8], i: usize, n: usize) -> bool
     requires { ⌜ (length (now buffers) ≡ places * bufferBytes * files) × (i < files * places) ⌝ }
     ensures { λ r. ⌜ r ≡ restZero (now (buffers .entry)) i n ⌝ }
@@ -59,7 +59,7 @@ pub fn free_entry(s: &[u8], e: usize) -> bool
     bare(s, layout::DATA + layout::ENTRY_WORDS * e)
 }
 
-// Whether entry e belongs to an accessor of file f on that side, which has nothing outstanding yet.
+// Whether entry e belongs to an accessor of file f on that side that is not marked as having a request yet.
 fn owned(s: &[u8], busy: &[u8; layout::DESK_PLACES], side: u16, f: usize, e: usize) -> bool
     requires { ⌜ (length (now s) ≡ segmentBytes) × (e < entries) ⌝ }
     ensures { λ r. ⌜ r ≡ owned (now (s .entry)) (now (busy .entry)) side f e ⌝ }
@@ -139,7 +139,7 @@ fn write_entry(
     rest_zero(buffers, i, size as usize)
 }
 
-// Of the two queues of file f: what waits there on that side.
+// Whether entry e may wait in the queue of file f on that side.
 pub fn queue_entry(
     s: &[u8],
     buffers: &[u8],
@@ -157,7 +157,7 @@ pub fn queue_entry(
     write_entry(s, buffers, busy, f, e)
 }
 
-// How much a completed request may have in its buffer: a write has nothing.
+// The most bytes that a completed request may have in its buffer; none for a write.
 fn most_size(side: u16) -> u16
     ensures { λ r. ⌜ r ≡ cond (eqb side 1) bufferBytes 0 ⌝ }
 {
@@ -201,7 +201,7 @@ pub fn port_entry(
     rest_zero(buffers, i, size as usize)
 }
 
-// A timer has as many seconds left as the one before it, `low`, at least.
+// Whether entry e may be a timer: it has at least `low` seconds left, as many as the one before it.
 pub fn timer_entry(s: &[u8], busy: &[u8; layout::DESK_PLACES], low: u16, e: usize) -> bool
     requires { ⌜ (length (now s) ≡ segmentBytes) × (e < entries) ⌝ }
     ensures { λ r. ⌜ r ≡ timerEntry (now (s .entry)) (now (busy .entry)) low e ⌝ }

@@ -1,8 +1,8 @@
-// The files: their rows, those of their places, their room, and the records in their shares.
+// Tests the files: their rows, those of their places, their room, and the records in their shares.
+use crate::choice::places_ok;
 use crate::quick::room::ample;
 use crate::rows::file_word;
 use crate::rows::good_geometry;
-use crate::rows::places_ok;
 use crate::rows::unbuilt_ok;
 use accessors::sides::count_side;
 use blocks::by_file::share;
@@ -15,21 +15,19 @@ use segment::layout;
 ghost use mathlib.Core.Path.{_≡_};
 ghost use mathlib.Core.Bool.{true, _&&_};
 ghost use Prim.Native.Nat.{_+_, _*_, _<_};
-ghost use lib.Dec.{leb, eqb};
+ghost use lib.Dec.{eqb};
 ghost use lib.ListN.{length};
 ghost use Rattle.rules.specs.Limits.{files, places, shareBytes};
-ghost use Rattle.rules.specs.Geometry.{capacity};
+ghost use Rattle.rules.specs.Memories.{shareAt};
 ghost use Rattle.segment.specs.Layout.{segmentBytes};
 ghost use Rattle.shares.specs.Sound.{sound};
-ghost use Rattle.memory.specs.Stands.{shareAt};
-ghost use Rattle.accessors.specs.Sides.{countSide};
 ghost use Rattle.sound.specs.Rows.{fileWord, geoAt, goodGeo, placesOk};
-ghost use Rattle.sound.specs.Sound.{builtOk, fileOk, filesOk};
+ghost use Rattle.sound.specs.Sound.{roomOk, builtOk, fileOk, filesOk};
 
-// The two words of a file's row that are not used.
+// The first of the two words of a file's row that are not used.
 const FILE_SPARE: usize = layout::FILE_HELD + 1;
 
-// The row of a built file and those of its places.
+// Whether the row of a built file and those of its places are sound.
 fn rows_ok(s: &[u8], f: usize) -> bool
     requires { ⌜ (length (now s) ≡ segmentBytes) × (f < files) ⌝ }
     ensures { λ r. ⌜ r ≡ (goodGeo (geoAt (now (s .entry)) f) && eqb (fileWord (now (s .entry)) f 6) 0 && eqb (fileWord (now (s .entry)) f 7) 0 && placesOk (now (s .entry)) (places * f) places) ⌝ }
@@ -49,10 +47,10 @@ fn rows_ok(s: &[u8], f: usize) -> bool
     places_ok(s, PLACES * f, PLACES)
 }
 
-// "one place is kept for each close record", and a file with writers alone still has room for a record.
+// Whether there is room: "one place is kept for each close record", and the open writers alone leave room for a record.
 fn room_ok(s: &[u8], f: usize) -> bool
     requires { ⌜ (length (now s) ≡ segmentBytes) × (f < files) × (goodGeo (geoAt (now s) f) ≡ true) ⌝ }
-    ensures { λ r. ⌜ r ≡ (leb (fileWord (now (s .entry)) f 4 + fileWord (now (s .entry)) f 5 + countSide (now (s .entry)) f 2) (capacity (fileWord (now (s .entry)) f 1) (fileWord (now (s .entry)) f 2)) && leb (countSide (now (s .entry)) f 2 + 1) (capacity (fileWord (now (s .entry)) f 1) (fileWord (now (s .entry)) f 2))) ⌝ }
+    ensures { λ r. ⌜ r ≡ roomOk (now (s .entry)) f ⌝ }
 {
     let factor = file_word(s, f, layout::FILE_FACTOR) as u32;
     let blocks = file_word(s, f, layout::FILE_BLOCKS) as u32;
@@ -69,7 +67,7 @@ fn room_ok(s: &[u8], f: usize) -> bool
     writers + 1 <= most
 }
 
-// The records held stand in the share.
+// Whether the share holds the records that the row says.
 fn held_ok(s: &[u8], blocks: &[u8], f: usize) -> bool
     requires { ⌜ (length (now s) ≡ segmentBytes) × (length (now blocks) ≡ shareBytes * files) × (f < files) × (goodGeo (geoAt (now s) f) ≡ true) ⌝ }
     ensures { λ r. ⌜ r ≡ sound (geoAt (now (s .entry)) f) (shareAt f (now (blocks .entry))) (fileWord (now (s .entry)) f 3) (fileWord (now (s .entry)) f 4) (fileWord (now (s .entry)) f 5) ⌝ }
@@ -98,7 +96,7 @@ fn built_ok(s: &[u8], blocks: &[u8], f: usize) -> bool
     held_ok(s, blocks, f)
 }
 
-// R is 1 at least: a file is built exactly when its R is not 0.
+// Whether file f is sound. A file is built exactly if its R is not 0.
 fn file_ok(s: &[u8], blocks: &[u8], f: usize) -> bool
     requires { ⌜ (length (now s) ≡ segmentBytes) × (length (now blocks) ≡ shareBytes * files) × (f < files) ⌝ }
     ensures { λ r. ⌜ r ≡ fileOk (now (s .entry)) (now (blocks .entry)) f ⌝ }

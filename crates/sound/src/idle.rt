@@ -1,4 +1,4 @@
-// The buffers that no request uses. Nothing is asked of those of a file that is not built.
+// Tests the buffers that no request uses. Those of a file that is not built may hold anything.
 use crate::entries::rest_zero;
 use crate::quick;
 use crate::rows::file_word;
@@ -27,7 +27,7 @@ fn place_idle(buffers: &[u8], busy: &[u8; layout::DESK_PLACES], i: usize) -> boo
     rest_zero(buffers, i, 0)
 }
 
-// Those of the n places from place i on.
+// Whether the buffers of the n places from place i upward are zero, except those that a request uses.
 pub fn places_idle(buffers: &[u8], busy: &[u8; layout::DESK_PLACES], i: usize, n: usize) -> bool
     requires { ⌜ (length (now buffers) ≡ places * bufferBytes * files) × (i + n ≤ files * places) ⌝ }
     ensures { λ r. ⌜ r ≡ idleZero (now (buffers .entry)) (now (busy .entry)) i n ⌝ }

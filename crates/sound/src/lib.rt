@@ -1,19 +1,22 @@
-// Whether the lent memories are sound: the rows and blocks of each file, one walk of each list, and the buffers that no request uses.
-// It is in the way of every call. Nothing is copied, and of files that are not built only rows and list heads are read.
+// Tests whether the lent memories are sound: the rows and blocks of each file, one walk of each list, and the buffers that no request uses.
+// Every call except fresh makes this test. Nothing is copied, and of files that are not built only rows and list heads are read.
+mod choice;
 mod entries;
 mod files;
 mod idle;
+mod marks;
 mod quick;
 mod rows;
 mod walks;
 
+use choice::all_walks;
 use files::files_ok;
 use idle::files_idle;
 use kinds::limits::BLOCKS_BYTES;
 use kinds::limits::BUFFERS_BYTES;
+use marks::ENTRY_COUNT;
 use segment::layout;
 use walks::all_met;
-use walks::all_walks;
 ghost use mathlib.Core.Path.{_≡_};
 ghost use Prim.Native.Nat.{_*_};
 ghost use lib.ListN.{length};
@@ -22,19 +25,7 @@ ghost use Rattle.segment.specs.Layout.{segmentBytes};
 ghost use Rattle.sound.specs.Sound.{listsOk, soundly};
 ghost use Rattle.memory.specs.Memories.{memories};
 
-// How many entries may be marked.
-const ENTRY_COUNT: usize = layout::ENTRIES as usize;
-
-// The marks: an entry that was met; a place whose request waits, is completed, or waits with a timer.
-const MET: u8 = 1;
-
-const WAITING: u8 = 1;
-
-const COMPLETED: u8 = 2;
-
-const TIMED: u8 = 3;
-
-// Whether the lists are in order, and the buffers that no request of them uses.
+// Whether the lists are in order, and the buffers that none of their requests uses are zero.
 fn lists_ok(s: &[u8], buffers: &[u8]) -> bool
     requires { ⌜ (length (now s) ≡ segmentBytes) × (length (now buffers) ≡ places * bufferBytes * files) ⌝ }
     ensures { λ r. ⌜ r ≡ listsOk (now (s .entry)) (now (buffers .entry)) ⌝ }
@@ -50,7 +41,7 @@ fn lists_ok(s: &[u8], buffers: &[u8]) -> bool
     files_idle(s, buffers, &busy)
 }
 
-// Whether the memories stand for a desk of the rules. The files first: theirs is the work that is skipped where none is built.
+// Whether the memories stand for a desk of the rules. The files come first: most of their work is skipped if none is built.
 pub fn sound(s: &[u8], blocks: &[u8], buffers: &[u8]) -> bool
     ensures { λ r. ⌜ r ≡ soundly (memories (now (s .entry)) (now (blocks .entry)) (now (buffers .entry))) ⌝ }
 {

@@ -1,5 +1,4 @@
-// The rows of the segment: those of a file, built or not, and of its places. A place's rows stand behind all the files'.
-use crate::quick;
+// Tests the rows of the segment: those of a file, built or not, and of its places. The rows of places stand after those of all files.
 use kinds::limits::LEAST_CAPACITY;
 use kinds::limits::MOST_FACTOR;
 use kinds::limits::PLACES;
@@ -15,9 +14,9 @@ ghost use lib.Dec.{leb, eqb};
 ghost use lib.ListN.{length};
 ghost use Rattle.rules.specs.Limits.{files, places};
 ghost use Rattle.segment.specs.Layout.{segmentWords, segmentBytes, fileWidth, placeWidth};
-ghost use Rattle.sound.specs.Rows.{fileWord, placeWord, zeroWords, goodGeo, goodPlace, placeOk, placesOk, unbuiltOk};
+ghost use Rattle.sound.specs.Rows.{fileWord, placeWord, zeroWords, goodGeo, goodPlace, placeOk, unbuiltOk};
 
-// Whether n words from word k on are zero, which is whether their bytes are (`zero-bytes`, proofs/Bytes.antt).
+// Whether n words, starting at word k, are zero: exactly if their bytes are (`zero-bytes`, proofs/Bytes.antt).
 pub fn zero_words(s: &[u8], k: usize, n: usize) -> bool
     requires { ⌜ (length (now s) ≡ segmentBytes) × (k + n ≤ segmentWords) ⌝ }
     ensures { λ r. ⌜ r ≡ zeroWords (now (s .entry)) k n ⌝ }
@@ -25,7 +24,7 @@ pub fn zero_words(s: &[u8], k: usize, n: usize) -> bool
     words::quiet(s, 2 * k, 2 * n)
 }
 
-// Word j of file f's row, and of place i's.
+// Word j of a row: `file_word` of file f's, `place_word` of place i's.
 
 pub fn file_word(s: &[u8], f: usize, j: usize) -> u16
     requires { ⌜ (length (now s) ≡ segmentBytes) × (f < files) × (j < fileWidth) ⌝ }
@@ -41,7 +40,7 @@ pub fn place_word(s: &[u8], i: usize, j: usize) -> u16
     segment::get(s, layout::PLACE_ROWS + layout::PLACE_ROW_WORDS * i + j)
 }
 
-// "C = B × D" is counted at 32 bits: D may be any word yet.
+// Whether R, B and D are those of a sound file. "C = B × D" is computed in 32 bits, since D may still be any word.
 pub fn good_geometry(words: u16, factor: u16, blocks: u16) -> bool
     ensures { λ r. ⌜ r ≡ goodGeo (record { words = words; factor = factor; blocks = blocks }) ⌝ }
 {
@@ -63,7 +62,7 @@ pub fn good_geometry(words: u16, factor: u16, blocks: u16) -> bool
     geometry::fits_within(words, factor as u8, blocks, SHARE_WORDS)
 }
 
-// A reader's ID is 0, a writer's is 1 at least.
+// Whether the ID fits the side: a reader's ID is 0, a writer's is at least 1.
 pub fn good_side(side: u16, id: u16) -> bool
     ensures { λ r. ⌜ r ≡ (eqb side 1 && eqb id 0 || eqb side 2 && leb 1 id) ⌝ }
 {
@@ -111,24 +110,7 @@ pub fn place_ok(s: &[u8], i: usize) -> bool
     zero_words(s, at + layout::PLACE_FIELDS, layout::PLACE_SPARE)
 }
 
-// The n places from place i on.
-pub fn places_ok(s: &[u8], i: usize, n: usize) -> bool
-    requires { ⌜ (length (now s) ≡ segmentBytes) × (i + n ≤ files * places) ⌝ }
-    ensures { λ r. ⌜ r ≡ placesOk (now (s .entry)) i n ⌝ }
-{
-    let mut p = i;
-    let mut left = n;
-    while left > 0 {
-        if !quick::rows::place_ok(s, p) {
-            return false;
-        }
-        p += 1;
-        left -= 1;
-    }
-    true
-}
-
-// All of a file that is not built is zero.
+// Whether the rows of file f, which is not built, and of its places are all zero.
 pub fn unbuilt_ok(s: &[u8], f: usize) -> bool
     requires { ⌜ (length (now s) ≡ segmentBytes) × (f < files) ⌝ }
     ensures { λ r. ⌜ r ≡ unbuiltOk (now (s .entry)) f ⌝ }

@@ -1,28 +1,25 @@
-// The walk of each list: every entry is met once, and marks the place that it belongs to. A list ends at NIL and nowhere else;
-// one turn more than there are entries is enough, since none is met twice.
-use crate::COMPLETED;
-use crate::ENTRY_COUNT;
-use crate::MET;
-use crate::TIMED;
-use crate::WAITING;
+// Walks each list: every entry is met once, and marks the place that it belongs to. A list ends at NIL and nowhere else.
+// One turn more than there are entries is enough, since no entry is met twice.
 use crate::entries::free_entry;
 use crate::entries::port_entry;
 use crate::entries::queue_entry;
 use crate::entries::timer_entry;
-use crate::quick;
+use crate::marks::COMPLETED;
+use crate::marks::ENTRY_COUNT;
+use crate::marks::MET;
+use crate::marks::TIMED;
+use crate::marks::WAITING;
 use crate::quick::order::in_order;
 use accessors::outstanding::queue_of;
 use kinds::limits::FILES;
-use kinds::sides::READER;
-use kinds::sides::WRITER;
 use segment::layout;
 ghost use mathlib.Core.Path.{_≡_};
 ghost use mathlib.Core.List.{List};
 ghost use Prim.Native.Nat.{ℕ, _+_, _*_, _<_};
-ghost use lib.ListN.{length, replicate};
+ghost use lib.ListN.{length};
 ghost use Rattle.rules.specs.Limits.{files, places, entries, bufferBytes};
 ghost use Rattle.segment.specs.Layout.{segmentBytes, fileRows};
-ghost use Rattle.sound.specs.Walks.{walked, freeWalk, queueWalk, timerWalk, portWalk, queueWalks, portWalks, allWalks, allMet};
+ghost use Rattle.sound.specs.Walks.{walked, freeWalk, queueWalk, timerWalk, portWalk, queueWalks, portWalks, allMet};
 
 const TURNS: usize = ENTRY_COUNT + 1;
 
@@ -33,8 +30,8 @@ fn number(x: u8) -> usize
     x as usize
 }
 
-// The marks on places stay as they are. An entry's number is one byte, and entries in order are passed at once.
-fn free_walk(s: &[u8], head: usize, seen: &mut [u8; ENTRY_COUNT]) -> bool
+// Walks the free list. The marks on places stay as they are. An entry's number is one byte, and entries in order are passed at once.
+pub fn free_walk(s: &[u8], head: usize, seen: &mut [u8; ENTRY_COUNT]) -> bool
     requires { ⌜ (length (now s) ≡ segmentBytes) × (head < fileRows) ⌝ }
     ensures { λ r. ⌜ ((busy : List ℕ) → walked r (now (seen .exit)) busy ≡ freeWalk (now (s .entry)) head (now (seen .entry)) busy (entries + 1)) ⌝ }
 {
@@ -64,7 +61,7 @@ fn free_walk(s: &[u8], head: usize, seen: &mut [u8; ENTRY_COUNT]) -> bool
     false
 }
 
-// The queue of file f on that side.
+// Walks the queue of file f on that side.
 fn queue_walk(
     s: &[u8],
     buffers: &[u8],
@@ -101,8 +98,8 @@ fn queue_walk(
     false
 }
 
-// Each timer has a second left at least.
-fn timer_walk(
+// Walks the timer list. Each timer has at least one second left.
+pub fn timer_walk(
     s: &[u8],
     head: usize,
     seen: &mut [u8; ENTRY_COUNT],
@@ -137,7 +134,7 @@ fn timer_walk(
     false
 }
 
-// A reply port has one entry at most.
+// Tests the reply port of place i, which has at most one entry.
 fn port_walk(
     s: &[u8],
     buffers: &[u8],
@@ -167,7 +164,7 @@ fn port_walk(
     true
 }
 
-// The queues of all files on that side.
+// Walks the queues of all files on that side.
 pub fn queue_walks(
     s: &[u8],
     buffers: &[u8],
@@ -189,7 +186,7 @@ pub fn queue_walks(
     true
 }
 
-// The ports of all places.
+// Tests the reply ports of all places.
 pub fn port_walks(
     s: &[u8],
     buffers: &[u8],
@@ -209,33 +206,7 @@ pub fn port_walks(
     true
 }
 
-// All lists, with no mark set yet.
-pub fn all_walks(
-    s: &[u8],
-    buffers: &[u8],
-    seen: &mut [u8; ENTRY_COUNT],
-    busy: &mut [u8; layout::DESK_PLACES],
-) -> bool
-    requires { ⌜ (length (now s) ≡ segmentBytes) × (length (now buffers) ≡ places * bufferBytes * files) ⌝ }
-    requires { ⌜ (now seen ≡ replicate entries 0) × (now busy ≡ replicate (files * places) 0) ⌝ }
-    ensures { λ r. ⌜ walked r (now (seen .exit)) (now (busy .exit)) ≡ allWalks (now (s .entry)) (now (buffers .entry)) ⌝ }
-{
-    if !free_walk(s, layout::FREE_LIST, seen) {
-        return false;
-    }
-    if !quick::heads::queue_walks(s, buffers, READER, seen, busy) {
-        return false;
-    }
-    if !quick::heads::queue_walks(s, buffers, WRITER, seen, busy) {
-        return false;
-    }
-    if !quick::heads::port_walks(s, buffers, seen, busy) {
-        return false;
-    }
-    timer_walk(s, layout::TIMER_LIST, seen, busy)
-}
-
-// Whether every entry was met: one `or` of what differs, with no way out of the loop, as in `words::quiet`.
+// Whether every entry was met: one `or` of the differences, with no early exit from the loop, as in `words::quiet`.
 pub fn all_met(seen: &[u8; ENTRY_COUNT]) -> bool
     ensures { λ r. ⌜ r ≡ allMet (now (seen .entry)) entries ⌝ }
 {

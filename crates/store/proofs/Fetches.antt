@@ -1,4 +1,4 @@
--- A read has fetched: the file in hand is the rules' file behind it, and the record at the place is the one that they give.
+-- A read has fetched: the file in hand is the rules' file after the read, and the record at the place is the one that they give.
 use Prim.Native.Nat.{ℕ}
 use mathlib.Core.Path.{_≡_, refl, sym, ap, _∙_, subst}
 use mathlib.Core.Bool.{Bool, true, false}
@@ -8,6 +8,7 @@ use native.Mathlib.Omega.{arith}
 use Rattle.rules.specs.State.{Rec, Geo, Store, Built}
 use Rattle.rules.specs.Store.{fetch}
 use Rattle.rules.specs.Requests.{withStore, say, behind}
+use Rattle.rules.specs.Memories.{shareAt}
 use Rattle.shares.specs.Holds.{Sized, Holds}
 use Rattle.shares.specs.Back.{recAt}
 use Rattle.shares.specs.Places.{headAt}
@@ -21,9 +22,7 @@ use Rattle.records.specs.Reading.{Readable}
 use Rattle.records.specs.Fetch.{Stores, ahead}
 use Rattle.records.proofs.cursor.Laws.{stands-readable}
 use Rattle.records.proofs.fetch.Finds.{fetch-none, fetch-some}
-use Rattle.blocks.specs.Memory as code
 use Rattle.memory.specs.Memories.{memories}
-use Rattle.memory.specs.Stands.{shareAt}
 use Rattle.midst.specs.declared.File as hand
 use Rattle.midst.specs.File.{inHand}
 use Rattle.midst.specs.Mid.{Start, Mid}
@@ -55,11 +54,10 @@ pub got-some : (r : Fetched) (xs : List ℕ) → r .got ≡ true → gotAt r xs 
 unfolding gotAt
 got-some r xs e = rw e refl
 
-module _ (f : ℕ) (typed keep : Bool) (blocks : List ℕ) (x : hand.File) (r : Fetched) (is : (s : Store) → Stores (x .words) (x .ring) (code.shareAt f blocks) s → r ≡ fetchedOf x typed keep s) where
+module _ (f : ℕ) (typed keep : Bool) (blocks : List ℕ) (x : hand.File) (r : Fetched) (is : (s : Store) → Stores (x .words) (x .ring) (shareAt f blocks) s → r ≡ fetchedOf x typed keep s) where
   module _ {o : Start} {xs buffers : List ℕ} {b : Built} (M : Mid Stored f o (memories xs blocks buffers) x b) where
-    -- of the file that is in hand
+    -- what is fetched of the file that is in hand
     own : r ≡ fetchedOf (inHand b) typed keep (b .store)
-    unfolding shareAt
     own = is (b .store) (mid-stores M (M .good .0) (M .good .1)) ∙ ap (λ (y : hand.File). fetchedOf y typed keep (b .store)) (M .row)
 
     behind-is : (p : ℕ) → r .file ≡ inHand (fetching p typed keep b)
@@ -75,20 +73,19 @@ module _ (f : ℕ) (typed keep : Bool) (blocks : List ℕ) (x : hand.File) (r : 
       subst (λ (y : hand.File). Mid Bare f o (memories xs blocks buffers) y (fetching p typed keep b)) (sym (behind-is M p)) (mid-behind {J = Bare} M p typed keep tt)
 
   pub fetch-gets : Gets f typed keep blocks x r
-  unfolding shareAt
   fetch-gets = λ o xs buffers b M. got-is M ∙ ap (λ (q : Fetched). gotAt q (b .store .share)) (sym (own M)) ∙ ap (gotAt r) (sym (M .share))
 
 -- what the code of fetch has: the share, and the cursor there
-module _ (f : ℕ) (typed keep : Bool) (blocks own : List ℕ) (share : own ≡ code.shareAt f blocks) (x : hand.File) (k : Cursor) (stands : Stands (x .words) own k)
+module _ (f : ℕ) (typed keep : Bool) (blocks own : List ℕ) (share : own ≡ shareAt f blocks) (x : hand.File) (k : Cursor) (stands : Stands (x .words) own k)
     (found : (s : Store) → Stores (x .words) (x .ring) own s → k .ring ≡ ringOf (geo (x .words) (x .ring)) (ahead (geo (x .words) (x .ring)) typed s)) where
   abbrev Says : Fetched → Type 0
   Says r =
-      ((s : Store) → Stores (x .words) (x .ring) (code.shareAt f blocks) s → r ≡ fetchedOf x typed keep s)
-      × ((r .got ≡ true → Readable (code.shareAt f blocks) (r .at)) × (((p : ℕ) → Keeps f (fetching p typed keep) blocks x blocks (r .file)) × Gets f typed keep blocks x r))
+      ((s : Store) → Stores (x .words) (x .ring) (shareAt f blocks) s → r ≡ fetchedOf x typed keep s)
+      × ((r .got ≡ true → Readable (shareAt f blocks) (r .at)) × (((p : ℕ) → Keeps f (fetching p typed keep) blocks x blocks (r .file)) × Gets f typed keep blocks x r))
 
   says : (r : Fetched) → ((s : Store) → Stores (x .words) (x .ring) own s → r ≡ fetchedOf x typed keep s) → (r .got ≡ true → Readable own (r .at)) → Says r
   says r is read =
-      let so : (s : Store) → Stores (x .words) (x .ring) (code.shareAt f blocks) s → r ≡ fetchedOf x typed keep s = λ s S. is s (subst (λ (zs : List ℕ). Stores (x .words) (x .ring) zs s) (sym share) S) in
+      let so : (s : Store) → Stores (x .words) (x .ring) (shareAt f blocks) s → r ≡ fetchedOf x typed keep s = λ s S. is s (subst (λ (zs : List ℕ). Stores (x .words) (x .ring) zs s) (sym share) S) in
       (so, ((λ t. subst (λ (zs : List ℕ). Readable zs (r .at)) share (read t)), (fetch-keeps f typed keep blocks x r so, fetch-gets f typed keep blocks x r so)))
 
   pub says-none : k .ring .held ≡ 0 → Says (record { got = false; at = k .at; file = record { words = x .words; ring = k .ring } })

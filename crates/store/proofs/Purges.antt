@@ -1,4 +1,4 @@
--- All records are purged: the file in hand goes on behind its last record, and nothing is written.
+-- All records are purged: the file in hand goes on after its last record, and nothing is written.
 use Prim.Native.Nat.{ℕ}
 use mathlib.Core.Path.{_≡_, refl, sym, ap, subst, _∙_}
 use mathlib.Core.List.{List, [], _∷_, _++_}
@@ -24,7 +24,7 @@ pub emptied-stored : (b : Built) → Stored b → Stored (emptied b)
 unfolding emptied say withStore
 emptied-stored b (k, h) = (k, holds-purge (b .geo) (b .store) h)
 
--- it takes no entry
+-- a purge takes no entry
 purges-same : (f : ℕ) (hs : List Hap) (s : Alloc) → allotAll f (hs ++ (purges ∷ [])) s ≡ allotAll f hs s
 unfolding allotAll allot
 purges-same f [] s = refl

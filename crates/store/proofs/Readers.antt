@@ -7,8 +7,8 @@ use mathlib.Core.Option.{Option, none, some}
 use Rattle.rules.specs.State.{Rec, Built}
 use Rattle.rules.specs.Store.{fetch}
 use Rattle.rules.specs.Settle.{handed}
+use Rattle.rules.specs.Memories.{shareAt}
 use Rattle.shares.specs.Back.{recAt}
-use Rattle.blocks.specs.Memory as code
 use Rattle.memory.specs.Memories.{Memories}
 use Rattle.memory.specs.Fine.{Fine}
 use Rattle.midst.specs.declared.File as hand
@@ -34,12 +34,12 @@ module _ {f : ℕ} {o : Start} {m : Memories} {x : hand.File} {b : Built} (M : M
       (subst (λ (w : Bool). Keeps f (fetching p w keep) (m .blocks) x (m .blocks) (z .file)) is-typed (subst (λ (w : Bool). Keeps f (fetching p t w) (m .blocks) x (m .blocks) (z .file)) is-kept keeps))
       (fine-stored (M .good)) fetched-fine
 
-  got-is : fetch (b .geo) typed keep (b .store) .got ≡ gotAt z (code.shareAt f (m .blocks))
+  got-is : fetch (b .geo) typed keep (b .store) .got ≡ gotAt z (shareAt f (m .blocks))
   got-is =
       sym (ap₂ {C = Option Rec} (λ (v w : Bool). fetch (b .geo) v w (b .store) .got) is-typed is-kept) ∙ gets o (m .segment) (m .buffers) b (mid-known M (fine-stored (M .good)))
 
   pub fetched-none : z .got ≡ false → fetch (b .geo) typed keep (b .store) .got ≡ none
   fetched-none n = got-is ∙ got-none z _ n
 
-  pub fetched-some : z .got ≡ true → fetch (b .geo) typed keep (b .store) .got ≡ some (recAt (code.shareAt f (m .blocks)) (z .at))
+  pub fetched-some : z .got ≡ true → fetch (b .geo) typed keep (b .store) .got ≡ some (recAt (shareAt f (m .blocks)) (z .at))
   fetched-some n = got-is ∙ got-some z _ n

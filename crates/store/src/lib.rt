@@ -1,5 +1,5 @@
-// The one door for records: each that is put, goes or is purged passes here, with the file in hand by value. What a record's coming and going is to change
-// beside share and ring is written here once; `Keeps` (specs/Door.antt) says that the memories in the midst of a call go on to stand for the rules' next file.
+// The one door for records: every record that is put, goes or is purged passes here, with the file in hand by value. What must change beside share and ring when a
+// record comes or goes is written here once. `Keeps` (specs/Door.antt) says that the memories in the midst of a call then stand for the rules' next file.
 ghost use mathlib.Core.Path.{_≡_};
 ghost use mathlib.Core.Bool.{true};
 ghost use mathlib.Core.List.{List};
@@ -9,12 +9,13 @@ ghost use lib.Seq.{sets};
 ghost use Rattle.rules.specs.Limits.{files, places, shareBytes};
 ghost use Rattle.rules.specs.State.{Store};
 ghost use Rattle.rules.specs.Requests.{putRec};
+ghost use Rattle.rules.specs.Memories.{shareAt};
 ghost use Rattle.ring.specs.Ring.{Ranged};
 ghost use Rattle.ring.specs.Held.{Held};
 ghost use Rattle.records.specs.Reading.{Readable};
 ghost use Rattle.records.specs.Fetch.{Stores};
 ghost use Rattle.blocks.specs.Writing.{recOf, Ready, inscribed};
-ghost use Rattle.blocks.specs.Memory.{blocksBytes, shareAt};
+ghost use Rattle.blocks.specs.Memory.{blocksBytes};
 ghost use Rattle.store.specs.Door.{putIn, takenRing, fetchedOf, purgedOf, fitsRing, Keeps, fetching, Gets, emptied};
 use blocks::by_file::put_at;
 use blocks::by_file::share;
@@ -22,14 +23,14 @@ use midst::File;
 use records::fetch::found;
 use ring::Ring;
 
-// What a read finds: whether there is a record for it, where it stands in the file's share, and the file behind the read.
+// What a read finds: whether there is a record for it, where it stands in the file's share, and the file after the read.
 pub struct Fetched {
     pub got: bool,
     pub at: usize,
     pub file: File,
 }
 
-// A record put behind the others of file f.
+// Puts a record after the others of file f.
 pub fn put(blocks: &mut [u8], f: usize, file: File, typ: u16, id: u16, data: &[u8]) -> File
     requires { ⌜ (length (now blocks) ≡ blocksBytes) × (f < files) ⌝ }
     requires { ⌜ Ready (file .words) (file .ring) (shareAt f (now blocks)) (length (now «data»)) ⌝ }
@@ -53,7 +54,7 @@ fn taken(ring: Ring, keep: bool) -> Ring
     if keep { ring } else { ring.advanced() }
 }
 
-// What a read finds in file f: open and close records at the head go, unless it is typed (46), and so does the record that it gets, unless it is kept (47).
+// Fetches what a read finds in file f. Open and close records at the head go, unless the read is typed (46); the record that it gets goes too, unless it is kept (47).
 pub fn fetch(blocks: &[u8], f: usize, file: File, typed: bool, keep: bool) -> Fetched
     requires { ⌜ (length (now blocks) ≡ blocksBytes) × (f < files) ⌝ }
     requires { ⌜ Held (file .words) (file .ring) (shareAt f (now blocks)) ⌝ }
@@ -84,7 +85,7 @@ pub fn fetch(blocks: &[u8], f: usize, file: File, typed: bool, keep: bool) -> Fe
     }
 }
 
-// All records gone.
+// Removes all records of the file.
 pub fn purge(file: File) -> File
     requires { ⌜ Ranged (file .ring) ⌝ }
     ensures file { λ r. ⌜ r ≡ purgedOf file ⌝ }

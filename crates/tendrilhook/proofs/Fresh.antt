@@ -11,7 +11,7 @@ use Rattle.memory.specs.Fresh.{freshMemories}
 use Rattle.fresh.specs.Made.{Made, unmade, made}
 use Rattle.promises.specs.Promise.{fresh, status, sized, Promise}
 
--- three tests, one behind the other, are one
+-- three tests, one after the other, are one
 three : (a b c : Bool) (u f : Made) → elim a [ false ↦ u | true ↦ elim b [ false ↦ u | true ↦ elim c [ false ↦ u | true ↦ f ] ] ] ≡ cond (a && (b && c)) f u
 three true true true u f = refl
 three true true false u f = refl

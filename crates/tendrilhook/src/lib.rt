@@ -3,9 +3,9 @@ use kinds::limits::RECORD_ROOM;
 use kinds::refusals;
 ghost use Rattle.promises.specs.Promise.{Promise};
 ghost use Rattle.promises.specs.Promise as host;
-ghost use Rattle.memory.specs.Memories.{memories};
+ghost use Rattle.memory.specs.Memories.{was, left};
 
-// One event: the answer's length; 0 where a lent memory has the wrong length or unsound content, and then nothing is written.
+// Makes one event call and gives the answer's length; 0 if a lent memory has the wrong length or unsound content, and then nothing is written.
 #[no_mangle]
 pub extern "C" fn tendrilhook_event(
     segment: &mut [u8],
@@ -14,20 +14,20 @@ pub extern "C" fn tendrilhook_event(
     answer: &mut [u8],
     frame: &[u8],
 ) -> usize
-    ensures { λ r. ⌜ Promise (memories (now (segment .entry)) (now (blocks .entry)) (now (buffers .entry))) (host.event (now (answer .entry)) (now («frame» .entry))) (host.answer r (now (answer .exit))) (memories (now (segment .exit)) (now (blocks .exit)) (now (buffers .exit))) ⌝ }
+    ensures { λ r. ⌜ Promise (was segment blocks buffers) (host.event (now (answer .entry)) (now («frame» .entry))) (host.answer r (now (answer .exit))) (left segment blocks buffers) ⌝ }
 {
     desk::event(segment, blocks, buffers, answer, frame)
 }
 
-// A fresh desk: its status, 0, or 29 where a length is wrong, and then nothing is written.
+// Makes a fresh desk and gives the status: 0, or 29 if a length is wrong, and then nothing is written.
 #[no_mangle]
 pub extern "C" fn tendrilhook_fresh(segment: &mut [u8], blocks: &mut [u8], buffers: &mut [u8]) -> u8
-    ensures { λ r. ⌜ Promise (memories (now (segment .entry)) (now (blocks .entry)) (now (buffers .entry))) host.fresh (host.status r) (memories (now (segment .exit)) (now (blocks .exit)) (now (buffers .exit))) ⌝ }
+    ensures { λ r. ⌜ Promise (was segment blocks buffers) host.fresh (host.status r) (left segment blocks buffers) ⌝ }
 {
     fresh::fresh(segment, blocks, buffers)
 }
 
-// What a reader would get, copied into the record memory: its status, and in `length` how many bytes are shown. C is handed no part of a memory.
+// Copies what a reader would get into the record memory; gives the status, and in `length` how many bytes are shown. C is handed no part of a memory.
 #[no_mangle]
 pub extern "C" fn tendrilhook_look<'a>(
     segment: &[u8],
@@ -38,7 +38,7 @@ pub extern "C" fn tendrilhook_look<'a>(
     record: &mut [u8],
     length: &mut usize,
 ) -> u8
-    ensures { λ r. ⌜ Promise (memories (now (segment .entry)) (now (blocks .entry)) (now (buffers .entry))) (host.look file reader (now («record» .entry))) (host.written r (now (length .exit)) (now («record» .exit))) (memories (now (segment .entry)) (now (blocks .entry)) (now (buffers .entry))) ⌝ }
+    ensures { λ r. ⌜ Promise (was segment blocks buffers) (host.look file reader (now («record» .entry))) (host.written r (now (length .exit)) (now («record» .exit))) (was segment blocks buffers) ⌝ }
 {
     if record.len() != RECORD_ROOM {
         *length = 0;
@@ -51,7 +51,7 @@ pub extern "C" fn tendrilhook_look<'a>(
     looking::status(what)
 }
 
-// A file's sheet: its status, and in `length` the sheet's length, 0 where it is refused.
+// Saves a file's sheet; gives the status, and in `length` the sheet's length, 0 if it is refused.
 #[no_mangle]
 pub extern "C" fn tendrilhook_save(
     segment: &[u8],
@@ -61,14 +61,14 @@ pub extern "C" fn tendrilhook_save(
     output: &mut [u8],
     length: &mut usize,
 ) -> u8
-    ensures { λ r. ⌜ Promise (memories (now (segment .entry)) (now (blocks .entry)) (now (buffers .entry))) (host.save file (now (output .entry))) (host.written r (now (length .exit)) (now (output .exit))) (memories (now (segment .entry)) (now (blocks .entry)) (now (buffers .entry))) ⌝ }
+    ensures { λ r. ⌜ Promise (was segment blocks buffers) (host.save file (now (output .entry))) (host.written r (now (length .exit)) (now (output .exit))) (was segment blocks buffers) ⌝ }
 {
     let saved = saving::save(segment, blocks, buffers, file, output);
     *length = saved.length;
     saved.status
 }
 
-// A file that is not built, from a sheet: its status.
+// Builds a file that is not built from a sheet, and gives the status.
 #[no_mangle]
 pub extern "C" fn tendrilhook_load(
     segment: &mut [u8],
@@ -77,7 +77,7 @@ pub extern "C" fn tendrilhook_load(
     file: usize,
     text: &[u8],
 ) -> u8
-    ensures { λ r. ⌜ Promise (memories (now (segment .entry)) (now (blocks .entry)) (now (buffers .entry))) (host.load file (now («text» .entry))) (host.status r) (memories (now (segment .exit)) (now (blocks .exit)) (now (buffers .exit))) ⌝ }
+    ensures { λ r. ⌜ Promise (was segment blocks buffers) (host.load file (now («text» .entry))) (host.status r) (left segment blocks buffers) ⌝ }
 {
     loading::load(segment, blocks, buffers, file, text)
 }

@@ -13,7 +13,7 @@ pub decimal-short : (n : ℕ) → length (decimal n) ≤ mostDigits
 unfolding decimal fiveDigits
 decimal-short n = omega (arith, length-drop (leading n) (fiveDigits n))
 
--- the digits a to e behind the zeros in front
+-- the digits a to e after the leading zeros
 module _ (n a b c d e z : ℕ) (ea : a ≡ 48 + n / 10000 % 10) (eb : b ≡ 48 + n / 1000 % 10) (ec : c ≡ 48 + n / 100 % 10) (ed : d ≡ 48 + n / 10 % 10) (ee : e ≡ 48 + n % 10)
     (ez : z ≡ leading n) where
   digits-are : take (mostDigits - z) (drop z (a ∷ b ∷ c ∷ d ∷ e ∷ [])) ≡ decimal n

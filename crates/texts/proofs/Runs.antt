@@ -1,4 +1,4 @@
--- Texts put one behind another.
+-- Texts put one after another.
 use Prim.Native.Nat.{ℕ, _+_, _≤_}
 use mathlib.Core.Path.{_≡_, refl, sym, ap, _∙_}
 use mathlib.Core.List.{List, [], _++_}
@@ -23,7 +23,7 @@ put-within n h p = record { bytes = p .bytes; size = p .size; low = omega (arith
 pub put-as : {m : ℕ} {before out text text′ : List ℕ} {at end : ℕ} → text ≡ text′ → Put m before at text out end → Put m before at text′ out end
 put-as e p = rw (← e) p
 
--- one behind another
+-- one text put after another
 infixr 30 _then_
 pub _then_ : {m n : ℕ} {before out out′ text text′ : List ℕ} {at end end′ : ℕ} → Put m before at text out end → Put n out end text′ out′ end′ → Put (m + n) before at (text ++ text′) out′ end′
 _then_ {before = before} {text = text} {text′ = text′} {at = at} {end = end} p q = record {

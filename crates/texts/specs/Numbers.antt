@@ -5,26 +5,26 @@ use mathlib.Core.List.{List, [], _∷_, _++_}
 use lib.Dec.{ltb, eqb}
 use lib.ListN.{drop}
 
--- five digits are enough for a word
+-- the most digits of a word
 abbrev pub mostDigits : ℕ
 mostDigits = 5
 
 unfoldable pub fiveDigits : ℕ → List ℕ
 fiveDigits n = (48 + n / 10000 % 10) ∷ (48 + n / 1000 % 10) ∷ (48 + n / 100 % 10) ∷ (48 + n / 10 % 10) ∷ (48 + n % 10) ∷ []
 
--- how many of them are zeros in front
+-- how many of a number's five digits are leading zeros
 unfoldable pub leading : ℕ → ℕ
 leading n = cond (ltb n 10) 4 (cond (ltb n 100) 3 (cond (ltb n 1000) 2 (cond (ltb n 10000) 1 0)))
 
 unfoldable pub decimal : ℕ → List ℕ
 decimal n = drop (leading n) (fiveDigits n)
 
--- the number that digits say, behind those that say n
+-- the number that digits say, after digits that say n
 unfoldable pub said : ℕ → List ℕ → ℕ
 said n [] = n
 said n (d ∷ t) = said (10 * n + (d - 48)) t
 
--- a number below 10
+-- the digit of a number below 10
 unfoldable pub oneDigit : ℕ → List ℕ
 oneDigit n = (48 + n) ∷ []
 

@@ -5,7 +5,7 @@ use mathlib.Core.List.{List}
 use lib.ListN.{length}
 use lib.Seq.{sets}
 
--- the text, of at most so many bytes, stands in `out` from a place on, which was `before`, and ends at a place
+-- the text, of at most `most` bytes, lies in `out`, which was `before`, from place `at` to place `end`
 pub record Put (most : ℕ) (before : List ℕ) (at : ℕ) (text out : List ℕ) (end : ℕ) : Type 0 where
   pub bytes : out ≡ sets before at text
   pub size : end ≡ at + length text

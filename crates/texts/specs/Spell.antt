@@ -1,4 +1,4 @@
--- The bytes of a text that the definition has in quotes.
+-- The bytes of a text that a definition has in quotes.
 use Prim.Native.Nat.{ℕ}
 use Prim.Native.Char.{code}
 use Prim.Native.String.{String}

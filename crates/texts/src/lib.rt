@@ -1,4 +1,4 @@
-// Text put into lent memory, piece behind piece: each function is told where to begin and says where it has ended.
+// Puts text into lent memory, piece after piece: each function is given the place to begin at, and gives the place where it ended.
 ghost use mathlib.Core.Path.{_≡_};
 ghost use mathlib.Core.Bool.{cond};
 ghost use mathlib.Core.List.{[]};
@@ -8,7 +8,7 @@ ghost use lib.ListN.{length};
 ghost use Rattle.texts.specs.Numbers.{mostDigits, leading, decimal, oneDigit, ending, counted};
 ghost use Rattle.texts.specs.Put.{Put};
 
-// The digits of a word, and its base.
+// The number of digits of a word, and their base.
 const DIGITS: usize = 5;
 
 const TEN: u16 = 10;
@@ -21,7 +21,7 @@ pub fn put_text(out: &mut [u8], at: usize, text: &[u8]) -> usize
     at + text.len()
 }
 
-// The text where the word is 1, nothing where it is not.
+// Puts the text if the word is 1, nothing if it is not.
 pub fn put_if(out: &mut [u8], at: usize, on: u16, text: &[u8]) -> usize
     requires { ⌜ at + length (now text) ≤ length (now out) ⌝ }
     ensures { λ r. ⌜ Put (length (now (text .entry))) (now (out .entry)) at (cond (eqb on 1) (now (text .entry)) []) (now (out .exit)) r ⌝ }
@@ -32,7 +32,7 @@ pub fn put_if(out: &mut [u8], at: usize, on: u16, text: &[u8]) -> usize
     at
 }
 
-// How many of a word's five digits are zeros in front.
+// The number of leading zeros in a word's five digits.
 fn leading_zeros(n: u16) -> usize
     ensures { λ r. ⌜ (r ≡ leading n) × (r ≤ 4) ⌝ }
 {
@@ -74,7 +74,7 @@ pub fn put_number(out: &mut [u8], at: usize, n: u16) -> usize
     put_text(out, at, &digits[zeros..DIGITS])
 }
 
-// A number below 10.
+// Puts a number below 10.
 pub fn put_digit(out: &mut [u8], at: usize, n: u16) -> usize
     requires { ⌜ (at + 1 ≤ length (now out)) × (n ≤ 9) ⌝ }
     ensures { λ r. ⌜ Put 1 (now (out .entry)) at (oneDigit n) (now (out .exit)) r ⌝ }
@@ -83,7 +83,7 @@ pub fn put_digit(out: &mut [u8], at: usize, n: u16) -> usize
     put_text(out, at, &digits)
 }
 
-// The s of a noun.
+// Puts the plural s of a noun, unless n is 1.
 fn put_ending(out: &mut [u8], at: usize, n: u16) -> usize
     requires { ⌜ at + 1 ≤ length (now out) ⌝ }
     ensures { λ r. ⌜ Put 1 (now (out .entry)) at (ending n) (now (out .exit)) r ⌝ }
@@ -94,7 +94,7 @@ fn put_ending(out: &mut [u8], at: usize, n: u16) -> usize
     put_text(out, at, b"s")
 }
 
-// `1 record`, `2 records`: the noun is lent with the space before it.
+// Puts a number and its noun, `1 record` or `2 records`. The noun is lent with the space before it.
 pub fn put_counted(out: &mut [u8], at: usize, n: u16, noun: &[u8]) -> usize
     requires { ⌜ at + (mostDigits + (length (now noun) + 1)) ≤ length (now out) ⌝ }
     ensures { λ r. ⌜ Put (mostDigits + (length (now (noun .entry)) + 1)) (now (out .entry)) at (counted n (now (noun .entry))) (now (out .exit)) r ⌝ }

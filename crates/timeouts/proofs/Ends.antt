@@ -52,7 +52,7 @@ time-bytes n l unbuilt share old new e h k = tt
 time-bytes n l (built b) share old new e h k = (h .0 ∙ sym (ap (λ s. s .share) (store-same (due n (b .timers)) b)), rw e at k)
 
 module _ {n : ℕ} {xs₀ blocks ys₀ : List ℕ} {d : Desk} {s : Alloc} {xs ys : List ℕ} (S : StandsFor (memories xs₀ blocks ys₀) d s) (Q : Quiet n ys₀ d s xs ys) where
-  -- the allocation behind the due ones, and behind the rest
+  -- the allocation after the due requests end; `u` is that after the others lose n seconds
   abbrev t : Alloc
   t = endAll (due n (s .clock)) s
 
@@ -123,7 +123,7 @@ module _ {n : ℕ} {xs₀ blocks ys₀ : List ℕ} {d : Desk} {s : Alloc} {xs ys
           rw z (getD-set-same m timerList _ [] (omega (arith, B .boxes .sized)) ∙ sym (boxOf-timers then u ∙ ap (map timerWords) (clock-clock _ t)))
       box l h (no z) = getD-set-other m timerList l _ [] z ∙ getD-boxesOf (Q .desk) t l h ∙ same-box l h z
 
-  -- zs is the segment behind the walk
+  -- zs is the segment after the walk
   pub time-stands : (zs : List ℕ) → zs ≡ lessAll xs timerList n entries → Bytes zs → Bytes ys → Stands (memories zs blocks ys) then (allocTime n s)
   unfolding allocTime
   time-stands zs e bx by = record {

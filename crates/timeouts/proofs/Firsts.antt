@@ -13,7 +13,7 @@ use Rattle.rules.specs.Allocation.{Alloc, heldAt, timerEntry, timerList}
 use Rattle.laws.specs.Timers.{Sorted}
 use Rattle.segment.specs.Layout as layout
 use Rattle.segment.specs.Table.{nth, dataOf}
-use Rattle.segment.specs.Fields.{entryOf, entryAt}
+use Rattle.segment.specs.Fields.{entryWords, entryOf, entryAt}
 use Rattle.ports.specs.Lists.{Chain}
 use Rattle.ports.proofs.Lists.{short}
 use Rattle.ports.proofs.Boxes.{data-box, slot-box}
@@ -40,7 +40,7 @@ due-first n t ts h = rw (le-leb (t .left) n h)
 
 -- an entry that holds a timer
 timer-of : (xs : List ℕ) (e : ℕ) (u : Timer) → dataOf xs e ≡ timerWords u → (entryAt xs e .place ≡ u .place) × (entryAt xs e .seconds ≡ u .left)
-unfolding entryAt entryOf timerWords
+unfolding entryAt entryOf timerWords entryWords
 timer-of xs e u h = (ap (λ m. getD m 0 0) h, ap (λ m. getD m 7 0) h)
 
 module _ {xs : List ℕ} {d : Desk} {t : Alloc} {k : ℕ} (S : Seg xs d t k) where

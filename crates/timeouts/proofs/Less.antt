@@ -1,4 +1,4 @@
--- The timers lose so many seconds: what the walk along their list does to the boxes.
+-- The timers lose n seconds: what the walk along their list does to the boxes.
 use Prim.Native.Nat.{ℕ, zero, suc, _-_, _≤_, _<_}
 use mathlib.Core.Path.{_≡_, refl, sym, ap, _∙_}
 use mathlib.Core.List.{List, [], _∷_, _++_, map, append-assoc}
@@ -9,25 +9,19 @@ use Rattle.rules.specs.State.{Timer}
 use Rattle.rules.specs.Time.{minus}
 use Rattle.segment.specs.Layout.{timerList, linkAt}
 use Rattle.segment.specs.Table.{dataOf, putData}
-use Rattle.segment.specs.Fields.{entryOf, entryAt}
+use Rattle.segment.specs.Fields.{entryWords, entryOf, entryAt}
 use Rattle.ports.specs.Lists.{Boxes}
-use Rattle.ports.proofs.Chains.{slotAt}
+use Rattle.ports.proofs.Chains.{slotAt, slot-after}
 use Rattle.ports.proofs.Boxes.{length-box, data-box, slot-box, end-box}
 use Rattle.ports.proofs.Contents.{putData-list}
-use Rattle.requests.specs.Moves.{timer}
 use Rattle.memory.specs.Image.{timerWords}
 use Rattle.timeouts.specs.Late.{less, lessAll}
 use Rattle.timeouts.proofs.Steps.{less-stop, less-step}
 
 -- an entry that holds a timer
 pub less-is : (s : List ℕ) (e n : ℕ) (u : Timer) → dataOf s e ≡ timerWords u → less s e n ≡ putData s e (timerWords (minus n u))
-unfolding less timer timerWords minus entryAt entryOf
+unfolding less timerWords minus entryAt entryOf entryWords
 less-is s e n u d = rw d
-
--- one slot on
-slot-next : (p : ℕ) (xs : List ℕ) (e : ℕ) → slotAt p (xs ++ e ∷ []) ≡ linkAt e
-slot-next p [] e = refl
-slot-next p (x ∷ xs) e = slot-next (linkAt x) xs e
 
 words-at : (ts us : List Timer) (u : Timer) → getD (map timerWords (ts ++ u ∷ us)) (length ts) [] ≡ timerWords u
 words-at [] us u = refl
@@ -53,12 +47,12 @@ less-walk {s} {hand} {hm} {ls} {ms} {rs} n (suc k) ts (u ∷ us) B e h =
     let x : ℕ = getD xs i 0 in
     let w = slot-box B timerList (omega arith) i k′ in
     let d : dataOf s x ≡ timerWords u = data-box B timerList (omega arith) i k′ ∙ ap (λ b. getD b i []) e ∙ words-at ts us u in
-    let C = putData-list B timerList i (timerWords (minus n u)) (omega arith) k′ (unfold timerWords in refl) in
+    let C = putData-list B timerList i (timerWords (minus n u)) (omega arith) k′ (unfold timerWords entryWords in refl) in
     let f : set (getD ms timerList []) i (timerWords (minus n u)) ≡ map timerWords ((ts ++ minus n u ∷ []) ++ us) =
     ap (λ b. set b i (timerWords (minus n u))) e ∙ words-set ts us u (minus n u) in
     let D = less-walk n k (ts ++ minus n u ∷ []) us C (getD-set-same ms timerList _ [] (omega (arith, B .sized)) ∙ f) (omega arith) in
     let j : length (ts ++ minus n u ∷ []) ≡ suc i = omega (arith, length-append ts (minus n u ∷ [])) in
     let q : slotAt timerList (take (length (ts ++ minus n u ∷ [])) xs) ≡ linkAt x =
-    ap (λ j. slotAt timerList (take j xs)) j ∙ ap (slotAt timerList) (take-suc xs i 0 k′) ∙ slot-next timerList (take i xs) x in
+    ap (λ j. slotAt timerList (take j xs)) j ∙ ap (slotAt timerList) (take-suc xs i 0 k′) ∙ slot-after timerList (take i xs) x in
     let m : suc k - 1 ≡ k = omega arith in
     rw (less-step s _ x (sym (w .0)) n (suc k) (omega arith) (w .1), m, less-is s x n u d) (rw (q, set-set ms timerList, append-assoc ts (minus n u ∷ []) (map (minus n) us)) at D)

@@ -88,7 +88,7 @@ module _ {xs ys : List ℕ} {d : Desk} {t : Alloc} (S : Stage xs ys d t) (u : Ti
   waits : 1 ≤ awaits (reqAt (accsOf (fileOf d f)) p)
   waits = omega (arith, here-counted, S .matches f hf .agrees .timed p)
 
-  -- it has no other timer
+  -- the place has no other timer
   alone : countT (u .place) us ≡ 0
   alone = omega (arith, here-counted, S .matches f hf .agrees .timed p, outstanding-most (reqAt (accsOf (fileOf d f)) p))
 

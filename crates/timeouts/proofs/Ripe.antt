@@ -15,6 +15,7 @@ use Rattle.memory.specs.Image.{reqWords}
 use Rattle.midst.proofs.Terms.{waitsAt}
 use Rattle.timeouts.specs.Late.{lateWords}
 use Rattle.timeouts.specs.Stage.{Steady}
+use Rattle.segment.specs.Fields.{entryWords}
 
 pub record Ripe (p : ℕ) (b : Built) : Type 0 where
   pub acc : Acc
@@ -26,7 +27,7 @@ pub record Ripe (p : ℕ) (b : Built) : Type 0 where
   pub words : (i : ℕ) → reqWords i done ≡ lateWords i
   pub empty : lies done ≡ []
   pub over : uncollected done ≡ 1
-  -- it waits among those of its side, and brings nothing yet if it reads
+  -- the request waits among those of its side, and brings nothing yet if it reads
   pub waits : waitsAt (acc .writer) (acc .req) ≡ 1
   pub bare : acc .writer ≡ false → lies (acc .req) ≡ []
 
@@ -42,7 +43,7 @@ module _ (p : ℕ) (b : Built) (S : Steady b) where
         done = readFails 22;
         ends = rw r late;
         fails = unfold fail in rw (e, fail) (unfold failReq in rw (r, failReq));
-        words = λ i. unfold reqWords lateWords in refl;
+        words = λ i. unfold reqWords lateWords entryWords in refl;
         empty = unfold lies in refl;
         over = unfold uncollected in refl;
         waits = rw (side, r) (unfold waitsRead in refl);
@@ -59,7 +60,7 @@ module _ (p : ℕ) (b : Built) (S : Steady b) where
         done = writeFails 22;
         ends = rw r late;
         fails = unfold fail in rw (e, fail) (unfold failReq in rw (r, failReq));
-        words = λ i. unfold reqWords lateWords in refl;
+        words = λ i. unfold reqWords lateWords entryWords in refl;
         empty = unfold lies in refl;
         over = unfold uncollected in refl;
         waits = rw (side, r) (unfold waitsWrite in refl);

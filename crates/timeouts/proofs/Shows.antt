@@ -19,7 +19,7 @@ unfoldable pub bare : File → File
 bare unbuilt = unbuilt
 bare (built b) = built (record { geo = b .geo; store = b .store; accs = b .accs; rq = b .rq; wq = b .wq; timers = []; past = [] })
 
--- what goes by that alone
+-- a function of a file that depends only on what the memories say of it
 unfoldable pub Shown : {A : Type 0} → (File → A) → Type 0
 Shown k = (y : File) → k y ≡ k (bare y)
 

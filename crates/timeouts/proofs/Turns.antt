@@ -1,4 +1,4 @@
--- One request that is due completes: the memories behind it stand for the desk with the request failed.
+-- One request that is due completes: the memories after it stand for the desk with the request failed.
 use Prim.Native.Nat.{ℕ, _+_, _*_, _<_}
 use mathlib.Core.Path.{_≡_, refl, sym, ap, _∙_}
 use mathlib.Core.Bool.{Bool, true, false, cond}
@@ -88,7 +88,7 @@ module _ {xs ys : List ℕ} {d : Desk} {t : Alloc} (S : Stage xs ys d t) (f p : 
   abbrev w : Bool
   w = R .acc .writer
 
-  -- the desk behind it
+  -- the desk after the request failed
   abbrev then : Desk
   then = withFile d f (built (fail p 22 b))
 

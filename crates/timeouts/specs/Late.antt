@@ -1,14 +1,14 @@
--- What the passing of time does to the bytes: a request that is due, and the seconds of the timers that are left.
+-- What the passing of time does to the bytes: of a request that is due, and of the timers that are left.
 use Prim.Native.Nat.{ℕ, zero, suc, _-_, _*_, _/_}
 use mathlib.Core.Bool.{cond}
-use mathlib.Core.List.{List, [], _∷_}
+use mathlib.Core.List.{List}
 use lib.Dec.{ltb, eqb}
 use lib.Seq.{sets}
 use Rattle.words.specs.Word.{zeros}
 use Rattle.rules.specs.Limits.{places, entries, bufferBytes}
 use Rattle.segment.specs.Layout.{readQueue, writeQueue, linkAt}
 use Rattle.segment.specs.Table.{nth, putData}
-use Rattle.segment.specs.Fields.{entryAt, placeAt}
+use Rattle.segment.specs.Fields.{entryWords, completedRequest, entryAt, placeAt}
 use Rattle.requests.specs.Moves.{timer, slotOf, completed}
 
 -- the queue where the request of place i waits
@@ -17,20 +17,20 @@ waitsIn s i = cond (eqb (placeAt s i .side) 2) (writeQueue (i / places)) (readQu
 
 -- "completes with status 22"
 unfoldable pub lateWords : ℕ → List ℕ
-lateWords i = i ∷ 0 ∷ 0 ∷ 0 ∷ 22 ∷ 0 ∷ 0 ∷ 0 ∷ 0 ∷ []
+lateWords i = entryWords (completedRequest i 22 0 0)
 
 unfoldable pub late : List ℕ → ℕ → List ℕ
 late s i = completed s (slotOf s (waitsIn s i) i) i (lateWords i)
 
--- what a writer's buffer held is gone; a waiting reader's holds nothing
+-- the buffers after the request of place i times out: a writer's data are gone; a waiting reader's buffer holds nothing
 unfoldable pub lateBuffers : List ℕ → List ℕ → ℕ → List ℕ
 lateBuffers s ys i = cond (eqb (placeAt s i .side) 2) (sets ys (bufferBytes * i) (zeros bufferBytes)) ys
 
--- the timer in entry h loses n seconds
+-- takes n seconds off the timer in entry h
 unfoldable pub less : List ℕ → ℕ → ℕ → List ℕ
 less s h n = putData s h (timer (entryAt s h .place) (entryAt s h .seconds - n))
 
--- so do all from slot p on, at most k links on
+-- takes n seconds off all timers from slot p to the end of the list, at most k
 unfoldable pub lessAll : List ℕ → ℕ → ℕ → ℕ → List ℕ
 lessAll s p n zero = s
 lessAll s p n (suc k) = cond (ltb (nth s p) entries) (lessAll (less s (nth s p) n) (linkAt (nth s p)) n k) s

@@ -1,4 +1,4 @@
--- In the midst of the passing of time: what the memories stand for while some of the due requests have completed and others have not.
+-- The midst of the passing of time: what the memories stand for while some of the due requests have completed and others have not.
 use Prim.Native.Nat.{ℕ, _*_, _≤_, _<_}
 use mathlib.Core.Path.{_≡_}
 use mathlib.Core.List.{List}
@@ -20,7 +20,7 @@ use Rattle.laws.specs.EightFiles.{EightFiles}
 use Rattle.memory.specs.Stands.{buffersAt}
 use Rattle.midst.specs.Seg.{Seg}
 
--- a built file
+-- what is kept of a built file
 pub record Steady (b : Built) : Type 0 where
   pub words : b .geo .words ≤ roomWords
   pub bounds : Bounds b
@@ -36,12 +36,12 @@ pub record Stage (xs ys : List ℕ) (d : Desk) (t : Alloc) : Type 0 where
   pub buffers : (f : ℕ) → f < files → OnFile (λ b. buffersAt f ys ≡ fileBuffers (b .accs)) (fileOf d f)
   pub size : length ys ≡ places * bufferBytes * files
 
--- the requests at these places fail, if the file is built
+-- the file after the requests at these places fail, if it is built
 unfoldable pub failFile : List ℕ → File → File
 failFile l unbuilt = unbuilt
 failFile l (built b) = built (failAll 22 l b)
 
--- from the desk d with the allocation s and the buffers ys₀, n seconds on: what is due from here on comes to what was due at the start
+-- a stage reached from desk d, allocation s and buffers ys₀ as n seconds pass: ending what is due now gives the same as ending what was due at first
 pub record Reached (n k : ℕ) (ys₀ : List ℕ) (d : Desk) (s : Alloc) (xs ys : List ℕ) : Type 0 where
   pub desk : Desk
   pub alloc : Alloc
@@ -52,7 +52,7 @@ pub record Reached (n k : ℕ) (ys₀ : List ℕ) (d : Desk) (s : Alloc) (xs ys 
   -- no more than k timers are left
   pub few : length (alloc .clock) ≤ k
 
--- and nothing is due any more
+-- the stage reached when nothing is due any more
 pub record Quiet (n : ℕ) (ys₀ : List ℕ) (d : Desk) (s : Alloc) (xs ys : List ℕ) : Type 0 where
   pub desk : Desk
   pub stage : Stage xs ys desk (endAll (due n (s .clock)) s)

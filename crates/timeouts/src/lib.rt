@@ -1,4 +1,4 @@
-// The passing of time: every waiting request whose time is up completes with status 22, the smallest timeout first, equals in arming order, and
+// The passing of time: every waiting request whose time is up completes with status 22, the smallest timeout first, equals in arming order;
 // all other timers lose the seconds.
 ghost use mathlib.Core.Path.{_≡_};
 ghost use mathlib.Core.List.{List};
@@ -19,13 +19,14 @@ ghost use Rattle.timeouts.specs.Stage.{Stage, Quiet};
 use kinds::limits::PLACES;
 use kinds::sides::WRITER;
 use kinds::statuses;
-use segment::Entry;
+use segment::forms::completed_request;
+use segment::forms::running_timer;
 use segment::layout;
 
 // "completes with status 22"
 const TIMED_OUT: u16 = statuses::TIMED_OUT as u16;
 
-// The waiting request of a place completes, and brings nothing.
+// Completes the waiting request of a place, which brings nothing.
 fn time_out(segment: &mut [u8], buffers: &mut [u8], place: u16)
     requires { ⌜ length (now segment) ≡ segmentBytes ⌝ }
     requires { ⌜ length (now buffers) ≡ buffersBytes ⌝ }
@@ -33,16 +34,7 @@ fn time_out(segment: &mut [u8], buffers: &mut [u8], place: u16)
     ensures { λ _. ⌜ (now (segment .exit) ≡ late (now (segment .entry)) place) × (now (buffers .exit) ≡ lateBuffers (now (segment .entry)) (now (buffers .entry)) place) ⌝ }
 {
     let i = place as usize;
-    let m = Entry {
-        place,
-        unit: 0,
-        limit: 0,
-        keep: 0,
-        status: TIMED_OUT,
-        log: 0,
-        size: 0,
-        seconds: 0,
-    };
+    let m = completed_request(place, TIMED_OUT, 0, 0);
     if segment::place_side(segment, i) == WRITER {
         let p = ports::seek_place(segment, layout::WRITE_QUEUES + i / PLACES, place);
         requests::complete(segment, p, m);
@@ -53,7 +45,7 @@ fn time_out(segment: &mut [u8], buffers: &mut [u8], place: u16)
     requests::complete(segment, p, m);
 }
 
-// All that are due, from the front of the timer list.
+// Completes all requests that are due, from the front of the timer list.
 fn run_due(segment: &mut [u8], buffers: &mut [u8], seconds: u16)
     requires { ⌜ length (now segment) ≡ segmentBytes ⌝ }
     requires { ⌜ length (now buffers) ≡ buffersBytes ⌝ }
@@ -75,8 +67,8 @@ fn run_due(segment: &mut [u8], buffers: &mut [u8], seconds: u16)
     }
 }
 
-// What is left of a timer.
-fn rest(left: u16, seconds: u16) -> u16
+// What is left of a timer after the seconds.
+fn left_after(left: u16, seconds: u16) -> u16
     ensures { λ r. ⌜ r ≡ left - seconds ⌝ }
 {
     if left < seconds {
@@ -85,26 +77,18 @@ fn rest(left: u16, seconds: u16) -> u16
     left - seconds
 }
 
-// The timer in entry e loses the seconds.
+// Takes the seconds from the timer in entry e.
 fn lose(segment: &mut [u8], e: u16, seconds: u16)
     requires { ⌜ length (now segment) ≡ segmentBytes ⌝ }
     requires { ⌜ e < entries ⌝ }
     ensures { λ _. ⌜ now (segment .exit) ≡ less (now (segment .entry)) e seconds ⌝ }
 {
-    let m = Entry {
-        place: segment::entry_place(segment, e),
-        unit: 0,
-        limit: 0,
-        keep: 0,
-        status: 0,
-        log: 0,
-        size: 0,
-        seconds: rest(segment::entry_seconds(segment, e), seconds),
-    };
-    segment::write_entry(segment, e, m);
+    let place = segment::entry_place(segment, e);
+    let left = left_after(segment::entry_seconds(segment, e), seconds);
+    segment::write_entry(segment, e, running_timer(place, left));
 }
 
-// All timers do.
+// Takes the seconds from all timers.
 fn lessen(segment: &mut [u8], seconds: u16)
     requires { ⌜ length (now segment) ≡ segmentBytes ⌝ }
     ensures { λ _. ⌜ now (segment .exit) ≡ lessAll (now (segment .entry)) timerList seconds entries ⌝ }
@@ -122,7 +106,7 @@ fn lessen(segment: &mut [u8], seconds: u16)
     }
 }
 
-// So many seconds pass.
+// Lets the seconds pass.
 pub fn pass_time(segment: &mut [u8], buffers: &mut [u8], seconds: u16)
     requires { ⌜ ((d : Desk) × (s : Alloc) × (blocks : List ℕ) × StandsFor (memories (now segment) blocks (now buffers)) d s) ⌝ }
     ensures stands { λ _. ⌜ ((d : Desk) (s : Alloc) (blocks : List ℕ) → StandsFor (memories (now (segment .entry)) blocks (now (buffers .entry))) d s → Stands (memories (now (segment .exit)) blocks (now (buffers .exit))) (deskTime seconds d) (allocTime seconds s)) ⌝ }

@@ -3,9 +3,10 @@ use kinds::limits::MOST_READ_BYTES;
 use kinds::limits::MOST_READ_WORDS;
 ghost use mathlib.Core.Path.{_≡_};
 ghost use Prim.Native.Nat.{_≤_};
-ghost use Rattle.rules.specs.Count.{inWords, countBytes, readable, logOf};
+ghost use Rattle.rules.specs.TransferCounts.{inWords, countBytes, readable, logOf};
 
-// The first count below 0, and what −n lacks of n. The difference is taken in 32 bits: −32,768 has no 16-bit negative.
+// The first word that is a count below 0, and the number from which such a word is subtracted to give −n. The difference is taken in 32 bits: −32,768 has no
+// 16-bit negative.
 const LEAST: u16 = 32768;
 
 const TURN: u32 = 65536;
@@ -16,7 +17,7 @@ pub fn in_words(count: u16) -> bool
     count < LEAST
 }
 
-// The bytes that are counted.
+// The number of bytes that a count asks for.
 pub fn count_bytes(count: u16) -> u32
     ensures value { λ r. ⌜ r ≡ countBytes count ⌝ }
     ensures bound { λ r. ⌜ r ≤ 65534 ⌝ }
@@ -39,9 +40,9 @@ pub fn readable(count: u16) -> bool
     }
 }
 
-// n bytes, in the unit asked.
-pub fn log_of(words: bool, n: u16) -> u16
-    ensures { λ r. ⌜ r ≡ logOf words n ⌝ }
+// The log of n bytes in the unit asked: words, rounded up, or bytes.
+pub fn log_of(by_words: bool, n: u16) -> u16
+    ensures { λ r. ⌜ r ≡ logOf «by_words» n ⌝ }
 {
-    if words { n / 2 + n % 2 } else { n }
+    if by_words { n / 2 + n % 2 } else { n }
 }

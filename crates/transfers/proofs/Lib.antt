@@ -1,3 +1,4 @@
+pub mod Named
 pub mod Fits
 pub mod Ports
 pub mod Collects

@@ -3,39 +3,39 @@ use Prim.Native.Nat.{ℕ, _-_, _≤_, _<_}
 use mathlib.Core.Path.{_≡_, refl, sym, ap, _∙_}
 use mathlib.Core.Logic.{_⊎_, inl, inr}
 use mathlib.Core.List.{List, [], _∷_, map}
-use mathlib.Core.Option.{Option, none, some}
+use mathlib.Core.Option.{Option, none}
 use native.Mathlib.Omega.{arith}
 use lib.ListN.{length, getD, take}
 use lib.Seq.{take-append-seam}
 use Rattle.words.specs.Word.{zeros}
-use Rattle.rules.specs.Limits.{files, places, entries, bufferBytes}
-use Rattle.rules.specs.State.{Req, idle, reading, writing, readDone, writeDone, Acc, Built, File, built}
+use Rattle.rules.specs.Limits.{places, entries, bufferBytes}
+use Rattle.rules.specs.State.{Req, idle, reading, writing, readDone, writeDone, Acc, Built, File}
 use Rattle.rules.specs.Requests.{accAt}
-use Rattle.rules.specs.Memories.{lies, buffer}
+use Rattle.rules.specs.Memories.{bufferAt, lies, buffer}
 use Rattle.rules.specs.Reply.{status}
 use Rattle.rules.specs.Transfer.{collected, collect}
-use Rattle.rules.specs.Desk.{Desk, fileOf}
+use Rattle.rules.specs.Desk.{Desk}
 use Rattle.rules.specs.Allocation.{Alloc, placeOf, heldAt, ownEntry, portOf}
 use Rattle.laws.specs.Outstanding.{uncollected, reqOf}
 use Rattle.laws.specs.Bounds.{leastRefusal, Bounded}
 use Rattle.laws.proofs.Bounds.{bounds-at, length-buffer}
-use Rattle.segment.specs.Layout.{replyPort}
+use Rattle.laws.proofs.Happenings.{place-of-desk}
+use Rattle.segment.specs.Layout.{deskPlaces, replyPort}
 use Rattle.segment.specs.Table.{nth, dataOf}
-use Rattle.segment.specs.Fields.{entryOf, entryAt}
+use Rattle.segment.specs.Fields.{entryWords, completedRequest, entryOf, entryAt}
 use Rattle.ports.specs.Lists.{Chain}
-use Rattle.buffers.specs.Buffer.{bufferAt, filled}
+use Rattle.buffers.specs.Buffer.{filled}
 use Rattle.buffers.proofs.Filled.{buffer-some}
 use Rattle.memory.specs.Memories.{Memories}
 use Rattle.memory.specs.Image.{accOf, reqWords, listOf, portWords, boxOf}
-use Rattle.memory.specs.Stands as stands
 use Rattle.memory.specs.Fine.{StandsFor}
 use Rattle.memory.proofs.Image.{placeAcc-of, listOf-port, boxOf-port}
 use Rattle.memory.proofs.Frames.{bufferAt-is}
-use Rattle.midst.proofs.Begins.{mid-begin}
-use Rattle.midst.proofs.Changes.{fine-knows, mid-below}
+use Rattle.midst.proofs.Changes.{fine-knows}
 use Rattle.midst.proofs.Requests.{step-free-entry}
 use Rattle.midst.proofs.Terms.{port-one}
-use Rattle.midst.proofs.Lists.{place-under}
+use Rattle.transfers.proofs.Named.{Named, begin-mid}
+use Rattle.transfers.proofs.Fits.{fit}
 
 -- a completed request: its status and log, the bytes that it brings, and how these stand in the memories
 pub record Completed (xs buffers : List ℕ) (f p : ℕ) (b : Built) (q : Req) : Type 0 where
@@ -45,7 +45,7 @@ pub record Completed (xs buffers : List ℕ) (f p : ℕ) (b : Built) (q : Req) :
   pub ended : uncollected q ≡ 1
   pub rule : collect p q b ≡ collected status log bytes p b
   pub entry : entryAt xs (nth xs (replyPort (placeOf f p)))
-      ≡ record { place = placeOf f p; unit = 0; limit = 0; keep = 0; status = status; log = log; size = length bytes; seconds = 0 }
+      ≡ completedRequest (placeOf f p) status log (length bytes)
   pub lie : take (length bytes) (bufferAt (placeOf f p) buffers) ≡ bytes
   pub short : length bytes ≤ bufferBytes
   pub low : status < leastRefusal
@@ -55,38 +55,46 @@ abbrev pub Shows : List ℕ → List ℕ → ℕ → ℕ → Built → Req → T
 Shows xs buffers f p b q =
     ((entries ≤ nth xs (replyPort (placeOf f p))) × (collect p q b ≡ status 6 1 b)) ⊎ ((nth xs (replyPort (placeOf f p)) < entries) × Completed xs buffers f p b q)
 
-module _ {ms : Memories} {d : Desk} {s : Alloc} (S : StandsFor ms d s) (f p : ℕ) (hf : f < files) (b : Built) (is : fileOf d f ≡ built b) (a : Acc)
-    (at : accAt b p ≡ some a) where
+module _ {ms : Memories} {d : Desk} {s : Alloc} {f p : ℕ} (S : StandsFor ms d s) (N : Named d f p) where
   abbrev i : ℕ
   i = placeOf f p
 
+  abbrev b : Built
+  b = N .b
+
+  abbrev a : Acc
+  a = N .a
+
   open-place : p < places
-  open-place = mid-below (mid-begin S f b hf is) p a at
+  open-place = fit S N .place
+
+  under : placeOf f p < deskPlaces
+  under = place-of-desk f p (N .file) open-place
 
   port-list : listOf d s (replyPort i) ≡ portOf (a .req) i s
   unfolding accOf reqOf
   port-list =
-      listOf-port d s i (place-under f p hf open-place) ∙ ap (λ (o : Option Acc). portOf (reqOf o) i s) (placeAcc-of d f p open-place ∙ ap (λ (y : File). accOf y p) is ∙ at)
+      listOf-port d s i under ∙ ap (λ (o : Option Acc). portOf (reqOf o) i s) (placeAcc-of d f p open-place ∙ ap (λ (y : File). accOf y p) (N .stands) ∙ N .at)
 
   port-box : boxOf d s (replyPort i) ≡ portWords i (a .req)
   unfolding accOf reqOf
   port-box =
-      boxOf-port d s i (place-under f p hf open-place) ∙ ap (λ (o : Option Acc). portWords i (reqOf o)) (placeAcc-of d f p open-place ∙ ap (λ (y : File). accOf y p) is ∙ at)
+      boxOf-port d s i under ∙ ap (λ (o : Option Acc). portWords i (reqOf o)) (placeAcc-of d f p open-place ∙ ap (λ (y : File). accOf y p) (N .stands) ∙ N .at)
 
   port-chain : Chain (ms .segment) (replyPort i) (portOf (a .req) i s)
-  port-chain = rw port-list at (S .stands .segment .chains (replyPort i) (omega (arith, place-under f p hf open-place)))
+  port-chain = rw port-list at (S .stands .segment .chains (replyPort i) (omega (arith, under)))
 
   port-data : map (dataOf (ms .segment)) (portOf (a .req) i s) ≡ portWords i (a .req)
-  port-data = ap (map (dataOf (ms .segment))) (sym port-list) ∙ S .stands .segment .boxes (replyPort i) (omega (arith, place-under f p hf open-place)) ∙ port-box
+  port-data = ap (map (dataOf (ms .segment))) (sym port-list) ∙ S .stands .segment .boxes (replyPort i) (omega (arith, under)) ∙ port-box
 
   -- what lies in its buffer
   buffer-lies : bufferAt i (ms .buffers) ≡ filled (lies (a .req))
-  unfolding stands.bufferAt accAt placeOf
+  unfolding accAt placeOf
   buffer-lies =
-      let M = mid-begin S f b hf is in
+      let M = begin-mid S N refl in
       bufferAt-is f (ms .buffers) (b .accs) (M .allots .matches .agrees .eight)
       (λ y k. length-buffer (b .geo .words) (getD (b .accs) y none) (M .good .room .geo .words-high) (M .good .bounds y)) (M .buffer) p open-place
-      ∙ ap buffer at ∙ buffer-some a
+      ∙ ap buffer (N .at) ∙ buffer-some a
 
   pub taken : (v : List ℕ) → lies (a .req) ≡ v → take (length v) (bufferAt i (ms .buffers)) ≡ v
   unfolding filled
@@ -95,7 +103,7 @@ module _ {ms : Memories} {d : Desk} {s : Alloc} (S : StandsFor ms d s) (f p : �
   -- a completed request, whose port is not empty
   module _ (ended : uncollected (a .req) ≡ 1) where
     pub port-full : nth (ms .segment) (replyPort i) < entries
-    port-full = step-free-entry fine-knows (mid-begin S f b hf is) p a at ended
+    port-full = step-free-entry fine-knows (begin-mid S N refl) p a (N .at) ended
 
     pub port-entry : entryAt (ms .segment) (nth (ms .segment) (replyPort i)) ≡ entryOf (reqWords i (a .req))
     unfolding Chain entryAt
@@ -112,7 +120,7 @@ module _ {ms : Memories} {d : Desk} {s : Alloc} (S : StandsFor ms d s) (f p : �
       omega (arith, c)
 
   pub shows : (q : Req) → a .req ≡ q → (q ≡ idle → ⊥) → Shows (ms .segment) (ms .buffers) f p b q
-  unfolding collect portOf reqWords entryOf uncollected lies Bounded
+  unfolding collect portOf reqWords entryOf uncollected lies Bounded entryWords
   shows idle e n = absurd (n refl)
   shows (reading q) e n = inl (port-none (reading q) e refl, refl)
   shows (writing q) e n = inl (port-none (writing q) e refl, refl)
@@ -127,8 +135,8 @@ module _ {ms : Memories} {d : Desk} {s : Alloc} (S : StandsFor ms d s) (f p : �
           rule = refl;
           entry = port-entry (ap uncollected e) ∙ ap (λ (r : Req). entryOf (reqWords i r)) e;
           lie = taken (q .bytes) (ap lies e);
-          short = bounds-at p a (readDone q) b at e (mid-begin S f b hf is .good .bounds) .0;
-          low = bounds-at p a (readDone q) b at e (mid-begin S f b hf is .good .bounds) .1;
+          short = bounds-at p a (readDone q) b (N .at) e (begin-mid S N refl .good .bounds) .0;
+          low = bounds-at p a (readDone q) b (N .at) e (begin-mid S N refl .good .bounds) .1;
         },
       )
   shows (writeDone q) e n =
@@ -143,6 +151,6 @@ module _ {ms : Memories} {d : Desk} {s : Alloc} (S : StandsFor ms d s) (f p : �
           entry = port-entry (ap uncollected e) ∙ ap (λ (r : Req). entryOf (reqWords i r)) e;
           lie = refl;
           short = omega arith;
-          low = bounds-at p a (writeDone q) b at e (mid-begin S f b hf is .good .bounds);
+          low = bounds-at p a (writeDone q) b (N .at) e (begin-mid S N refl .good .bounds);
         },
       )

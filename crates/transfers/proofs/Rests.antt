@@ -1,4 +1,4 @@
--- A call has acted, the file has settled, and its row is written back: what the call comes to.
+-- A call has acted, the file has settled, and its row is written back: the outcome of the call.
 use Prim.Native.Nat.{ℕ}
 use mathlib.Core.Path.{sym, ap, subst}
 use mathlib.Core.List.{List, []}

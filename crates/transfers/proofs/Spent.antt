@@ -34,14 +34,14 @@ module _ (xs : List ℕ) (bytes : Bytes xs) where
       ∙ ap (λ (j : ℕ). fill xs j (placeWords (begunRow (placeRowOf (row xs j placeWidth))))) at
 
   -- of a reader
-  pub read-begun : (ys zs : List ℕ) (i k : ℕ) → k ≡ placeRowAt i → placeAt xs i .side ≡ 1 → ys ≡ putNth xs (k + 6) 0 → zs ≡ putNth ys (k + 7) 0 → zs ≡ begunSegment xs i
+  pub read-begun : {ys zs : List ℕ} {k : ℕ} (i : ℕ) → k ≡ placeRowAt i → placeAt xs i .side ≡ 1 → ys ≡ putNth xs (k + 6) 0 → zs ≡ putNth ys (k + 7) 0 → zs ≡ begunSegment xs i
   unfolding begunRow
-  read-begun ys zs i k at side first second =
+  read-begun {k = k} i at side first second =
       second ∙ ap (λ (l : List ℕ). putNth l (k + 7) 0) first ∙ begun-puts i k 0 at (rw side refl)
 
   -- of a writer, whose control 47 is as it was
-  pub write-begun : (ys : List ℕ) (i k : ℕ) → k ≡ placeRowAt i → placeAt xs i .side ≡ 2 → ys ≡ putNth xs (k + 7) 0 → ys ≡ begunSegment xs i
+  pub write-begun : {ys : List ℕ} {k : ℕ} (i : ℕ) → k ≡ placeRowAt i → placeAt xs i .side ≡ 2 → ys ≡ putNth xs (k + 7) 0 → ys ≡ begunSegment xs i
   unfolding begunRow placeAt placeRowOf
-  write-begun ys i k at side put =
+  write-begun {k = k} i at side put =
       let keep : nth xs (k + 6) ≡ placeAt xs i .keep = ap (λ (j : ℕ). nth xs (j + 6)) at ∙ sym (row-at xs (placeRowAt i) placeWidth 6 (omega arith)) in
       put ∙ ap (λ (l : List ℕ). putNth l (k + 7) 0) (sym (put-own xs bytes (k + 6))) ∙ begun-puts i k (nth xs (k + 6)) at (rw side keep)

@@ -1,4 +1,4 @@
--- The tests of a read or write, as the code comes to them.
+-- The tests of a read or write, as the code makes them.
 use Prim.Native.Nat.{ℕ, _+_, _≤_, _<_}
 use mathlib.Core.Path.{_≡_, refl, sym, ap, _∙_}
 use mathlib.Core.Bool.{Bool, true, false, cond, _||_}
@@ -46,16 +46,16 @@ unfolding fitsRing
 fits-fewer r n m h e = le-leb (used r + n + 1) (capacity (r .factor) (r .blocks)) (omega (arith, leb-true (used r + m + 1) (capacity (r .factor) (r .blocks)) e))
 
 -- e is the head of the write queue
-module _ (xs : List ℕ) (f : ℕ) (r : Ring) (e : ℕ) (is : e ≡ nth xs (writeQueue f)) where
+module _ (xs : List ℕ) (f : ℕ) (r : Ring) {e : ℕ} (is : e ≡ nth xs (writeQueue f)) where
   pub admits-not : e < entries → false ≡ admits xs f r
   unfolding admits
   admits-not h = sym (ap (λ (t : Bool). cond t false (fitsRing r (countSide xs f 2))) (ap (λ (m : ℕ). ltb m entries) (sym is) ∙ lt-ltb e entries h))
 
-  pub admits-so : (t : Bool) (n : ℕ) → entries ≤ e → t ≡ fitsRing r n → n ≡ countSide xs f 2 → t ≡ admits xs f r
+  pub admits-so : {t : Bool} {n : ℕ} → entries ≤ e → t ≡ fitsRing r n → n ≡ countSide xs f 2 → t ≡ admits xs f r
   unfolding admits
-  admits-so t n h u v =
+  admits-so h u v =
       u ∙ ap (fitsRing r) v ∙ sym (ap (λ (t : Bool). cond t false (fitsRing r (countSide xs f 2))) (ap (λ (m : ℕ). ltb m entries) (sym is) ∙ le-ltb e entries h))
 
   -- beside more writers
-  pub admits-any : (t : Bool) (m : ℕ) → entries ≤ e → t ≡ fitsRing r m → t ≡ true → countSide xs f 2 ≤ m → true ≡ admits xs f r
-  admits-any t m h u y k = admits-so true (countSide xs f 2) h (sym (fits-fewer r (countSide xs f 2) m k (sym u ∙ y))) refl
+  pub admits-any : {t : Bool} (m : ℕ) → entries ≤ e → t ≡ fitsRing r m → t ≡ true → countSide xs f 2 ≤ m → true ≡ admits xs f r
+  admits-any m h u y k = admits-so h (sym (fits-fewer r (countSide xs f 2) m k (sym u ∙ y))) refl

@@ -1,4 +1,4 @@
--- What a write comes to when it acts: its record is put, or it waits, or it ends.
+-- What an accepted write does: its record is put, or it waits, or it ends.
 use Prim.Native.Nat.{ℕ, _+_, _*_, _≤_, _<_}
 use mathlib.Core.Path.{_≡_, refl, sym, ap, ap₂, _∙_, subst}
 use mathlib.Core.Bool.{Bool, true, false, cond, _&&_}
@@ -13,7 +13,7 @@ use Rattle.kinds.specs.declared.Answer.the-variants.{Written, Status}
 use Rattle.occurrences.specs.Count.{bit}
 use Rattle.rules.specs.Limits.{entries, bufferBytes, files}
 use Rattle.rules.specs.State.{Rec, Offered, Req, writing, idle, Acc, Built}
-use Rattle.rules.specs.Count.{inWords, countBytes, logOf}
+use Rattle.rules.specs.TransferCounts.{inWords, countBytes, logOf}
 use Rattle.rules.specs.Requests.{readers, writers, fits, accAt, withStore, withAccs, alterAcc, say, putRec, begun, wait}
 use Rattle.rules.specs.Settle.{dataRec, settle}
 use Rattle.rules.specs.Reply.{answers, leaves, answering, status}
@@ -22,6 +22,7 @@ use Rattle.rules.specs.Calls.{ask}
 use Rattle.rules.specs.Calls as calls
 use Rattle.rules.specs.Desk.{Desk, on, fileOf, answered}
 use Rattle.rules.specs.Allocation.{Alloc, placeOf}
+use Rattle.rules.specs.Memories.{shareAt}
 use Rattle.rules.proofs.Split.{pick-true, pick-false, and-left}
 use Rattle.laws.specs.Outstanding.{waitsRead, waitsWrite}
 use Rattle.laws.proofs.Accessors.{writers-withReq, wait-keeps}
@@ -29,11 +30,10 @@ use Rattle.laws.proofs.Calls.{begun-mild}
 use Rattle.segment.specs.declared.PlaceRow.{PlaceRow}
 use Rattle.segment.specs.Layout.{writeQueue, freeList, segmentBytes}
 use Rattle.segment.specs.Table.{nth}
-use Rattle.segment.specs.Fields.{fileAt, placeAt}
+use Rattle.segment.specs.Fields.{entryWords, fileAt, placeAt}
 use Rattle.requests.specs.Moves.{queued, waiting}
 use Rattle.buffers.specs.Buffer.{filled}
 use Rattle.ring.specs.Ring as ring
-use Rattle.blocks.specs.Memory as code
 use Rattle.blocks.specs.Memory.{blocksBytes}
 use Rattle.blocks.specs.Writing.{recOf, Ready}
 use Rattle.accessors.specs.Sides.{countSide}
@@ -44,7 +44,7 @@ use Rattle.midst.specs.declared.File as hand
 use Rattle.midst.specs.File.{fileOfRow, RowStands}
 use Rattle.midst.specs.Mid.{Start, Mid, start}
 use Rattle.midst.specs.Outcome.{refusalOf}
-use Rattle.midst.specs.Accepted.{Accepted, WriteKnown}
+use Rattle.midst.specs.Accepted.{NotRefused, WriteKnown}
 use Rattle.midst.proofs.Accepted.{accepted-write}
 use Rattle.midst.proofs.Begins.{mid-lengths}
 use Rattle.midst.proofs.Changes.{fine-knows, stands-rest}
@@ -55,10 +55,11 @@ use Rattle.store.specs.Door.{putIn, Keeps, fitsRing}
 use Rattle.store.proofs.Hands.{fine-stored, hand-ready, through}
 use Rattle.store.proofs.Room.{fits-is}
 use Rattle.settling.proofs.Beside.{mid-writers}
-use Rattle.transfers.specs.Rows.{begunSegment, mayWaitRow, admits, writeEntry}
+use Rattle.transfers.specs.Rows.{mayWaitRow, admits, writeEntry}
 use Rattle.transfers.specs.Acts.{Acts}
+use Rattle.transfers.proofs.Named.{Named, begin-mid}
 use Rattle.transfers.proofs.Fits.{Fit, fit}
-use Rattle.transfers.proofs.Begun.{begin-mid, begun-mid, at-begun, row-id, row-timeout, row-waits, begun-readers, begun-writers, begun-rowed, row-side}
+use Rattle.transfers.proofs.Begun.{Seen, begun-mid, at-begun, row-id, row-timeout, row-waits, begun-readers, begun-writers, begun-rowed, row-side}
 
 and-false : (t : Bool) → t && false ≡ false
 and-false true = refl
@@ -85,10 +86,29 @@ admits-is {f} {o} {m} {x} {b} M = go (b .wq) refl
         ap (λ (t : Bool). cond t false (fitsRing (x .ring) (countSide (m .segment) f 2))) (lt-ltb (nth (m .segment) (writeQueue f)) entries (head-some M true p rest e .0))
         ∙ (unfold isNil in sym (and-false (fits b)))
 
-module _ {m : Memories} {d : Desk} {s : Alloc} (S : StandsFor m d s) (f p n : ℕ) (v : List ℕ)
-    (A : refusalOf (answered d (on f (calls.write p n v)) .reply) ≡ 0) (size : length v ≡ countBytes n) where
-  abbrev known : Accepted (WriteKnown p n v) d f (calls.write p n v)
-  known = accepted-write d f p n v A
+-- a write that is not refused, of a desk that the memories stand for
+pub record Writing (m : Memories) (f p n : ℕ) (v : List ℕ) (d : Desk) (s : Alloc) : Type 0 where
+  pub stands : StandsFor m d s
+  pub accepted : refusalOf (answered d (on f (calls.write p n v)) .reply) ≡ 0
+  pub size : length v ≡ countBytes n
+
+-- what the code of a write has seen where the write is taken
+pub record Admitted (m : Memories) (f p : ℕ) (x : hand.File) (row : PlaceRow) (xs : List ℕ) : Type 0 where
+  pub seen : Seen m f p x row xs
+  pub fits : true ≡ admits (m .segment) f (x .ring)
+
+-- what the code of a write has seen where the write is not taken; t is whether its count is in words
+pub record Untaken (m : Memories) (f p n : ℕ) (x : hand.File) (row : PlaceRow) (xs : List ℕ) (t : Bool) : Type 0 where
+  pub seen : Seen m f p x row xs
+  pub full : false ≡ admits (m .segment) f (x .ring)
+  pub words : t ≡ inWords n
+
+module _ {m : Memories} {f p n : ℕ} {v : List ℕ} {d : Desk} {s : Alloc} (W : Writing m f p n v d s) where
+  abbrev known : NotRefused (WriteKnown p n v) d f (calls.write p n v)
+  known = accepted-write d f p n v (W .accepted)
+
+  abbrev named : Named d f p
+  named = record { file = known .file; b = known .b; stands = known .stands; a = known .known .a; at = known .known .at }
 
   abbrev b : Built
   b = known .b
@@ -99,146 +119,139 @@ module _ {m : Memories} {d : Desk} {s : Alloc} (S : StandsFor m d s) (f p n : �
   abbrev o : Start
   o = start d s m
 
+  abbrev b₁ : Built
+  b₁ = alterAcc p begun b
+
+  opens : accAt b₁ p ≡ some (begun a)
+  opens = at-begun (W .stands) named
+
   write-short : length v ≤ 2 * b .geo .words
-  write-short = omega (arith, leb-true (countBytes n) (2 * b .geo .words) (known .known .count))
+  write-short = omega (arith, W .size, leb-true (countBytes n) (2 * b .geo .words) (known .known .count))
 
-  module _ (x : hand.File) (took : x ≡ fileOfRow (fileAt (m .segment) f)) where
+  -- what the code asks
+  pub write-fit : Fit m f p
+  write-fit = fit (W .stands) named
+
+  pub write-bytes : length v ≤ bufferBytes
+  write-bytes = omega (arith, write-short, begin-mid (W .stands) named refl .good .room .geo .words-high)
+
+  -- it is a writer's
+  pub write-side : placeAt (m .segment) (placeOf f p) .side ≡ 2
+  write-side = row-side (W .stands) named refl ∙ ap (λ (t : Bool). 1 + bit t) (known .known .side)
+
+  -- what a put of its data asks
+  pub write-ready : {x : hand.File} → x ≡ fileOfRow (fileAt (m .segment) f)
+      → ((length (m .blocks) ≡ blocksBytes) × (f < files)) × Ready (x .words) (x .ring) (shareAt f (m .blocks)) (length v)
+  unfolding dataRec
+  write-ready took = let M = begin-mid (W .stands) named took in hand-ready M (fine-stored (M .good)) (dataRec a v) write-short
+
+  -- the ring's numbers are in their ranges
+  pub write-ranged : {x : hand.File} → x ≡ fileOfRow (fileAt (m .segment) f) → ring.Ranged (x .ring)
+  write-ranged took = write-ready took .1 .ranged
+
+  -- the code has begun, and has seen what it needs
+  module _ {x : hand.File} {row : PlaceRow} {xs₁ : List ℕ} (u : Seen m f p x row xs₁) where
     abbrev M : Mid Fine f o m x b
-    M = begin-mid S f p (known .file) b (known .stands) a (known .known .at) x took
+    M = begin-mid (W .stands) named (u .file)
 
-    pub write-bytes : length v ≤ bufferBytes
-    write-bytes = omega (arith, write-short, M .good .room .geo .words-high)
+    N : Mid Fine f o (memories xs₁ (m .blocks) (m .buffers)) x b₁
+    N = begun-mid (W .stands) named u
 
-    -- it is a writer's
-    pub write-side : placeAt (m .segment) (placeOf f p) .side ≡ 2
-    write-side = row-side S f p (known .file) b (known .stands) a (known .known .at) _ refl ∙ ap (λ (t : Bool). 1 + bit t) (known .known .side)
+    -- the writers that were counted are open still
+    pub write-beside : {k : ℕ} → k ≡ countSide (m .segment) f 2 → k ≡ countSide xs₁ f 2
+    write-beside e = e ∙ mid-writers M ∙ sym (begun-writers (W .stands) named u)
 
-    -- what a put of its data asks
-    pub write-ready : ((length (m .blocks) ≡ blocksBytes) × (f < files)) × Ready (x .words) (x .ring) (code.shareAt f (m .blocks)) (length v)
+  -- its record is put
+  module _ {x : hand.File} {row : PlaceRow} {xs₁ : List ℕ} (h : Admitted m f p x row xs₁) where
+    now : fits b && isNil (b .wq) ≡ true
+    now = sym (admits-is (M (h .seen))) ∙ sym (h .fits)
+
+    abbrev r : Rec
+    r = dataRec a v
+
+    fine-put : Fine (putRec r b₁)
+    unfolding putRec say withStore alterAcc withAccs
+    fine-put =
+        fine-walks .mild p begun (putRec r b) begun-mild
+        (fine-walks .writes p a v b (known .known .at) (known .known .side) write-short (and-left (fits b) _ now) (M (h .seen) .good))
+
+    put-out : ask (fileOf d f) (calls.write p n v) ≡ leaves (answers (Written (logOf (inWords n) (length v))) []) (settle (putRec r b₁))
+    unfolding writeOn answering putRec say withStore alterAcc withAccs
+    put-out = known .known .out ∙ pick-true (fits b && isNil (b .wq)) _ _ now
+
+    pub write-put : {blocks₁ : List ℕ} {y : hand.File} {id log : ℕ} {t : Bool} → id ≡ row .id → Keeps f (putRec (recOf 0 id v)) (m .blocks) x blocks₁ y → log ≡ logOf t (length v) → t ≡ inWords n
+        → Acts f o (ask (fileOf d f) (calls.write p n v)) (memories xs₁ blocks₁ (m .buffers)) y (Written log) []
     unfolding dataRec
-    write-ready = hand-ready M (fine-stored (M .good)) (dataRec a v) write-short
+    write-put {blocks₁} {y} ei keeps el et = record {
+      acted = putRec r b₁;
+      mid =
+          through (N (h .seen)) (putRec r) blocks₁ y
+          (subst (λ (k : ℕ). Keeps f (putRec (recOf 0 k v)) (m .blocks) x blocks₁ y) (ei ∙ row-id (W .stands) named (h .seen .place)) keeps) (fine-stored (N (h .seen) .good)) fine-put;
+      out = put-out ∙ ap (λ (k : ℕ). leaves (answers (Written k) []) (settle (putRec r b₁))) (sym (el ∙ ap (λ (w : Bool). logOf w (length v)) et));
+    }
 
-    -- the accessor's row, read and written
-    module _ (row : PlaceRow) (read : row ≡ placeAt (m .segment) (placeOf f p)) (xs₁ : List ℕ) (began : xs₁ ≡ begunSegment (m .segment) (placeOf f p)) where
-      abbrev b₁ : Built
-      b₁ = alterAcc p begun b
+    pub write-rowed : {y : hand.File} → y ≡ putIn x → RowStands xs₁ f y
+    write-rowed {y} e =
+        begun-rowed (W .stands) named (h .seen) y
+        (ap (λ (z : hand.File). z .words) e) (ap (λ (z : hand.File). z .ring .factor) e) (ap (λ (z : hand.File). z .ring .blocks) e)
 
-      N : Mid Fine f o (memories xs₁ (m .blocks) (m .buffers)) x b₁
-      N = begun-mid S f p (known .file) b (known .stands) a (known .known .at) row read x took xs₁ began
+  -- it is not
+  module _ {x : hand.File} {row : PlaceRow} {xs₁ : List ℕ} {t : Bool} (h : Untaken m f p n x row xs₁ t) where
+    abbrev H : Mid Fine f o (memories xs₁ (m .blocks) (m .buffers)) x b₁
+    H = N (h .seen)
 
-      opens : accAt b₁ p ≡ some (begun a)
-      opens = at-begun S f p (known .file) b (known .stands) a (known .known .at)
+    never : fits b && isNil (b .wq) ≡ false
+    never = sym (admits-is (M (h .seen))) ∙ sym (h .full)
 
-      -- the writers that were counted are open still
-      pub write-beside : (k : ℕ) → k ≡ countSide (m .segment) f 2 → k ≡ countSide xs₁ f 2
-      write-beside k e = e ∙ mid-writers M ∙ sym (begun-writers S f p (known .file) b (known .stands) a (known .known .at) row read x took xs₁ began)
+    waits-is : mayWaitRow (ltb 0 (countSide xs₁ f 1)) row ≡ mayWait (readers b) a
+    waits-is = row-waits (W .stands) named (h .seen .place) (begun-readers (W .stands) named (h .seen))
 
-      -- its record is put
-      module _ (taken : true ≡ admits (m .segment) f (x .ring)) where
-        now : fits b && isNil (b .wq) ≡ true
-        now = sym (admits-is M) ∙ sym taken
+    abbrev offered : Offered
+    offered = record { byWords = inWords n; bytes = v }
 
-        abbrev r : Rec
-        r = dataRec a v
+    still : begun a .req ≡ idle
+    unfolding begun
+    still = known .known .idles
 
-        fine-put : Fine (putRec r b₁)
-        unfolding putRec say withStore alterAcc withAccs
-        fine-put =
-            fine-walks .mild p begun (putRec r b) begun-mild
-            (fine-walks .writes p a v b (known .known .at) (known .known .side) write-short (and-left (fits b) _ now) (M .good))
+    -- it waits
+    free : (nth xs₁ freeList < entries) × (nth (queued xs₁ (writeQueue f) (writeEntry (placeOf f p) (inWords n) (length v))) freeList < entries)
+    unfolding writeEntry reqWords waitsRead waitsWrite entryWords
+    free = step-wait-free fine-knows H p (begun a) opens (stands-rest (W .stands) f) true (row .timeout) (writing offered) still refl
 
-        put-out : ask (fileOf d f) (calls.write p n v) ≡ leaves (answers (Written (logOf (inWords n) (length v))) []) (settle (putRec r b₁))
-        unfolding writeOn answering putRec say withStore alterAcc withAccs
-        put-out = known .known .out ∙ pick-true (fits b && isNil (b .wq)) _ _ now
+    pub write-free : (length xs₁ ≡ segmentBytes) × (nth xs₁ freeList < entries) × (nth (queued xs₁ (writeQueue f) (writeEntry (placeOf f p) t (length v))) freeList < entries)
+    write-free =
+        (mid-lengths H, free .0, subst (λ (w : Bool). nth (queued xs₁ (writeQueue f) (writeEntry (placeOf f p) w (length v))) freeList < entries) (sym (h .words)) (free .1))
 
-        pub write-put : (blocks₁ : List ℕ) (y : hand.File) (id log : ℕ) (t : Bool) → id ≡ row .id → Keeps f (putRec (recOf 0 id v)) (m .blocks) x blocks₁ y → log ≡ logOf t (length v) → t ≡ inWords n
-            → Acts f o (ask (fileOf d f) (calls.write p n v)) (memories xs₁ blocks₁ (m .buffers)) y (Written log) []
-        unfolding dataRec
-        write-put blocks₁ y id log t ei keeps el et = record {
-          acted = putRec r b₁;
-          mid =
-              through N (putRec r) blocks₁ y
-              (subst (λ (k : ℕ). Keeps f (putRec (recOf 0 k v)) (m .blocks) x blocks₁ y) (ei ∙ row-id S f p (known .file) b (known .stands) a (known .known .at) row read) keeps) (fine-stored (N .good)) fine-put;
-          out = put-out ∙ ap (λ (k : ℕ). leaves (answers (Written k) []) (settle (putRec r b₁))) (sym (el ∙ ap (λ (u : Bool). logOf u (length v)) et));
-        }
+    module _ (waits : true ≡ mayWaitRow (ltb 0 (countSide xs₁ f 1)) row) where
+      fine-wait : Fine (wait true p (a .timeout) (writing offered) b₁)
+      unfolding begun alterAcc withAccs
+      fine-wait = fine-walks .writeWaits p (a .timeout) offered (begun a) b₁ opens still (known .known .side) write-short (H .good)
 
-        pub write-rowed : (y : hand.File) → y ≡ putIn x → RowStands xs₁ f y
-        write-rowed y e =
-            begun-rowed S f p (known .file) b (known .stands) a (known .known .at) row read x took xs₁ began y
-            (ap (λ (z : hand.File). z .words) e) (ap (λ (z : hand.File). z .ring .factor) e) (ap (λ (z : hand.File). z .ring .blocks) e)
+      wait-out : ask (fileOf d f) (calls.write p n v) ≡ leaves (answers (Status 4 1) []) (settle (wait true p (a .timeout) (writing offered) b₁))
+      unfolding writeOn status answering
+      wait-out = known .known .out ∙ pick-false (fits b && isNil (b .wq)) _ _ never ∙ pick-true (mayWait (readers b) a) _ _ (sym (waits ∙ waits-is))
 
-      -- it is not
-      module _ (full : false ≡ admits (m .segment) f (x .ring)) where
-        never : fits b && isNil (b .wq) ≡ false
-        never = sym (admits-is M) ∙ sym full
+      module _ {xs₂ buffers₂ : List ℕ} (ex : xs₂ ≡ waiting xs₁ (writeQueue f) (writeEntry (placeOf f p) t (length v)) (placeOf f p) (row .timeout))
+          (eb : buffers₂ ≡ sets (m .buffers) (bufferBytes * placeOf f p) (filled v)) where
+        wait-mid : Mid Fine f o (memories xs₂ (m .blocks) buffers₂) x (wait true p (a .timeout) (writing offered) b₁)
+        unfolding writeEntry reqWords entryWords
+        wait-mid =
+            subst (λ (ys : List ℕ). Mid Fine f o (memories ys (m .blocks) buffers₂) x (wait true p (a .timeout) (writing offered) b₁))
+            (sym (ex ∙ ap₂ {C = List ℕ} (λ (w : Bool) (k : ℕ). waiting xs₁ (writeQueue f) (writeEntry (placeOf f p) w (length v)) (placeOf f p) k) (h .words)
+            (row-timeout (W .stands) named (h .seen .place))))
+            (step-wait-write fine-knows H p (begun a) opens (stands-rest (W .stands) f) (a .timeout) still offered buffers₂ write-bytes fine-wait eb)
 
-        others : countSide xs₁ f 1 ≡ readers b
-        others = begun-readers S f p (known .file) b (known .stands) a (known .known .at) row read x took xs₁ began
+        pub write-waits : Acts f o (ask (fileOf d f) (calls.write p n v)) (memories xs₂ (m .blocks) buffers₂) x (Status 4 1) []
+        write-waits = record { acted = wait true p (a .timeout) (writing offered) b₁; mid = wait-mid; out = wait-out }
 
-        abbrev w : Bool
-        w = inWords n
+        pub waits-beside : {k : ℕ} → k ≡ countSide (m .segment) f 2 → k ≡ countSide xs₂ f 2
+        waits-beside e = write-beside (h .seen) e ∙ mid-writers H ∙ sym (wait-writers p (a .timeout) (writing offered) b₁) ∙ sym (mid-writers wait-mid)
 
-        abbrev offered : Offered
-        offered = record { words = inWords n; bytes = v }
-
-        still : begun a .req ≡ idle
-        unfolding begun
-        still = known .known .idles
-
-        -- it waits
-        free : (nth xs₁ freeList < entries) × (nth (queued xs₁ (writeQueue f) (writeEntry (placeOf f p) w (length v))) freeList < entries)
-        unfolding writeEntry reqWords waitsRead waitsWrite
-        free = step-wait-free fine-knows N p (begun a) opens (stands-rest S f) true (row .timeout) (writing offered) still refl
-
-        pub write-free : (t : Bool) → t ≡ inWords n
-            → (length xs₁ ≡ segmentBytes) × (nth xs₁ freeList < entries) × (nth (queued xs₁ (writeQueue f) (writeEntry (placeOf f p) t (length v))) freeList < entries)
-        write-free t et =
-            (mid-lengths N, free .0, subst (λ (u : Bool). nth (queued xs₁ (writeQueue f) (writeEntry (placeOf f p) u (length v))) freeList < entries) (sym et) (free .1))
-
-        module _ (waits : true ≡ mayWaitRow (ltb 0 (countSide xs₁ f 1)) row) where
-          fine-wait : Fine (wait true p (a .timeout) (writing offered) b₁)
-          unfolding begun alterAcc withAccs
-          fine-wait = fine-walks .writeWaits p (a .timeout) offered (begun a) b₁ opens still (known .known .side) write-short (N .good)
-
-          wait-out : ask (fileOf d f) (calls.write p n v) ≡ leaves (answers (Status 4 1) []) (settle (wait true p (a .timeout) (writing offered) b₁))
-          unfolding writeOn status answering
-          wait-out =
-              known .known .out ∙ pick-false (fits b && isNil (b .wq)) _ _ never
-              ∙ pick-true (mayWait (readers b) a) _ _ (sym (waits ∙ row-waits S f p (known .file) b (known .stands) a (known .known .at) row read _ _ others))
-
-          module _ (xs₂ buffers₂ : List ℕ) (t : Bool) (et : t ≡ inWords n) (ex : xs₂ ≡ waiting xs₁ (writeQueue f) (writeEntry (placeOf f p) t (length v)) (placeOf f p) (row .timeout))
-              (eb : buffers₂ ≡ sets (m .buffers) (bufferBytes * placeOf f p) (filled v)) where
-            wait-mid : Mid Fine f o (memories xs₂ (m .blocks) buffers₂) x (wait true p (a .timeout) (writing offered) b₁)
-            unfolding writeEntry reqWords
-            wait-mid =
-                subst (λ (ys : List ℕ). Mid Fine f o (memories ys (m .blocks) buffers₂) x (wait true p (a .timeout) (writing offered) b₁))
-                (sym (ex ∙ ap₂ {C = List ℕ} (λ (u : Bool) (k : ℕ). waiting xs₁ (writeQueue f) (writeEntry (placeOf f p) u (length v)) (placeOf f p) k) et
-                (row-timeout S f p (known .file) b (known .stands) a (known .known .at) row read)))
-                (step-wait-write fine-knows N p (begun a) opens (stands-rest S f) (a .timeout) still offered buffers₂ write-bytes fine-wait eb)
-
-            pub write-waits : Acts f o (ask (fileOf d f) (calls.write p n v)) (memories xs₂ (m .blocks) buffers₂) x (Status 4 1) []
-            write-waits = record { acted = wait true p (a .timeout) (writing offered) b₁; mid = wait-mid; out = wait-out }
-
-            pub waits-beside : (k : ℕ) → k ≡ countSide (m .segment) f 2 → k ≡ countSide xs₂ f 2
-            waits-beside k e = write-beside k e ∙ mid-writers N ∙ sym (wait-writers p (a .timeout) (writing offered) b₁) ∙ sym (mid-writers wait-mid)
-
-        -- it ends
-        pub write-ends : false ≡ mayWaitRow (ltb 0 (countSide xs₁ f 1)) row → Acts f o (ask (fileOf d f) (calls.write p n v)) (memories xs₁ (m .blocks) (m .buffers)) x (Status 4 2) []
-        unfolding writeOn status answering
-        write-ends h = record {
-          acted = b₁;
-          mid = N;
-          out =
-              known .known .out ∙ pick-false (fits b && isNil (b .wq)) _ _ never
-              ∙ pick-false (mayWait (readers b) a) _ _ (sym (h ∙ row-waits S f p (known .file) b (known .stands) a (known .known .at) row read _ _ others));
-        }
-
--- what the code asks
-pub write-fit : {m : Memories} {d : Desk} {s : Alloc} → StandsFor m d s → (f p n : ℕ) (v : List ℕ)
-    → refusalOf (answered d (on f (calls.write p n v)) .reply) ≡ 0 → length v ≡ countBytes n → Fit m f p
-write-fit {d = d} S f p n v A size = let k = accepted-write d f p n v A in fit S f p (k .file) (k .b) (k .stands) (k .known .a) (k .known .at)
-
--- the ring's numbers are in their ranges
-pub write-ranged : {m : Memories} {d : Desk} {s : Alloc} → StandsFor m d s → (f p n : ℕ) (v : List ℕ)
-    → refusalOf (answered d (on f (calls.write p n v)) .reply) ≡ 0 → length v ≡ countBytes n → (x : hand.File) → x ≡ fileOfRow (fileAt (m .segment) f) → ring.Ranged (x .ring)
-write-ranged S f p n v A size x took = write-ready S f p n v A size x took .1 .ranged
+    -- it ends
+    pub write-ends : false ≡ mayWaitRow (ltb 0 (countSide xs₁ f 1)) row → Acts f o (ask (fileOf d f) (calls.write p n v)) (memories xs₁ (m .blocks) (m .buffers)) x (Status 4 2) []
+    unfolding writeOn status answering
+    write-ends e = record {
+      acted = b₁;
+      mid = H;
+      out = known .known .out ∙ pick-false (fits b && isNil (b .wq)) _ _ never ∙ pick-false (mayWait (readers b) a) _ _ (sym (e ∙ waits-is));
+    }

@@ -14,7 +14,7 @@ ghost use Rattle.buffers.specs.Buffer.{buffersBytes};
 ghost use Rattle.memory.specs.Memories.{memories};
 ghost use Rattle.midst.specs.Outcome.{Sound, Accepted};
 ghost use Rattle.transfers.specs.Acts.{CollectActs};
-use crate::Given;
+use crate::DataAnswer;
 use kinds::Answer;
 use kinds::limits::ANSWER_HEAD;
 use kinds::limits::PLACES;
@@ -22,7 +22,7 @@ use kinds::operations;
 use kinds::statuses;
 use segment::layout;
 
-// The completed request of a place goes, and nothing lies in the place's buffer.
+// Removes the completed request of a place, and empties the place's buffer.
 fn free(segment: &mut [u8], buffers: &mut [u8], place: usize)
     requires { ⌜ (length (now segment) ≡ segmentBytes) × (length (now buffers) ≡ buffersBytes) × (place < deskPlaces) × (nth (now segment) (replyPort place) < entries) ⌝ }
     ensures segment { λ _. ⌜ now (segment .exit) ≡ collected (now (segment .entry)) place ⌝ }
@@ -32,14 +32,14 @@ fn free(segment: &mut [u8], buffers: &mut [u8], place: usize)
     requests::collect(segment, place as u16);
 }
 
-// The file's row and its share stay as they are.
+// Collects the request of place acc of file f. The file's row and its share stay as they are.
 pub fn collect(
     segment: &mut [u8],
     buffers: &mut [u8],
     answer: &mut [u8],
     f: usize,
     acc: usize,
-) -> Given
+) -> DataAnswer
     requires { ⌜ ((blocks : List ℕ) × Sound (memories (now segment) blocks (now buffers)) × Accepted f (calls.collect acc) (memories (now segment) blocks (now buffers))) ⌝ }
     requires { ⌜ length (now answer) ≡ answerRoom ⌝ }
     ensures { λ r. ⌜ CollectActs f (calls.collect acc) (now (segment .entry)) (now (buffers .entry)) (now (answer .entry)) (now (segment .exit)) (now (buffers .exit)) (now (answer .exit)) (r .answer) (r .size) ⌝ }
@@ -47,7 +47,7 @@ pub fn collect(
     let place = PLACES * f + acc;
     let e = segment::get(segment, layout::REPLY_PORTS + place);
     if e >= layout::ENTRIES {
-        return Given {
+        return DataAnswer {
             answer: Answer::Status {
                 operation: operations::COLLECT,
                 status: statuses::WAITING,
@@ -58,7 +58,7 @@ pub fn collect(
     let m = segment::read_entry(segment, e);
     if m.status != 0 {
         free(segment, buffers, place);
-        return Given {
+        return DataAnswer {
             answer: Answer::Status {
                 operation: operations::COLLECT,
                 status: m.status as u8,
@@ -72,7 +72,7 @@ pub fn collect(
         buffers::lies(buffers, place, m.size as usize),
     );
     free(segment, buffers, place);
-    Given {
+    DataAnswer {
         answer: Answer::Collected { log: m.log },
         size: m.size,
     }

@@ -1,4 +1,4 @@
-// Read, write and collect, where the call is not refused: they first act, which fixes their answer, then the file settles. Collect does not settle.
+// Read, write and collect, when the call is not refused. Read and write first act, which fixes their answer, then the file settles. Collect does not settle.
 use kinds::Answer;
 
 mod collecting;
@@ -10,8 +10,8 @@ pub use collecting::collect;
 pub use reading::read;
 pub use writing::write;
 
-// An answer, and how many bytes of data stand behind it: in the answer memory, from the byte on where the answer's own bytes end.
-pub struct Given {
+// An answer, and the number of data bytes after it: they stand in the answer memory, starting where the answer's own bytes end.
+pub struct DataAnswer {
     pub answer: Answer,
     pub size: u16,
 }

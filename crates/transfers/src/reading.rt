@@ -9,9 +9,9 @@ ghost use Rattle.rules.specs.Settle.{handed};
 ghost use Rattle.rules.specs.Calls as calls;
 ghost use Rattle.shares.specs.Back.{recAt};
 ghost use Rattle.records.specs.Reading.{Readable};
-ghost use Rattle.memory.specs.Memories.{memories};
+ghost use Rattle.memory.specs.Memories.{lent, was, left};
 ghost use Rattle.midst.specs.Outcome.{Sound, Accepted, Gives};
-use crate::Given;
+use crate::DataAnswer;
 use crate::waiting::begin_read;
 use crate::waiting::may_wait;
 use crate::waiting::wait_read;
@@ -23,15 +23,15 @@ use kinds::operations;
 use kinds::statuses;
 use midst::take_file;
 use records::fetch::handed;
+use settling::conclude;
 use settling::has_writer;
-use settling::quick_rest;
-use settling::rest;
+use settling::quick_conclude;
 use store::fetch;
 use transfer_counts::count_bytes;
 use transfer_counts::in_words;
 use transfer_counts::log_of;
 
-// What the read is handed of the record at `at` stands in the answer memory; how many bytes.
+// Copies what the read is handed of the record at `at` into the answer memory, and gives the number of bytes.
 fn give(own: &[u8], answer: &mut [u8], at: usize, typed: bool, limit: u16) -> u16
     requires { ⌜ Readable (now own) at × (length (now answer) ≡ answerRoom) ⌝ }
     requires { ⌜ length (handed typed limit (recAt (now own) at)) ≤ bufferBytes ⌝ }
@@ -43,11 +43,11 @@ fn give(own: &[u8], answer: &mut [u8], at: usize, typed: bool, limit: u16) -> u1
     bytes.len() as u16
 }
 
-// A read that finds nothing: it waits, or it ends.
-fn unserved(status: u8) -> Given
+// The answer to a read that finds nothing: it waits, or it ends.
+fn unserved(status: u8) -> DataAnswer
     ensures { λ r. ⌜ r ≡ record { answer = Status 3 status; size = 0 } ⌝ }
 {
-    Given {
+    DataAnswer {
         answer: Answer::Status {
             operation: operations::READ,
             status,
@@ -56,7 +56,7 @@ fn unserved(status: u8) -> Given
     }
 }
 
-// It acts, "which fixes" its answer, and the file settles. A read that is served asks no more of its accessor's row than controls 46 and 47.
+// Does a read: it acts, "which fixes" its answer, then the file settles. A read that is served needs only controls 46 and 47 of its accessor's row.
 pub fn read(
     segment: &mut [u8],
     blocks: &mut [u8],
@@ -65,24 +65,24 @@ pub fn read(
     f: usize,
     acc: usize,
     count: u16,
-) -> Given
-    requires { ⌜ Sound (memories (now segment) (now blocks) (now buffers)) × Accepted f (calls.read acc count) (memories (now segment) (now blocks) (now buffers)) ⌝ }
+) -> DataAnswer
+    requires { ⌜ Sound (lent segment blocks buffers) × Accepted f (calls.read acc count) (lent segment blocks buffers) ⌝ }
     requires { ⌜ length (now answer) ≡ answerRoom ⌝ }
-    ensures { λ r. ⌜ Gives f (calls.read acc count) (memories (now (segment .entry)) (now (blocks .entry)) (now (buffers .entry))) (now (answer .entry)) (memories (now (segment .exit)) (now (blocks .exit)) (now (buffers .exit))) (now (answer .exit)) (r .answer) (r .size) ⌝ }
+    ensures { λ r. ⌜ Gives f (calls.read acc count) (was segment blocks buffers) (now (answer .entry)) (left segment blocks buffers) (now (answer .exit)) (r .answer) (r .size) ⌝ }
 {
     let place = PLACES * f + acc;
     let file = take_file(segment, f);
     let typed = segment::place_typed(segment, place) == 1;
     let keep = segment::place_keep(segment, place) == 1;
     let found = fetch(blocks, f, file, typed, keep);
-    let words = in_words(count);
+    let by_words = in_words(count);
     let limit = count_bytes(count) as u16;
     if found.got {
         let size = give(share(blocks, f), answer, found.at, typed, limit);
         begin_read(segment, place);
-        quick_rest(segment, blocks, buffers, f, found.file);
-        let log = log_of(words, size);
-        return Given {
+        quick_conclude(segment, blocks, buffers, f, found.file);
+        let log = log_of(by_words, size);
+        return DataAnswer {
             answer: Answer::Read { log },
             size,
         };
@@ -90,10 +90,10 @@ pub fn read(
     let row = segment::read_place(segment, place);
     begin_read(segment, place);
     if may_wait(has_writer(segment, f), row) {
-        wait_read(segment, f, place, row.timeout, words, limit, row.keep);
-        rest(segment, blocks, buffers, f, found.file);
+        wait_read(segment, f, place, row.timeout, by_words, limit, row.keep);
+        conclude(segment, blocks, buffers, f, found.file);
         return unserved(statuses::WAITING);
     }
-    rest(segment, blocks, buffers, f, found.file);
+    conclude(segment, blocks, buffers, f, found.file);
     unserved(statuses::END_OF_FILE)
 }

@@ -7,15 +7,16 @@ ghost use Rattle.occurrences.specs.Count.{bit};
 ghost use Rattle.segment.specs.Layout.{segmentBytes, freeList, readQueue, writeQueue, deskPlaces};
 ghost use Rattle.segment.specs.Fields.{placeAt};
 ghost use Rattle.segment.specs.Table.{nth};
-ghost use Rattle.rules.specs.Limits.{entries, bufferBytes};
+ghost use Rattle.rules.specs.Limits.{files, entries, bufferBytes};
 ghost use Rattle.requests.specs.Moves.{queued, waiting};
 ghost use Rattle.buffers.specs.Buffer.{buffersBytes, filled};
 ghost use Rattle.transfers.specs.Rows.{mayWaitRow, readEntry, writeEntry, begunSegment};
-use segment::Entry;
 use segment::PlaceRow;
+use segment::forms::waiting_read;
+use segment::forms::waiting_write;
 use segment::layout;
 
-// An accepted read: this was the accessor's first, and control 47 "is spent by that read, whatever its outcome".
+// Marks the row of an accessor whose read is accepted: later ones are not its first, and control 47 "is spent by that read, whatever its outcome".
 pub fn begin_read(segment: &mut [u8], place: usize)
     requires { ⌜ (length (now segment) ≡ segmentBytes) × (place < deskPlaces) × (placeAt (now segment) place .side ≡ 1) ⌝ }
     ensures { λ _. ⌜ now (segment .exit) ≡ begunSegment (now (segment .entry)) place ⌝ }
@@ -25,7 +26,7 @@ pub fn begin_read(segment: &mut [u8], place: usize)
     segment::put(segment, at + layout::PLACE_FIRST, 0);
 }
 
-// An accepted write: this was the accessor's first. It leaves control 47.
+// Marks the row of an accessor whose write is accepted: later ones are not its first. Control 47 stays.
 pub fn begin_write(segment: &mut [u8], place: usize)
     requires { ⌜ (length (now segment) ≡ segmentBytes) × (place < deskPlaces) × (placeAt (now segment) place .side ≡ 2) ⌝ }
     ensures { λ _. ⌜ now (segment .exit) ≡ begunSegment (now (segment .entry)) place ⌝ }
@@ -47,64 +48,46 @@ pub fn may_wait(others: bool, row: PlaceRow) -> bool
     row.first == 1
 }
 
-fn unit(words: bool) -> u16
-    ensures { λ r. ⌜ r ≡ bit words ⌝ }
+fn unit(by_words: bool) -> u16
+    ensures { λ r. ⌜ r ≡ bit «by_words» ⌝ }
 {
-    if words { 1 } else { 0 }
+    if by_words { 1 } else { 0 }
 }
 
-// A read of at most so many bytes begins to wait.
+// Makes a read of at most `limit` bytes wait.
 pub fn wait_read(
     segment: &mut [u8],
     f: usize,
     place: usize,
     seconds: u16,
-    words: bool,
+    by_words: bool,
     limit: u16,
     keep: u16,
 )
-    requires { ⌜ (length (now segment) ≡ segmentBytes) × (f < 8) × (place < deskPlaces) × (nth (now segment) freeList < entries) ⌝ }
-    requires { ⌜ nth (queued (now segment) (readQueue f) (readEntry place words limit keep)) freeList < entries ⌝ }
-    ensures { λ _. ⌜ now (segment .exit) ≡ waiting (now (segment .entry)) (readQueue f) (readEntry place words limit keep) place seconds ⌝ }
+    requires { ⌜ (length (now segment) ≡ segmentBytes) × (f < files) × (place < deskPlaces) × (nth (now segment) freeList < entries) ⌝ }
+    requires { ⌜ nth (queued (now segment) (readQueue f) (readEntry place «by_words» limit keep)) freeList < entries ⌝ }
+    ensures { λ _. ⌜ now (segment .exit) ≡ waiting (now (segment .entry)) (readQueue f) (readEntry place «by_words» limit keep) place seconds ⌝ }
 {
-    let m = Entry {
-        place: place as u16,
-        unit: unit(words),
-        limit,
-        keep,
-        status: 0,
-        log: 0,
-        size: 0,
-        seconds: 0,
-    };
+    let m = waiting_read(place as u16, unit(by_words), limit, keep);
     requests::wait(segment, layout::READ_QUEUES + f, m, seconds);
 }
 
-// A write begins to wait, its data in its buffer.
+// Makes a write wait, with its data in its buffer.
 pub fn wait_write(
     segment: &mut [u8],
     buffers: &mut [u8],
     f: usize,
     place: usize,
     seconds: u16,
-    words: bool,
+    by_words: bool,
     data: &[u8],
 )
-    requires { ⌜ (length (now segment) ≡ segmentBytes) × (length (now buffers) ≡ buffersBytes) × (f < 8) × (place < deskPlaces) × (length (now «data») ≤ bufferBytes) × (nth (now segment) freeList < entries) ⌝ }
-    requires { ⌜ nth (queued (now segment) (writeQueue f) (writeEntry place words (length (now «data»)))) freeList < entries ⌝ }
-    ensures segment { λ _. ⌜ now (segment .exit) ≡ waiting (now (segment .entry)) (writeQueue f) (writeEntry place words (length (now («data» .entry)))) place seconds ⌝ }
+    requires { ⌜ (length (now segment) ≡ segmentBytes) × (length (now buffers) ≡ buffersBytes) × (f < files) × (place < deskPlaces) × (length (now «data») ≤ bufferBytes) × (nth (now segment) freeList < entries) ⌝ }
+    requires { ⌜ nth (queued (now segment) (writeQueue f) (writeEntry place «by_words» (length (now «data»)))) freeList < entries ⌝ }
+    ensures segment { λ _. ⌜ now (segment .exit) ≡ waiting (now (segment .entry)) (writeQueue f) (writeEntry place «by_words» (length (now («data» .entry)))) place seconds ⌝ }
     ensures buffers { λ _. ⌜ now (buffers .exit) ≡ sets (now (buffers .entry)) (bufferBytes * place) (filled (now («data» .entry))) ⌝ }
 {
-    let m = Entry {
-        place: place as u16,
-        unit: unit(words),
-        limit: 0,
-        keep: 0,
-        status: 0,
-        log: 0,
-        size: data.len() as u16,
-        seconds: 0,
-    };
+    let m = waiting_write(place as u16, unit(by_words), data.len() as u16);
     buffers::fill_at(buffers, place, data);
     requests::wait(segment, layout::WRITE_QUEUES + f, m, seconds);
 }

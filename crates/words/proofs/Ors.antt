@@ -1,4 +1,4 @@
--- An `or` of all that a loop has read, which is looked at once, behind the loop.
+-- An `or` of all that a loop has read, tested once, after the loop.
 use Prim.Native.Nat.{ℕ}
 use mathlib.Core.Bool.{Bool, true, false}
 use mathlib.Core.Path.{_≡_, refl, sym, _∙_}

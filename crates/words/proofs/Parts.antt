@@ -1,7 +1,7 @@
 -- Laws of a part of a memory: one that was lent and is back, and the parts beside it.
 use Prim.Native.Nat.{ℕ, suc, _+_, _-_, _*_, _≤_, _<_}
 use mathlib.Core.Path.{_≡_, refl, sym, ap, ap₂, _∙_}
-use mathlib.Core.List.{List, _++_, append-assoc}
+use mathlib.Core.List.{List, [], _∷_, _++_, append-assoc}
 use mathlib.Core.Logic.{_⊎_, inl, inr}
 use native.Mathlib.Omega.{arith}
 use native.Mathlib.Nat.{mul-suc, mul-le-mul-left}
@@ -11,18 +11,23 @@ use Rattle.words.specs.Word.{part}
 use Rattle.words.proofs.Runs.{sets-sets, sets-at}
 use Rattle.words.proofs.Stands.{getD-sets, same, part-read}
 
--- the part from a on, k bytes long, comes back as ys
+-- A list of length 0 is empty.
+pub length-zero : {A : Type 0} (l : List A) → length l ≡ 0 → l ≡ []
+length-zero [] e = refl
+length-zero (x ∷ l) e = absurd (omega arith)
+
+-- the part of k bytes that starts at a comes back as ys
 pub part-back : (xs ys : List ℕ) (a k : ℕ) → length ys ≡ k → a + k ≤ length xs → take a xs ++ (ys ++ drop k (drop a xs)) ≡ sets xs a ys
 part-back xs ys a k e h =
     rw (drop-drop k a xs, ← e, ← append-assoc (take a xs) ys (drop (a + length ys) xs)) (sym (sets-eq ys xs a (omega arith)))
 
--- it is what was stored there
+-- the part is what was stored there
 pub part-same : (xs ys : List ℕ) (a k : ℕ) → length ys ≡ k → a + k ≤ length xs → take k (drop a (sets xs a ys)) ≡ ys
 part-same xs ys a k e h =
     let f : a + length ys ≤ length (sets xs a ys) = rw length-sets (omega arith) in
     rw (← e) (part-read ys (sets xs a ys) a f (same ys xs a (omega arith)))
 
--- and all beside it stays
+-- all beside the stored part stays
 pub part-beside : (xs ys : List ℕ) (a b k : ℕ) → (b + k ≤ a) ⊎ (a + length ys ≤ b) → take k (drop b (sets xs a ys)) ≡ take k (drop b xs)
 part-beside xs ys a b k d =
     let n : length (take k (drop b (sets xs a ys))) ≡ length (take k (drop b xs)) = simp (length-take, length-drop, length-sets) in
@@ -82,7 +87,7 @@ part-lent xs ys zs k m i n h l e = rw e (part-back xs zs (k * i) k l (omega (ari
 pub part-own : (xs zs : List ℕ) (k m i : ℕ) → length xs ≡ k * m → i < m → length zs ≡ k → part k i (sets xs (k * i) zs) ≡ zs
 part-own xs zs k m i n h l = part-same xs zs (k * i) k l (omega (arith, part-fits k m i h))
 
--- those before and behind the i-th stay
+-- the parts before and after the i-th stay
 pub part-other : (xs ys : List ℕ) (k i j : ℕ) → length ys ≡ k → (i < j) ⊎ (j < i) → part k j (sets xs (k * i) ys) ≡ part k j xs
 part-other xs ys k i j e (inl h) = part-beside xs ys (k * i) (k * j) k (inr (omega (arith, part-fits k j i h)))
 part-other xs ys k i j e (inr h) = part-beside xs ys (k * i) (k * j) k (inl (part-fits k i j h))

@@ -17,12 +17,12 @@ pub getD-zeros : (n i : ℕ) → i < n → getD (zeros n) i 0 ≡ 0
 unfolding zeros
 getD-zeros n i h = getD-replicate n i 0 0 h
 
--- one run right behind another
+-- one run right after another
 pub sets-sets : (vs ws xs : List ℕ) (i : ℕ) → sets (sets xs i vs) (i + length vs) ws ≡ sets xs i (vs ++ ws)
 sets-sets [] ws xs i = rw add-zero
 sets-sets (v ∷ vs) ws xs i = rw (add-suc, ← suc-add) (sets-sets vs ws (set xs i v) (suc i))
 
--- the same, the second's place known by an equation
+-- one run right after another, the second's place known by an equation
 pub sets-at : (vs ws xs : List ℕ) (i j : ℕ) → i + length vs ≡ j → sets (sets xs i vs) j ws ≡ sets xs i (vs ++ ws)
 sets-at vs ws xs i j e = rw (← e) (sets-sets vs ws xs i)
 

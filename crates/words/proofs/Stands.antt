@@ -1,4 +1,4 @@
--- Bytes that stand in a memory: `Stands xs a bs`, from place a on, one after another; and what a store leaves alone.
+-- Bytes that stand in a memory: `Stands xs a bs`, starting at place a, one after another; and what a store leaves alone.
 use Prim.Native.Nat.{ℕ, suc, _+_, _≤_, _<_}
 use mathlib.Core.Path.{_≡_, refl, _∙_}
 use mathlib.Core.List.{List, [], _∷_, _++_}
@@ -60,7 +60,7 @@ part-read [] xs a r h = refl
 part-read (b ∷ bs) xs a r h =
     rw (drop-cons xs a 0 (omega arith), h .0, part-read bs xs (suc a) (omega arith) (h .1))
 
--- all that changed lies in the n bytes from a on
+-- all that changed lies in the n bytes starting at a
 unfoldable pub Within : List ℕ → List ℕ → ℕ → ℕ → Type 0
 Within xs ys a n = (i : ℕ) → (i < a) ⊎ (a + n ≤ i) → getD ys i 0 ≡ getD xs i 0
 

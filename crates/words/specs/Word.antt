@@ -9,7 +9,7 @@ use lib.ListN.{getD, take, drop, replicate}
 abbrev pub word : ℕ → List ℕ
 word w = w / 256 ∷ w % 256 ∷ []
 
--- the word whose high byte stands at `at`
+-- the word whose high byte lies at `at`
 abbrev pub wordAt : List ℕ → ℕ → ℕ
 wordAt xs at = getD xs at 0 * 256 + getD xs (at + 1) 0
 
@@ -17,7 +17,7 @@ wordAt xs at = getD xs at 0 * 256 + getD xs (at + 1) 0
 unfoldable pub zeros : ℕ → List ℕ
 zeros n = replicate n 0
 
--- n zero bytes from p on
+-- whether n bytes starting at p are zero
 unfoldable pub quiet : List ℕ → ℕ → ℕ → Bool
 quiet xs p zero = true
 quiet xs p (suc n) = elim (eqb (getD xs p 0) 0) [ true ↦ quiet xs (suc p) n | false ↦ false ]

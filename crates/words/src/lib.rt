@@ -13,7 +13,7 @@ pub fn get(s: &[u8], at: usize) -> u16
     (s[at] as u16) * 256 + s[at + 1] as u16
 }
 
-// The word w is stored at a place.
+// Stores the word w at a place.
 pub fn put(s: &mut [u8], at: usize, w: u16)
     requires { ⌜ at + 2 ≤ length (now s) ⌝ }
     ensures { λ _. ⌜ now (s .exit) ≡ sets (now (s .entry)) at (word w) ⌝ }
@@ -22,7 +22,7 @@ pub fn put(s: &mut [u8], at: usize, w: u16)
     s[at + 1] = (w % 256) as u8;
 }
 
-// n bytes from a place on become zero.
+// Zeroes n bytes, starting at `at`.
 pub fn zero(s: &mut [u8], at: usize, n: usize)
     requires { ⌜ at + n ≤ length (now s) ⌝ }
     ensures { λ _. ⌜ now (s .exit) ≡ sets (now (s .entry)) at (zeros n) ⌝ }
@@ -34,7 +34,7 @@ pub fn zero(s: &mut [u8], at: usize, n: usize)
     }
 }
 
-// All of `from` is stored from a place on, byte by byte.
+// Stores all of `from`, starting at `at`, byte by byte.
 fn store(s: &mut [u8], at: usize, from: &[u8])
     requires { ⌜ at + length (now from) ≤ length (now s) ⌝ }
     ensures { λ _. ⌜ now (s .exit) ≡ sets (now (s .entry)) at (now (from .entry)) ⌝ }
@@ -46,14 +46,14 @@ fn store(s: &mut [u8], at: usize, from: &[u8])
     }
 }
 
-// The bytes that are copied at once, where there are so many.
+// The number of bytes that are copied at once, if there are that many.
 const RUN: usize = 16;
 
 const HALF: usize = RUN / 2;
 
 const QUARTER: usize = HALF / 2;
 
-// So many bytes by way of a local, which no memory overlaps: LLVM then makes one load and one store of them, where it has to go byte by byte from memory to memory.
+// Stores a run by way of a local, which no memory overlaps. LLVM then makes one load and one store of it; from memory to memory it has to go byte by byte.
 fn store_run(s: &mut [u8], at: usize, from: &[u8])
     requires { ⌜ (length (now from) ≡ 16) × (at + 16 ≤ length (now s)) ⌝ }
     ensures { λ _. ⌜ now (s .exit) ≡ sets (now (s .entry)) at (now (from .entry)) ⌝ }
@@ -63,7 +63,7 @@ fn store_run(s: &mut [u8], at: usize, from: &[u8])
     store(s, at, &run);
 }
 
-// Half of a run, in the same way.
+// Stores half of a run, as `store_run` does.
 fn store_half(s: &mut [u8], at: usize, from: &[u8])
     requires { ⌜ (length (now from) ≡ 8) × (at + 8 ≤ length (now s)) ⌝ }
     ensures { λ _. ⌜ now (s .exit) ≡ sets (now (s .entry)) at (now (from .entry)) ⌝ }
@@ -73,7 +73,7 @@ fn store_half(s: &mut [u8], at: usize, from: &[u8])
     store(s, at, &run);
 }
 
-// And a quarter.
+// Stores a quarter of a run, as `store_run` does.
 fn store_quarter(s: &mut [u8], at: usize, from: &[u8])
     requires { ⌜ (length (now from) ≡ 4) × (at + 4 ≤ length (now s)) ⌝ }
     ensures { λ _. ⌜ now (s .exit) ≡ sets (now (s .entry)) at (now (from .entry)) ⌝ }
@@ -83,7 +83,7 @@ fn store_quarter(s: &mut [u8], at: usize, from: &[u8])
     store(s, at, &run);
 }
 
-// Fewer bytes than a half: two quarters, the second over some of the first, or, of three at most, byte by byte.
+// Stores fewer bytes than a half: two quarters, the second over some of the first; at most three bytes go one by one.
 fn store_few(s: &mut [u8], at: usize, from: &[u8])
     requires { ⌜ (at + length (now from) ≤ length (now s)) × (length (now from) ≤ 8) ⌝ }
     ensures { λ _. ⌜ now (s .exit) ≡ sets (now (s .entry)) at (now (from .entry)) ⌝ }
@@ -98,7 +98,7 @@ fn store_few(s: &mut [u8], at: usize, from: &[u8])
     store_quarter(s, at + last, &from[last..]);
 }
 
-// Fewer bytes than a run: two halves, the second over some of the first.
+// Stores fewer bytes than a run: two halves, the second over some of the first.
 fn store_short(s: &mut [u8], at: usize, from: &[u8])
     requires { ⌜ (at + length (now from) ≤ length (now s)) × (length (now from) ≤ 16) ⌝ }
     ensures { λ _. ⌜ now (s .exit) ≡ sets (now (s .entry)) at (now (from .entry)) ⌝ }
@@ -113,7 +113,7 @@ fn store_short(s: &mut [u8], at: usize, from: &[u8])
     store_half(s, at + last, &from[last..]);
 }
 
-// All of `from` is stored from a place on. The last run is the last of `from`, over some of the bytes before it: none is left to go alone.
+// Stores all of `from`, starting at `at`. The last run is the end of `from`, over some of the bytes before it: none is left to go alone.
 pub fn copy(s: &mut [u8], at: usize, from: &[u8])
     requires { ⌜ at + length (now from) ≤ length (now s) ⌝ }
     ensures { λ _. ⌜ now (s .exit) ≡ sets (now (s .entry)) at (now (from .entry)) ⌝ }
@@ -133,7 +133,7 @@ pub fn copy(s: &mut [u8], at: usize, from: &[u8])
     store_run(s, at + last, &from[last..]);
 }
 
-// Whether n bytes from a place on are zero: one `or` of them all, with no way out, for LLVM to take many bytes at a time.
+// Whether n bytes, starting at `at`, are zero: one `or` of them all, with no early exit, so that LLVM takes many bytes at a time.
 pub fn quiet(s: &[u8], at: usize, n: usize) -> bool
     requires { ⌜ at + n ≤ length (now s) ⌝ }
     ensures { λ r. ⌜ r ≡ quiet (now (s .entry)) at n ⌝ }

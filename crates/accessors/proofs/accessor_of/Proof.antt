@@ -7,9 +7,6 @@ use borrow.Author.Needs.{needs}
 use Rattle.accessors.proofs.accessor_of.Statement.{statement}
 use Rattle.accessors.proofs.accessor_of.Tie as tie
 
-words-of-requires : tie.Need-words-of-requires
-words-of-requires c κs = search needs
-
 returns : tie.Need-returns
 unfolding accessorAt
 returns c = rw (← c .before .words-of .ensures, eq-eqb _ _ (c .if1 .taken))
@@ -65,7 +62,7 @@ pub accessor-of-spec : {M : Type 1} → statement M
 accessor-of-spec =
     tie.close
     (tie.spec
-    words-of-requires
+    (λ c κs. search needs)
     returns
     returns-2
     mul-place-side

@@ -10,12 +10,9 @@ returns : tie.Need-returns
 unfolding wordsAt
 returns c = rw (le-leb _ _ (c .if1 .taken))
 
-read-file-requires : tie.Need-read-file-requires
-read-file-requires c κs = search needs
-
 returns-2 : tie.Need-returns-2
 unfolding wordsAt
 returns-2 c = rw (lt-leb _ _ (c .before .if1 .left)) (ap (λ r. r .words) (c .read-file .ensures))
 
 pub words-of-spec : {M : Type 1} → statement M
-words-of-spec = tie.close (tie.spec returns read-file-requires returns-2)
+words-of-spec = tie.close (tie.spec returns (λ c κs. search needs) returns-2)

@@ -40,7 +40,7 @@ module _ (words : ℕ) (xs : List ℕ) (e p : ℕ) where
   pub unfair : (Fair words xs e p → ⊥) → false ≡ fair words xs e p
   unfair k = fair-is false (λ h. absurd (true≢false (sym h))) (λ f. absurd (k f))
 
--- one that passed the first six tests, its four numbers being as the code has them
+-- a record that passed the first six tests, its four numbers being as the code has them
 module _ (words : ℕ) (xs : List ℕ) (e p w q t i : ℕ) (cw : w ≡ wordAt xs p) (cq : q ≡ next xs p) (ct : t ≡ wordAt xs (p + 2)) (ci : i ≡ wordAt xs (p + 4))
     (room : p + 6 ≤ e) (low : 4 ≤ w) (high : w ≤ 4 + 2 * words) (inside : q ≤ e) (kind : t ≤ mostType) (from : 1 ≤ i) where
   rest : (t ≡ 0) ⊎ (w ≡ 4) → (w % 2 ≡ 0) ⊎ (getD xs (p + 2 + w) 0 ≡ 0) → Fair words xs e p
@@ -68,7 +68,7 @@ module _ (words : ℕ) (xs : List ℕ) (e p w q t i : ℕ) (cw : w ≡ wordAt xs
       (λ h. rest (inl z) (inr (eqb-true (getD xs (p + 2 + w) 0) 0 h)))
       (λ f. ⊎-elim (λ y. absurd (v (ap (λ (x : ℕ). x % 2) cw ∙ y))) (λ y. eq-eqb (getD xs (p + 2 + w) 0) 0 (ap (λ (x : ℕ). getD xs (p + 2 + x) 0) cw ∙ y)) (f .even))
 
--- records one behind another
+-- records one after another
 
 module _ (words : ℕ) (xs : List ℕ) (e end p : ℕ) where
   pub walk-step : (n q : ℕ) → 0 < n → fair words xs e p ≡ true → q ≡ next xs p → walk words xs e end p n ≡ walk words xs e end q (n - 1)

@@ -13,7 +13,7 @@ use Rattle.blocks.proofs.check.Laws.{fair-even}
 pub two-words : (a b w : ℕ) → b < 65536 → a * 65536 + b ≡ w * 65536 + 0 → (a ≡ w) × (b ≡ 0)
 two-words a b w l e = (omega arith, omega arith)
 
--- the plain test takes it, and goes on right behind it
+-- the plain test takes such a record, and goes on right after it
 pub whole-fair : (words : ℕ) (xs : List ℕ) (e p : ℕ) → p + (6 + 2 * words) ≤ e → wordAt xs p ≡ 4 + 2 * words → wordAt xs (p + 2) ≡ 0 → 1 ≤ wordAt xs (p + 4)
     → (fair words xs e p ≡ true) × (next xs p ≡ p + (6 + 2 * words)) × (p + (6 + 2 * words) ≤ e)
 unfolding next

@@ -20,7 +20,7 @@ use Rattle.ring.specs.declared.layout.Span.{Span}
 use Rattle.ring.specs.Ring.{geo, spanOf, tail}
 use Rattle.blocks.specs.Writing.{recOf, recordSize, begun, Roomy, tailAt, inscribed}
 
--- the five stores of a record, one right behind another, are one run
+-- the five stores of a record, one right after another, are one run
 pub record-written : (x₀ x₁ x₂ x₃ x₄ x₅ body : List ℕ) (typ wid : ℕ) → x₁ ≡ sets x₀ 0 (word (4 + length body)) → x₂ ≡ sets x₁ 2 (word typ)
     → x₃ ≡ sets x₂ 4 (word wid) → x₄ ≡ sets x₃ 6 body → x₅ ≡ sets x₄ (6 + length body) (pad (length body))
     → x₅ ≡ sets x₀ 0 (recordBytes (recOf typ wid body))

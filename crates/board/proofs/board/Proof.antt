@@ -7,20 +7,11 @@ use borrow.Author.Needs.{needs}
 use Rattle.board.proofs.board.Statement.{statement}
 use Rattle.board.proofs.board.Tie as tie
 
-sound-requires : tie.Need-sound-requires
-sound-requires c κs = search needs
-
-refused-requires : tie.Need-refused-requires
-refused-requires c κs = search needs
-
 returns : tie.Need-returns
 returns c =
     let test : tie.After-sound = search in
     let one : tie.Then1 = search in
     (rw (c .refused .ensures .0, c .refused .ensures .1) (board-unsound _ _ (sym (test .sound .ensures) ∙ not-true _ (one .if1 .taken))), omega (arith, c .refused .ensures .1))
-
-refused-requires-2 : tie.Need-refused-requires-2
-refused-requires-2 c κs = search needs
 
 returns-2 : tie.Need-returns-2
 returns-2 c =
@@ -39,12 +30,6 @@ put-files-requires c κs =
     let known2 : tie.After-shared-slice-known2 = search in
     let known3 : tie.After-shared-slice-known3 = search in
     (board-stood _ (sym (test .sound .ensures) ∙ not-false _ (one .if1 .left)) (λ i. known .shared-slice-known .given i .fits) (λ i. known2 .shared-slice-known2 .given i .fits) (λ i. known3 .shared-slice-known3 .given i .fits), two .if2 .left)
-
-put-nothing-requires : tie.Need-put-nothing-requires
-put-nothing-requires c κs = search needs
-
-same-length : tie.Need-same-length
-same-length c = search needs
 
 returns-3 : tie.Need-returns-3
 unfolding Bytes
@@ -67,12 +52,12 @@ pub board-spec : {M : Type 1} → statement M
 board-spec =
     tie.close
     (tie.spec
-    sound-requires
-    refused-requires
+    (λ c κs. search needs)
+    (λ c κs. search needs)
     returns
-    refused-requires-2
+    (λ c κs. search needs)
     returns-2
     put-files-requires
-    put-nothing-requires
-    same-length
+    (λ c κs. search needs)
+    (λ c. search needs)
     returns-3)

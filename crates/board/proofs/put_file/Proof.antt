@@ -5,15 +5,6 @@ use borrow.Author.Needs.{needs}
 use Rattle.board.proofs.put_file.Statement.{statement}
 use Rattle.board.proofs.put_file.Tie as tie
 
-take-file-requires : tie.Need-take-file-requires
-take-file-requires c κs = search needs
-
-counts-requires : tie.Need-counts-requires
-counts-requires c κs = search needs
-
-enum-known-counts : tie.Need-enum-known-counts
-enum-known-counts c = search needs
-
 returns : tie.Need-returns
 returns c =
     let count : tie.After-counts = search in
@@ -30,18 +21,12 @@ room-left-requires c κs =
     let n = counts-are (p .b) _ (count .counts .ensures _ _ _ _ (p .stands) (p .is)) _ _ _ _ (known .counts2 .given .1) in
     (ring-ranged (p .stands) _ (p .file) (p .b) (p .is) _ (taken .take-file .ensures), room-low (p .stands) _ (p .file) (p .b) (p .is) _ (taken .take-file .ensures) _ (n .2))
 
-cast-put-geometry : tie.Need-cast-put-geometry
-cast-put-geometry c = search needs
-
 put-geometry-requires : tie.Need-put-geometry-requires
 put-geometry-requires c κs =
     let start : tie.Start = search in
     let taken : tie.After-take-file = search in
     let p = start .pre .0 in
     (omega (arith, start .pre .1), omega (arith, p .file), words-low (p .stands) _ (p .file) (p .b) (p .is) _ (taken .take-file .ensures))
-
-put-held-requires : tie.Need-put-held-requires
-put-held-requires c κs = search needs
 
 put-accessors-requires : tie.Need-put-accessors-requires
 put-accessors-requires c κs =
@@ -50,9 +35,6 @@ put-accessors-requires c κs =
     let second : tie.After-put-held = search in
     let p = start .pre .0 in
     (p .stands .stands .segment .size, p .file, omega (arith, start .pre .1, first .put-geometry .ensures .low, first .put-geometry .ensures .long, second .put-held .ensures .low, second .put-held .ensures .long))
-
-same-length : tie.Need-same-length
-same-length c = search needs
 
 returns-2 : tie.Need-returns-2
 returns-2 c =
@@ -74,14 +56,14 @@ pub put-file-spec : {M : Type 1} → statement M
 put-file-spec =
     tie.close
     (tie.spec
-    take-file-requires
-    counts-requires
-    enum-known-counts
+    (λ c κs. search needs)
+    (λ c κs. search needs)
+    (λ c. search needs)
     returns
     room-left-requires
-    cast-put-geometry
+    (λ c. search needs)
     put-geometry-requires
-    put-held-requires
+    (λ c κs. search needs)
     put-accessors-requires
-    same-length
+    (λ c. search needs)
     returns-2)

@@ -23,14 +23,8 @@ loop-holds c = (omega arith, λ buffers d s S. filed-none _ _)
 put-if-built-requires : tie.Need-put-if-built-requires Inv-loop μ-loop
 put-if-built-requires c κs =
     let start : tie.Start Inv-loop μ-loop = search in
-    let i = c .before .before .loop .inv .1 _ _ _ (start .pre .0 .3) in
+    let i = c .before .before .loop .inv .1 _ _ _ (start .pre .0 .1 .2) in
     (start .pre .0, c .before .loop-test .taken, omega (arith, i .low, i .long, start .pre .1, c .before .loop-test .taken))
-
-add-f : tie.Need-add-f Inv-loop μ-loop
-add-f c = search needs
-
-loop-less : tie.Need-loop-less Inv-loop μ-loop
-loop-less c = search needs
 
 loop-again : tie.Need-loop-again Inv-loop μ-loop
 loop-again c =
@@ -41,7 +35,7 @@ loop-again c =
 same-length : tie.Need-same-length Inv-loop μ-loop
 same-length c =
     let start : tie.Start Inv-loop μ-loop = search in
-    c .before .loop .inv .1 _ _ _ (start .pre .0 .3) .long
+    c .before .loop .inv .1 _ _ _ (start .pre .0 .1 .2) .long
 
 returns : tie.Need-returns Inv-loop μ-loop
 returns c = λ buffers d s S. filed-all _ _ _ _ _ (c .before .loop .inv .0) (c .loop-test .left) (c .before .loop .inv .1 buffers d s S)
@@ -54,8 +48,8 @@ put-files-spec =
     μ-loop
     loop-holds
     put-if-built-requires
-    add-f
-    loop-less
+    (λ c. search needs)
+    (λ c. search needs)
     loop-again
     same-length
     returns)

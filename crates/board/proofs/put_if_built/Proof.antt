@@ -7,7 +7,7 @@ use Rattle.board.proofs.put_if_built.Tie as tie
 words-of-requires : tie.Need-words-of-requires
 words-of-requires c κs =
     let start : tie.Start = search in
-    start .pre .0 .3 .stands .segment .size
+    start .pre .0 .1 .2 .stands .segment .size
 
 returns : tie.Need-returns
 returns c =
@@ -23,9 +23,6 @@ put-file-requires c κs =
     let one : tie.Else1 = search in
     (stood-file _ _ (start .pre .1) (words .words-of .ensures) (one .if1 .left) (start .pre .0), start .pre .2)
 
-same-length : tie.Need-same-length
-same-length c = search needs
-
 returns-2 : tie.Need-returns-2
 returns-2 c =
     let start : tie.Start = search in
@@ -33,7 +30,7 @@ returns-2 c =
     let one : tie.Else1 = search in
     let put : tie.After-put-file = search in
     let text = built-put _ _ (start .pre .1) (words .words-of .ensures) (one .if1 .left) _ _ _ _ (put .put-file .ensures) in
-    (text _ _ _ (start .pre .0 .3) .low, text)
+    (text _ _ _ (start .pre .0 .1 .2) .low, text)
 
 pub put-if-built-spec : {M : Type 1} → statement M
 put-if-built-spec =
@@ -42,5 +39,5 @@ put-if-built-spec =
     words-of-requires
     returns
     put-file-requires
-    same-length
+    (λ c. search needs)
     returns-2)

@@ -4,15 +4,6 @@ use borrow.Author.Needs.{needs}
 use Rattle.board.proofs.put_nothing.Statement.{statement}
 use Rattle.board.proofs.put_nothing.Tie as tie
 
-slice-aggregate-put-text : tie.Need-slice-aggregate-put-text
-slice-aggregate-put-text c = search needs
-
-put-text-requires : tie.Need-put-text-requires
-put-text-requires c κs = search needs
-
-same-length : tie.Need-same-length
-same-length c = search needs
-
 returns : tie.Need-returns
 unfolding spell
 returns c =
@@ -25,4 +16,4 @@ returns-2 c = ends-some _ _ (c .if1 .left)
 
 pub put-nothing-spec : {M : Type 1} → statement M
 put-nothing-spec =
-    tie.close (tie.spec slice-aggregate-put-text put-text-requires same-length returns returns-2)
+    tie.close (tie.spec (λ c. search needs) (λ c κs. search needs) (λ c. search needs) returns returns-2)

@@ -21,12 +21,6 @@ put-place-requires c κs =
     let i = c .before .before .loop .inv .1 in
     (start .pre .0, start .pre .1, c .before .loop-test .taken, omega (arith, i .low, i .long, start .pre .2, c .before .loop-test .taken))
 
-add-p : tie.Need-add-p Inv-loop μ-loop
-add-p c = search needs
-
-loop-less : tie.Need-loop-less Inv-loop μ-loop
-loop-less c = search needs
-
 loop-again : tie.Need-loop-again Inv-loop μ-loop
 loop-again c =
     let turn : tie.In-loop Inv-loop μ-loop = search in
@@ -47,8 +41,8 @@ put-places-spec =
     μ-loop
     loop-holds
     put-place-requires
-    add-p
-    loop-less
+    (λ c. search needs)
+    (λ c. search needs)
     loop-again
     same-length
     returns)

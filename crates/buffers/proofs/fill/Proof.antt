@@ -3,18 +3,6 @@ use borrow.Author.Needs.{needs}
 use Rattle.buffers.proofs.fill.Statement.{statement}
 use Rattle.buffers.proofs.fill.Tie as tie
 
-copy-requires : tie.Need-copy-requires
-copy-requires c κs = search needs
-
-sub-zero : tie.Need-sub-zero
-sub-zero c = search needs
-
-zero-requires : tie.Need-zero-requires
-zero-requires c κs = search needs
-
-same-length : tie.Need-same-length
-same-length c = search needs
-
 returns : tie.Need-returns
 returns c =
     let here : tie.After-copy = search in let copy = here .copy in
@@ -22,4 +10,4 @@ returns c =
     fill-written _ _ _ _ (start .pre .0) (start .pre .1) (copy .ensures) (c .before .before .zero .ensures)
 
 pub fill-spec : {M : Type 1} → statement M
-fill-spec = tie.close (tie.spec copy-requires sub-zero zero-requires same-length returns)
+fill-spec = tie.close (tie.spec (λ c κs. search needs) (λ c. search needs) (λ c κs. search needs) (λ c. search needs) returns)

@@ -5,27 +5,6 @@ use borrow.Author.Needs.{needs}
 use Rattle.buffers.proofs.fill_at.Statement.{statement}
 use Rattle.buffers.proofs.fill_at.Tie as tie
 
-mul-a : tie.Need-mul-a
-mul-a c = search needs
-
-add-e : tie.Need-add-e
-add-e c = search needs
-
-sub-fill : tie.Need-sub-fill
-sub-fill c = search needs
-
-part-fill-start : tie.Need-part-fill-start
-part-fill-start c = search needs
-
-part-fill-end : tie.Need-part-fill-end
-part-fill-end c = search needs
-
-fill-requires : tie.Need-fill-requires
-fill-requires c κs = search needs
-
-same-length : tie.Need-same-length
-same-length c = search needs
-
 returns : tie.Need-returns
 returns c =
     let start : tie.Start = search in
@@ -36,4 +15,4 @@ returns c =
 pub fill-at-spec : {M : Type 1} → statement M
 fill-at-spec =
     tie.close
-    (tie.spec mul-a add-e sub-fill part-fill-start part-fill-end fill-requires same-length returns)
+    (tie.spec (λ c. search needs) (λ c. search needs) (λ c. search needs) (λ c. search needs) (λ c. search needs) (λ c κs. search needs) (λ c. search needs) returns)

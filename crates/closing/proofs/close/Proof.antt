@@ -6,8 +6,8 @@ use Rattle.closing.proofs.close.Statement.{statement}
 use Rattle.closing.proofs.close.Tie as tie
 
 -- The way back from one place to another.
-abbrev after-remove-from-after-rest : tie.After-rest → tie.After-remove
-after-remove-from-after-rest c = search
+abbrev after-remove-from-after-conclude : tie.After-conclude → tie.After-remove
+after-remove-from-after-conclude c = search
 
 mul-place-side : tie.Need-mul-place-side
 mul-place-side c =
@@ -53,8 +53,8 @@ leave-requires c κs =
     (remove .ensures .1 .0) (remove .ensures .1 .1) in
     (_, _, C .file, C .acc, C .mid, C .at, C .still)
 
-rest-requires : tie.Need-rest-requires
-rest-requires c κs =
+conclude-requires : tie.Need-conclude-requires
+conclude-requires c κs =
     let here : tie.After-leave = search in let leave = here .leave in
     let here : tie.After-remove = search in let remove = here .remove in
     let here : tie.After-take-file = search in let take-file = here .take-file in
@@ -67,26 +67,26 @@ rest-requires c κs =
 
 same-length : tie.Need-same-length
 same-length c =
-    let here : tie.After-rest = search in let rest = here .rest in
+    let here : tie.After-conclude = search in let conclude = here .conclude in
     let here : tie.After-leave = search in let leave = here .leave in
     let here : tie.After-remove = search in let remove = here .remove in
-    rest .kept .0 ∙ (leave .kept .0 ∙ remove .kept .0)
+    conclude .kept .0 ∙ (leave .kept .0 ∙ remove .kept .0)
 
 same-length-2 : tie.Need-same-length-2
 same-length-2 c =
-    let here : tie.After-rest = search in let rest = here .rest in
+    let here : tie.After-conclude = search in let conclude = here .conclude in
     let here : tie.After-leave = search in let leave = here .leave in
-    rest .kept .1 .0 ∙ leave .kept .1 .0
+    conclude .kept .1 .0 ∙ leave .kept .1 .0
 
 same-length-3 : tie.Need-same-length-3
 same-length-3 c =
-    let here : tie.After-rest = search in let rest = here .rest in
-    let here = after-remove-from-after-rest here in let remove = here .remove in
-    rest .kept .1 .1 .0 ∙ remove .kept .1 .0
+    let here : tie.After-conclude = search in let conclude = here .conclude in
+    let here = after-remove-from-after-conclude here in let remove = here .remove in
+    conclude .kept .1 .1 .0 ∙ remove .kept .1 .0
 
 returns : tie.Need-returns
 returns c =
-    let here : tie.After-rest = search in let rest = here .rest in
+    let here : tie.After-conclude = search in let conclude = here .conclude in
     let here : tie.After-leave = search in let leave = here .leave in
     let here : tie.After-remove = search in let remove = here .remove in
     let here : tie.After-take-file = search in let take-file = here .take-file in
@@ -96,7 +96,7 @@ returns c =
     let C = clears S _ _ (start .pre .1 d s S) _ (place-side .ensures) _ (take-file .ensures) _ _
     (remove .ensures .1 .0) (remove .ensures .1 .1) in
     close-done C
-    (rest .ensures _ _ (leave .ensures _ _ (C .file) (C .acc) (C .mid) (C .at) (C .still)) (S .stands .bodies) _)
+    (conclude .ensures _ _ (leave .ensures _ _ (C .file) (C .acc) (C .mid) (C .at) (C .still)) (S .stands .bodies) _)
 
 pub close-spec : {M : Type 1} → statement M
 close-spec =
@@ -108,7 +108,7 @@ close-spec =
     take-file-requires
     remove-requires
     leave-requires
-    rest-requires
+    conclude-requires
     same-length
     same-length-2
     same-length-3

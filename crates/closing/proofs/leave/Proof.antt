@@ -24,9 +24,6 @@ write-place-requires c κs =
     let (buffers, o, b, a, M, e, i) = start .pre in
     (leave-size M _ a e .0, omega (arith, leave-size M _ a e .1, leave-size M _ a e .2))
 
-same-length : tie.Need-same-length
-same-length c = search needs
-
 returns : tie.Need-returns
 returns c =
     let here : tie.After-write-place = search in let write-place = here .write-place in
@@ -45,12 +42,6 @@ part-requires c κs =
       _,
       writer-gone M _ a e i _ (read-place .ensures) _ (write-place .ensures) (c .before .before .if1 .left),
     )
-
-same-length-2 : tie.Need-same-length-2
-same-length-2 c = search needs
-
-same-length-3 : tie.Need-same-length-3
-same-length-3 c = search needs
 
 returns-2 : tie.Need-returns-2
 returns-2 c =
@@ -71,9 +62,9 @@ leave-spec =
     add-place
     read-place-requires
     write-place-requires
-    same-length
+    (λ c. search needs)
     returns
     part-requires
-    same-length-2
-    same-length-3
+    (λ c. search needs)
+    (λ c. search needs)
     returns-2)

@@ -7,9 +7,6 @@ use Rattle.closing.proofs.part.Tie as tie
 last-gone-requires : tie.Need-last-gone-requires
 last-gone-requires c κs = let (buffers, o, b, M) = c .before .before .before .pre in (_, _, buffers, _, o, b, M)
 
-slice-aggregate-put : tie.Need-slice-aggregate-put
-slice-aggregate-put c = search needs
-
 put-requires : tie.Need-put-requires
 put-requires c κs =
     let here : tie.After-last-gone = search in let last-gone = here .last-gone in
@@ -17,12 +14,6 @@ put-requires c κs =
     let (buffers, o, b, M) = start .pre in
     let N = last-gone .ensures _ _ buffers _ o b M in
     close-ready N
-
-same-length : tie.Need-same-length
-same-length c = search needs
-
-same-length-2 : tie.Need-same-length-2
-same-length-2 c = search needs
 
 returns : tie.Need-returns
 returns c =
@@ -35,8 +26,8 @@ part-spec =
     tie.close
     (tie.spec
     last-gone-requires
-    slice-aggregate-put
+    (λ c. search needs)
     put-requires
-    same-length
-    same-length-2
+    (λ c. search needs)
+    (λ c. search needs)
     returns)

@@ -27,12 +27,6 @@ remove-requires c κs =
     let z = taken-sized _ _ _ _ _ (start .pre .1) in
     (z .segment, z .buffers-size, z .file, z .place)
 
-same-length : tie.Need-same-length
-same-length c = search needs
-
-same-length-2 : tie.Need-same-length-2
-same-length-2 c = search needs
-
 returns : tie.Need-returns
 unfolding Bytes
 returns c =
@@ -44,12 +38,6 @@ returns c =
     λ v blocks d s S r.
     abort-waits S _ _ v r _ (place-side .ensures) _ _ (remove .ensures .1 .0) (remove .ensures .1 .1) (sym (remove .ensures .0) ∙ if1 .taken)
     (λ i. segment .slice-known3 .given i .fits) (λ i. buffers .slice-known4 .given i .fits)
-
-same-length-3 : tie.Need-same-length-3
-same-length-3 c = search needs
-
-same-length-4 : tie.Need-same-length-4
-same-length-4 c = search needs
 
 returns-2 : tie.Need-returns-2
 returns-2 c =
@@ -67,9 +55,9 @@ abort-spec =
     add-place-side
     place-side-requires
     remove-requires
-    same-length
-    same-length-2
+    (λ c. search needs)
+    (λ c. search needs)
     returns
-    same-length-3
-    same-length-4
+    (λ c. search needs)
+    (λ c. search needs)
     returns-2)

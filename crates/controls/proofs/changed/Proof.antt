@@ -4,24 +4,6 @@ use borrow.Author.Needs.{needs}
 use Rattle.controls.proofs.changed.Statement.{statement}
 use Rattle.controls.proofs.changed.Tie as tie
 
-enum-known-asked : tie.Need-enum-known-asked
-enum-known-asked c = search needs
-
-enum-known-asked-2 : tie.Need-enum-known-asked-2
-enum-known-asked-2 c = search needs
-
-enum-known-asked-3 : tie.Need-enum-known-asked-3
-enum-known-asked-3 c = search needs
-
-enum-known-asked-4 : tie.Need-enum-known-asked-4
-enum-known-asked-4 c = search needs
-
-enum-told : tie.Need-enum-told
-enum-told c = search needs
-
-enum-told-2 : tie.Need-enum-told-2
-enum-told-2 c = search needs
-
 returns : tie.Need-returns
 unfolding changedRow
 returns c = rw (c .before .asked .given .1)
@@ -50,12 +32,12 @@ pub changed-spec : {M : Type 1} → statement M
 changed-spec =
     tie.close
     (tie.spec
-    enum-known-asked
-    enum-known-asked-2
-    enum-known-asked-3
-    enum-known-asked-4
-    enum-told
-    enum-told-2
+    (λ c. search needs)
+    (λ c. search needs)
+    (λ c. search needs)
+    (λ c. search needs)
+    (λ c. search needs)
+    (λ c. search needs)
     returns
     returns-2
     returns-3

@@ -15,12 +15,6 @@ abort-requires c κs =
     let start : tie.Start = search in
     (c .before .before .enum-told .given .0 .0, rw (c .before .before .enum-told .given .1) at (start .pre))
 
-same-length : tie.Need-same-length
-same-length c = search needs
-
-same-length-2 : tie.Need-same-length-2
-same-length-2 c = search needs
-
 returns : tie.Need-returns
 returns c =
     let here : tie.After-abort = search in let abort = here .abort in
@@ -44,9 +38,6 @@ set-requires c κs =
     let sized = taken-sized _ _ _ _ _ (start .pre) in
     (sized .segment, omega (arith, sized .file, sized .place))
 
-same-length-3 : tie.Need-same-length-3
-same-length-3 c = search needs
-
 returns-2 : tie.Need-returns-2
 unfolding Bytes
 returns-2 c =
@@ -61,11 +52,11 @@ control-spec =
     (tie.spec
     enum-told
     abort-requires
-    same-length
-    same-length-2
+    (λ c. search needs)
+    (λ c. search needs)
     returns
     mul-set
     add-set
     set-requires
-    same-length-3
+    (λ c. search needs)
     returns-2)

@@ -8,11 +8,12 @@ use Rattle.rules.specs.Limits.{files, places, shareBytes, bufferBytes}
 use Rattle.rules.specs.State.{File}
 use Rattle.rules.specs.Desk.{Desk, fileOf}
 use Rattle.rules.specs.Allocation.{Alloc}
+use Rattle.rules.specs.Memories.{shareAt}
 use Rattle.rules.proofs.Split.{by-cases}
 use Rattle.segment.specs.Layout.{segmentBytes}
 use Rattle.segment.specs.Table.{dataOf}
 use Rattle.memory.specs.Memories.{memories}
-use Rattle.memory.specs.Stands.{Segment, shareAt, buffersAt, FileBytes}
+use Rattle.memory.specs.Stands.{Segment, buffersAt, FileBytes}
 use Rattle.words.specs.Word.{Bytes}
 use Rattle.memory.specs.Fine.{StandsFor}
 use Rattle.sound.specs.Rows.{builtAt}

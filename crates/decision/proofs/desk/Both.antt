@@ -49,6 +49,6 @@ module _ (m : Memories) where
       → (soundly m ≡ true → (d : Desk) × (a : Alloc) × StandsFor m d a) × ((d : Desk) × (a : Alloc) × StandsFor m d a → soundly m ≡ true)
   soundly-is bs bb bf = (sound-stands bs bb bf, λ t. stands-sound (t .0) (t .1) (t .2))
 
-  -- so a sound desk never refuses itself: whatever calls were made, the memories that show it pass
+  -- a sound desk never refuses itself: whatever calls were made, the memories that show it pass
   pub reached-sound : (cs : List Call) → Stands m (after freshDesk cs) (allocAfter freshDesk cs freshAlloc) → soundly m ≡ true
   reached-sound cs S = stands-sound (after freshDesk cs) (allocAfter freshDesk cs freshAlloc) (reached cs m S)

@@ -2,7 +2,7 @@
 use Prim.Native.Nat.{ℕ, _+_, _-_, _*_, _/_, _≤_, _<_}
 use mathlib.Core.Bool.{Bool, true, false}
 use mathlib.Core.Path.{_≡_, refl, sym, ap, _∙_}
-use mathlib.Core.List.{List, [], _∷_}
+use mathlib.Core.List.{List}
 use mathlib.Core.Option.{Option, none, some}
 use native.Mathlib.Omega.{arith}
 use lib.ListN.{length, getD, take, drop, replicate, length-append}
@@ -13,14 +13,14 @@ use Rattle.occurrences.specs.Count.{bit}
 use Rattle.occurrences.proofs.Counts.{bit-le}
 use Rattle.rules.specs.Limits.{files, places, bufferBytes, roomWords}
 use Rattle.rules.specs.State.{Wanted, Offered, Brought, Wrote, Req, idle, reading, writing, readDone, writeDone, Acc, Timer}
-use Rattle.rules.specs.Memories.{lies, buffer}
+use Rattle.rules.specs.Memories.{bufferAt, lies, buffer}
 use Rattle.segment.specs.Layout.{dataAt, dataWords}
 use Rattle.segment.specs.Table.{nth, dataOf}
+use Rattle.segment.specs.Fields.{waitingRead, waitingWrite, completedRequest, entryWords}
 use Rattle.laws.specs.Bounds.{leastRefusal, Bounded}
 use Rattle.laws.specs.Sides.{Fitting, Sided}
 use Rattle.memory.specs.Image.{reqWords, timerWords}
 use Rattle.laws.specs.Outstanding.{reqOf}
-use Rattle.memory.specs.Stands.{bufferAt}
 use Rattle.sound.specs.Rows.{fileWord, sideAt, zeroWords}
 use Rattle.sound.specs.Walks.{entryWord, placeIn, sizeIn, restZero, freeEntry}
 use Rattle.decision.specs.Survey.{ReadEntry, WriteEntry, PortEntry, TimerEntry}
@@ -55,7 +55,7 @@ unfolding freeEntry
 free-entry s e q = let d : dataAt e ≡ dataAt e + 0 = omega arith in ap (λ (k : ℕ). zeroWords s k dataWords) d ∙ zeros-in s e (replicate dataWords 0) q 0 dataWords (omega arith) refl
 
 pub timer-entry : (s : List ℕ) (e : ℕ) (t : Timer) → t .place < files * places → dataOf s e ≡ timerWords t → TimerEntry s e × (placeIn s e ≡ t .place) × (entryWord s e 7 ≡ t .left)
-unfolding timerWords placeIn
+unfolding timerWords placeIn entryWords
 timer-entry s e t h q = (
   record {
     place = omega (arith, word-in s e _ q 0 (omega arith));
@@ -95,16 +95,16 @@ module _ (s bufs : List ℕ) (size : length bufs ≡ places * bufferBytes * file
   writer-side u = some-side s i a r ∙ ap (λ (t : Bool). 1 + bit t) u
 
   pub read-entry : (f : ℕ) (x : Wanted) → i / places ≡ f → a .req ≡ reading x → x .limit ≤ bufferBytes → ReadEntry s bufs f e × (placeIn s e ≡ i)
-  unfolding reqWords Fitting lies
+  unfolding reqWords Fitting lies entryWords
   read-entry f x g u b =
-      let q : dataOf s e ≡ i ∷ bit (x .words) ∷ x .limit ∷ bit (x .keep) ∷ 0 ∷ 0 ∷ 0 ∷ 0 ∷ 0 ∷ [] = holds ∙ ap (reqWords i) u in
+      let q : dataOf s e ≡ entryWords (waitingRead i (bit (x .byWords)) (x .limit) (bit (x .keep))) = holds ∙ ap (reqWords i) u in
       let pl : placeIn s e ≡ i = place-in s e _ q in
       let sd : a .writer ≡ false = rw u at (sided .request) in (
         record {
           place = omega (arith, pl);
           file = ap (λ (j : ℕ). j / places) pl ∙ g;
           side = ap (sideAt s) pl ∙ reader-side sd;
-          unit = omega (arith, word-in s e _ q 1 (omega arith), bit-le (x .words));
+          unit = omega (arith, word-in s e _ q 1 (omega arith), bit-le (x .byWords));
           limit = omega (arith, word-in s e _ q 2 (omega arith));
           keep = omega (arith, word-in s e _ q 3 (omega arith), bit-le (x .keep));
           rest = zeros-in s e _ q 4 5 (omega arith) refl;
@@ -115,9 +115,9 @@ module _ (s bufs : List ℕ) (size : length bufs ≡ places * bufferBytes * file
 
   pub write-entry : (f words : ℕ) (x : Offered) → i / places ≡ f → a .req ≡ writing x → length (x .bytes) ≤ 2 * words → words ≤ roomWords → fileWord s f 0 ≡ words
       → WriteEntry s bufs f e × (placeIn s e ≡ i)
-  unfolding reqWords Fitting lies
+  unfolding reqWords Fitting lies entryWords
   write-entry f words x g u b c fw =
-      let q : dataOf s e ≡ i ∷ bit (x .words) ∷ 0 ∷ 0 ∷ 0 ∷ 0 ∷ length (x .bytes) ∷ 0 ∷ 0 ∷ [] = holds ∙ ap (reqWords i) u in
+      let q : dataOf s e ≡ entryWords (waitingWrite i (bit (x .byWords)) (length (x .bytes))) = holds ∙ ap (reqWords i) u in
       let pl : placeIn s e ≡ i = place-in s e _ q in
       let sz : sizeIn s e ≡ length (x .bytes) = size-in s e _ q in
       let sd : a .writer ≡ true = rw u at (sided .request) in (
@@ -125,7 +125,7 @@ module _ (s bufs : List ℕ) (size : length bufs ≡ places * bufferBytes * file
           place = omega (arith, pl);
           file = ap (λ (j : ℕ). j / places) pl ∙ g;
           side = ap (sideAt s) pl ∙ writer-side sd;
-          unit = omega (arith, word-in s e _ q 1 (omega arith), bit-le (x .words));
+          unit = omega (arith, word-in s e _ q 1 (omega arith), bit-le (x .byWords));
           middle = zeros-in s e _ q 2 4 (omega arith) refl;
           size = omega (arith, sz, fw);
           rest = zeros-in s e _ q 7 2 (omega arith) refl;
@@ -135,9 +135,9 @@ module _ (s bufs : List ℕ) (size : length bufs ≡ places * bufferBytes * file
       )
 
   pub read-done : (x : Brought) → a .req ≡ readDone x → length (x .bytes) ≤ bufferBytes → x .status < leastRefusal → PortEntry s bufs i e
-  unfolding reqWords Fitting lies
+  unfolding reqWords Fitting lies entryWords
   read-done x u b n =
-      let q : dataOf s e ≡ i ∷ 0 ∷ 0 ∷ 0 ∷ x .status ∷ x .log ∷ length (x .bytes) ∷ 0 ∷ 0 ∷ [] = holds ∙ ap (reqWords i) u in
+      let q : dataOf s e ≡ entryWords (completedRequest i (x .status) (x .log) (length (x .bytes))) = holds ∙ ap (reqWords i) u in
       let pl : placeIn s e ≡ i = place-in s e _ q in
       let sz : sizeIn s e ≡ length (x .bytes) = size-in s e _ q in
       let sd : sideAt s i ≡ 1 = reader-side (rw u at (sided .request)) in
@@ -152,9 +152,9 @@ module _ (s bufs : List ℕ) (size : length bufs ≡ places * bufferBytes * file
       }
 
   pub write-done : (x : Wrote) → a .req ≡ writeDone x → x .status < leastRefusal → PortEntry s bufs i e
-  unfolding reqWords Fitting lies
+  unfolding reqWords Fitting lies entryWords
   write-done x u n =
-      let q : dataOf s e ≡ i ∷ 0 ∷ 0 ∷ 0 ∷ x .status ∷ x .log ∷ 0 ∷ 0 ∷ 0 ∷ [] = holds ∙ ap (reqWords i) u in
+      let q : dataOf s e ≡ entryWords (completedRequest i (x .status) (x .log) 0) = holds ∙ ap (reqWords i) u in
       let pl : placeIn s e ≡ i = place-in s e _ q in
       let sz : sizeIn s e ≡ 0 = size-in s e _ q in
       let sd : sideAt s i ≡ 2 = writer-side (rw u at (sided .request)) in

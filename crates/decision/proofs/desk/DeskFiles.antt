@@ -14,6 +14,7 @@ use Rattle.rules.specs.Store.{used}
 use Rattle.rules.specs.Requests.{writers, accAt}
 use Rattle.rules.specs.Desk.{Desk, fileOf}
 use Rattle.rules.specs.Allocation.{Alloc}
+use Rattle.rules.specs.Memories.{shareAt}
 use Rattle.rules.proofs.Split.{true-and, pick-true, pick-false}
 use Rattle.segment.specs.Layout.{fileWidth, placeWidth, fileRowAt, placeRowAt}
 use Rattle.segment.specs.Table.{nth}
@@ -25,7 +26,7 @@ use Rattle.laws.specs.Changes.{GoodGeo}
 use Rattle.laws.specs.Entries.{accsOf}
 use Rattle.memory.specs.Memories.{memories}
 use Rattle.memory.specs.Image.{accOf, placeAcc, fileWords, placeWords}
-use Rattle.memory.specs.Stands.{shareAt, buffersAt, FileBytes}
+use Rattle.memory.specs.Stands.{buffersAt, FileBytes}
 use Rattle.memory.specs.Fine.{Fine, StandsFor}
 use Rattle.memory.proofs.Image.{placeAcc-at}
 use Rattle.accessors.specs.Sides.{sidesFrom, countSide}

@@ -12,7 +12,7 @@ use Rattle.occurrences.proofs.Counts.{bit-eq, bit-ne}
 use Rattle.rules.specs.Limits.{files, places, bufferBytes}
 use Rattle.rules.specs.State.{Req, idle, reading, writing, readDone, writeDone, Acc, Built, File, built}
 use Rattle.rules.specs.Requests.{accAt}
-use Rattle.rules.specs.Memories.{lies, buffer}
+use Rattle.rules.specs.Memories.{bufferAt, shareAt, lies, buffer}
 use Rattle.rules.specs.Allocation.{Alloc, placeOf, queueOf}
 use Rattle.segment.specs.Table.{dataOf}
 use Rattle.laws.specs.Outstanding.{reqAt, waitsRead, waitsWrite, uncollected, outstanding, reqOf}
@@ -22,7 +22,7 @@ use Rattle.laws.specs.Bounds.{Bounded}
 use Rattle.laws.specs.Sides.{Sided}
 use Rattle.laws.specs.Entries.{accsOf}
 use Rattle.memory.specs.Image.{accOf, reqWords, fileWords, rqOf, wqOf, queueWords}
-use Rattle.memory.specs.Stands.{shareAt, buffersAt, bufferAt, FileBytes}
+use Rattle.memory.specs.Stands.{buffersAt, FileBytes}
 use Rattle.memory.specs.Fine.{Fine}
 use Rattle.memory.proofs.Frames.{bufferAt-is}
 use Rattle.sound.specs.Walks.{placeIn}

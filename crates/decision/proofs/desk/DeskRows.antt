@@ -88,7 +88,7 @@ unfolding placeWords
 row-long none = refl
 row-long (some a) = refl
 
--- its row as a list of words
+-- the row of a place as a list of words
 pub rowed-row : (s : List ℕ) (i : ℕ) (o : Option Acc) → Rowed s i o → row s (placeRowAt i) placeWidth ≡ placeWords o
 unfolding placeWord
 rowed-row s i o r = row-is s (placeRowAt i) placeWidth (placeWords o) (row-long o) r

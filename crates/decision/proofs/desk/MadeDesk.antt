@@ -9,11 +9,11 @@ use Rattle.rules.specs.Limits.{files, places}
 use Rattle.rules.specs.State.{Wanted, Offered, Brought, Wrote, Req, idle, reading, writing, readDone, writeDone, Acc, Timer, Built, File, unbuilt, built}
 use Rattle.rules.specs.Desk.{Desk}
 use Rattle.rules.specs.Allocation.{Held, nothing, own, timed, Alloc, upFrom}
+use Rattle.rules.specs.Memories.{bufferAt, shareAt}
 use Rattle.segment.specs.Layout.{freeList, readQueue, writeQueue, replyPort, timerList}
 use Rattle.shares.specs.Sound.{storeAt}
 use Rattle.laws.specs.Entries.{sieve}
 use Rattle.laws.specs.EightFiles.{deskOf}
-use Rattle.memory.specs.Stands.{shareAt, bufferAt}
 use Rattle.sound.specs.Rows.{fileWord, placeWord, builtAt, geoAt, sideAt}
 use Rattle.sound.specs.Walks.{entryWord, placeIn, sizeIn}
 use Rattle.decision.specs.Survey.{named, waitingAt, completedAt, timersAt}
@@ -35,10 +35,10 @@ entryOf s ls i = theEntry s i (getD ls (readQueue (i / places)) [] ++ (getD ls (
 
 -- what the entry e, of place i, says of a request of each kind
 abbrev pub wantedBy : List ℕ → ℕ → Wanted
-wantedBy s e = record { words = eqb (entryWord s e 1) 1; limit = entryWord s e 2; keep = eqb (entryWord s e 3) 1 }
+wantedBy s e = record { byWords = eqb (entryWord s e 1) 1; limit = entryWord s e 2; keep = eqb (entryWord s e 3) 1 }
 
 abbrev pub offeredBy : List ℕ → List ℕ → ℕ → ℕ → Offered
-offeredBy s bufs i e = record { words = eqb (entryWord s e 1) 1; bytes = take (sizeIn s e) (bufferAt i bufs) }
+offeredBy s bufs i e = record { byWords = eqb (entryWord s e 1) 1; bytes = take (sizeIn s e) (bufferAt i bufs) }
 
 abbrev pub broughtBy : List ℕ → List ℕ → ℕ → ℕ → Brought
 broughtBy s bufs i e = record { status = entryWord s e 4; log = entryWord s e 5; bytes = take (sizeIn s e) (bufferAt i bufs) }

@@ -9,12 +9,12 @@ use borrow.Author.Tests.{eqb-true, eqb-false, leb-true}
 use lib.Dec.{leb, eqb}
 use Rattle.rules.specs.Limits.{files, places}
 use Rattle.rules.specs.Geometry.{capacity}
+use Rattle.rules.specs.Memories.{shareAt}
 use Rattle.rules.proofs.Split.{by-cases, and-true, or-true, pass-true, pick-true, pick-false}
 use Rattle.segment.specs.Layout.{fileWidth, placeFields, placeSpare, placeWidth, fileRowAt, placeRowAt}
 use Rattle.segment.specs.Table.{nth}
 use Rattle.shares.specs.Sound.{sound}
 use Rattle.laws.specs.Changes.{GoodGeo}
-use Rattle.memory.specs.Stands.{shareAt}
 use Rattle.accessors.specs.Sides.{countSide}
 use Rattle.sound.specs.Rows.{fileWord, placeWord, zeroWords, builtAt, geoAt, sideAt, goodPlace, placeOk, placesOk, unbuiltOk}
 use Rattle.sound.specs.Sound.{builtOk, fileOk, filesOk}
@@ -56,7 +56,7 @@ built-row s blocks f h =
       laid = laid;
     }
 
--- one that is not built
+-- the row of a file that is not built
 pub record BlankRow (s : List ℕ) (f : ℕ) : Type 0 where
   pub file : (j : ℕ) → j < fileWidth → fileWord s f j ≡ 0
   pub closed : (p : ℕ) → p < places → (j : ℕ) → j < placeWidth → placeWord s (places * f + p) j ≡ 0

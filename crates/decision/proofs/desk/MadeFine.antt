@@ -16,7 +16,7 @@ use Rattle.occurrences.proofs.Counts.{bit-eq, bit-ne}
 use Rattle.rules.specs.Limits.{files, places, shareBytes, bufferBytes}
 use Rattle.rules.specs.State.{idle, Acc, Timer, Built, built}
 use Rattle.rules.specs.Requests.{accAt}
-use Rattle.rules.specs.Memories.{lies, buffer}
+use Rattle.rules.specs.Memories.{bufferAt, shareAt, lies, buffer}
 use Rattle.rules.specs.Allocation.{placeOf}
 use Rattle.rules.proofs.Split.{by-cases, pick-true, pick-false, pass-true}
 use Rattle.segment.specs.Layout.{placeWidth, readQueue, writeQueue, timerList}
@@ -29,7 +29,7 @@ use Rattle.laws.specs.Counts.{placesOf, countT}
 use Rattle.laws.specs.Entries.{local, sieve}
 use Rattle.laws.specs.Timers.{Sorted}
 use Rattle.laws.proofs.Sieve.{sorted-sieve}
-use Rattle.memory.specs.Stands.{shareAt, buffersAt, bufferAt, FileBytes}
+use Rattle.memory.specs.Stands.{buffersAt, FileBytes}
 use Rattle.memory.specs.Fine.{Fine}
 use Rattle.memory.proofs.Held.{sieve-at}
 use Rattle.memory.proofs.Frames.{buffersAt-are}

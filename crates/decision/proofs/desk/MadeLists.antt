@@ -15,6 +15,7 @@ use Rattle.rules.specs.Allocation as alloc
 use Rattle.rules.proofs.Split.{by-cases}
 use Rattle.segment.specs.Layout.{listCount, dataAt, dataWords, freeList, readQueue, writeQueue, replyPort, timerList}
 use Rattle.segment.specs.Table.{nth, dataOf}
+use Rattle.segment.specs.Fields.{entryWords}
 use Rattle.laws.specs.Outstanding.{outstanding, reqOf}
 use Rattle.memory.specs.Image.{accOf, placeAcc, reqWords, timerWords, rqOf, wqOf, queueWords, portWords, listOf, boxOf}
 use Rattle.memory.proofs.Image.{listOf-free, listOf-read, listOf-write, listOf-port, listOf-timers, boxOf-free, boxOf-read, boxOf-write, boxOf-port, boxOf-timers, each-list}
@@ -36,7 +37,7 @@ none-in P [] a k = refl
 none-in P (e ∷ l) a k = absurd (k e (a .0))
 
 timer-said : (s : List ℕ) (e : ℕ) → TimerEntry s e → dataOf s e ≡ timerWords (timerFor s e)
-unfolding dataOf timerWords timerFor placeIn entryWord
+unfolding dataOf timerWords timerFor placeIn entryWord entryWords
 timer-said s e t =
     row-nine s (dataAt e) _ _ _ _ _ _ _ _ _ refl (z 1 0 refl (omega arith)) (z 2 1 refl (omega arith)) (z 3 2 refl (omega arith)) (z 4 3 refl (omega arith))
     (z 5 4 refl (omega arith)) (z 6 5 refl (omega arith)) refl (t .rest)

@@ -9,18 +9,19 @@ use lib.Dec.{eqb}
 use lib.ListN.{length, getD, take}
 use lib.Seq.{length-take-le}
 use Rattle.words.specs.Word.{zeros}
+use Rattle.words.proofs.Parts.{length-zero}
 use Rattle.occurrences.specs.Count.{bit}
 use Rattle.rules.specs.Limits.{files, places, bufferBytes, roomWords}
 use Rattle.rules.specs.State.{Req, idle}
-use Rattle.rules.specs.Memories.{lies}
+use Rattle.rules.specs.Memories.{bufferAt, lies}
 use Rattle.rules.specs.Allocation.{Alloc, heldAt, ownEntry, portOf}
 use Rattle.segment.specs.Layout.{dataAt, replyPort}
 use Rattle.segment.specs.Table.{nth, dataOf}
+use Rattle.segment.specs.Fields.{entryWords}
 use Rattle.laws.specs.Outstanding.{waitsRead, waitsWrite, uncollected, outstanding}
 use Rattle.laws.specs.Bounds.{Bounded}
 use Rattle.laws.specs.Sides.{Fitting}
 use Rattle.memory.specs.Image.{reqWords, portWords}
-use Rattle.memory.specs.Stands.{bufferAt}
 use Rattle.sound.specs.Rows.{fileWord, sideAt, zeroWords}
 use Rattle.sound.specs.Walks.{entryWord, placeIn, sizeIn, restZero}
 use Rattle.decision.specs.Survey.{WriteEntry, PortEntry, completedAt}
@@ -37,10 +38,6 @@ zero-from : (s : List ℕ) (e k n : ℕ) → zeroWords s (dataAt e + k) n ≡ tr
 zero-from s e k n z j a b =
     let d : dataAt e + j ≡ dataAt e + k + (j - k) = omega arith in
     ap (nth s) d ∙ zero-words s (dataAt e + k) n z (j - k) (omega arith)
-
-empty : (l : List ℕ) → length l ≡ 0 → l ≡ []
-empty [] e = refl
-empty (x ∷ l) e = absurd (omega arith)
 
 module _ (s bufs : List ℕ) (ls : List (List ℕ)) (i : ℕ) where
   abbrev mine : ℕ
@@ -73,9 +70,9 @@ module _ (s bufs : List ℕ) (ls : List (List ℕ)) (i : ℕ) where
 
   pub port-is : (q : Req) → View s bufs ls i q → (a : Alloc) → (1 ≤ completedAt ls i → ownEntry (heldAt a i) ≡ mine) → portOf q i a ≡ getD ls (replyPort i) []
   unfolding portOf completedAt
-  port-is _ (idles e f g) a k = sym (empty (getD ls (replyPort i) []) g)
-  port-is _ (reads e f g r p) a k = sym (empty (getD ls (replyPort i) []) g)
-  port-is _ (writes e f g r p) a k = sym (empty (getD ls (replyPort i) []) g)
+  port-is _ (idles e f g) a k = sym (length-zero (getD ls (replyPort i) []) g)
+  port-is _ (reads e f g r p) a k = sym (length-zero (getD ls (replyPort i) []) g)
+  port-is _ (writes e f g r p) a k = sym (length-zero (getD ls (replyPort i) []) g)
   port-is _ (readsDone e f g l r d) a k = ap (λ x. x ∷ []) (k (omega (arith, g))) ∙ sym l
   port-is _ (writesDone e f g l r d) a k = ap (λ x. x ∷ []) (k (omega (arith, g))) ∙ sym l
 
@@ -121,7 +118,7 @@ module _ (s bufs : List ℕ) (ls : List (List ℕ)) (i : ℕ) where
     -- the words of its entry
 
     pub said : (q : Req) → View s bufs ls i q → 1 ≤ outstanding q → dataOf s mine ≡ reqWords i q
-    unfolding dataOf reqWords waitsRead waitsWrite uncollected placeIn sizeIn entryWord
+    unfolding dataOf reqWords waitsRead waitsWrite uncollected placeIn sizeIn entryWord entryWords
     said _ (idles e f g) o = absurd (omega arith)
     said _ (reads e f g r p) o =
         row-nine s (dataAt mine) _ _ _ _ _ _ _ _ _ p (sym (bit-word (entryWord s mine 1) (r .unit))) refl (sym (bit-word (entryWord s mine 3) (r .keep)))
@@ -147,8 +144,8 @@ module _ (s bufs : List ℕ) (ls : List (List ℕ)) (i : ℕ) where
 
     pub port-said : (q : Req) → View s bufs ls i q → map (dataOf s) (getD ls (replyPort i) []) ≡ portWords i q
     unfolding portWords completedAt waitsRead waitsWrite uncollected
-    port-said _ (idles e f g) = ap (map (dataOf s)) (empty (getD ls (replyPort i) []) g)
-    port-said _ (reads e f g r p) = ap (map (dataOf s)) (empty (getD ls (replyPort i) []) g)
-    port-said _ (writes e f g r p) = ap (map (dataOf s)) (empty (getD ls (replyPort i) []) g)
+    port-said _ (idles e f g) = ap (map (dataOf s)) (length-zero (getD ls (replyPort i) []) g)
+    port-said _ (reads e f g r p) = ap (map (dataOf s)) (length-zero (getD ls (replyPort i) []) g)
+    port-said _ (writes e f g r p) = ap (map (dataOf s)) (length-zero (getD ls (replyPort i) []) g)
     port-said _ (readsDone e f g l r d) = ap (map (dataOf s)) l ∙ ap (λ x. x ∷ []) (said _ (readsDone e f g l r d) (omega arith))
     port-said _ (writesDone e f g l r d) = ap (map (dataOf s)) l ∙ ap (λ x. x ∷ []) (said _ (writesDone e f g l r d) (omega arith))

@@ -16,6 +16,7 @@ use Rattle.rules.specs.Limits.{files, places, shareBytes}
 use Rattle.rules.specs.State.{Built, unbuilt, built}
 use Rattle.rules.specs.Store.{used}
 use Rattle.rules.specs.Requests.{writers}
+use Rattle.rules.specs.Memories.{shareAt}
 use Rattle.rules.proofs.Split.{by-cases, pick-false}
 use Rattle.segment.specs.Layout.{fileWidth, placeFields, placeSpare, placeWidth, fileRowAt, placeRowAt, rowCount, fileRow, placeRow, rowAt, rowWidth}
 use Rattle.segment.proofs.Apart.{words-file, words-place}
@@ -30,7 +31,6 @@ use Rattle.shares.proofs.Good.{sized}
 use Rattle.shares.proofs.Sound.{sound-holds}
 use Rattle.laws.specs.Room.{Roomy}
 use Rattle.memory.specs.Image.{fileWords, placeWords, rowOf}
-use Rattle.memory.specs.Stands.{shareAt}
 use Rattle.words.specs.Word.{Bytes}
 use Rattle.memory.proofs.Image.{rowOf-file, rowOf-place, each-row}
 use Rattle.accessors.specs.Sides.{sidesFrom, countSide}
@@ -47,7 +47,7 @@ use Rattle.decision.proofs.desk.MadeBase.{acc-none, file-built, file-bl
 -- a share of bytes
 
 share-bytes : (blocks : List ℕ) (f : ℕ) → Bytes blocks → Bytes (shareAt f blocks)
-unfolding Bytes shareAt
+unfolding Bytes
 share-bytes blocks f b i = go (decLt i shareBytes)
   where
     xs : List ℕ
@@ -66,7 +66,6 @@ share-bytes blocks f b i = go (decLt i shareBytes)
     go (no h) = omega (arith, List·getD-eq-default (take shareBytes xs) 0 {n = i} (omega (arith, past xs)))
 
 share-long : (blocks : List ℕ) (f : ℕ) → length blocks ≡ shareBytes * files → f < files → length (shareAt f blocks) ≡ shareBytes
-unfolding shareAt
 share-long blocks f e h = length-take-le shareBytes (drop (shareBytes * f) blocks) (rw (length-drop (shareBytes * f) blocks) (omega arith))
 
 module _ (s blocks bufs : List ℕ) (ls : List (List ℕ)) (bytes : Bytes blocks) (long : length blocks ≡ shareBytes * files) (ok : filesOk s blocks 0 files ≡ true) (U : Survey s bufs ls) where

@@ -12,11 +12,11 @@ use lib.Seq.{ext-getD, getD-take, getD-drop, length-take-le, getD-append-add}
 use Rattle.words.specs.Word.{zeros, quiet}
 use Rattle.words.proofs.Runs.{length-zeros, getD-zeros}
 use Rattle.rules.specs.Limits.{files, places, bufferBytes}
+use Rattle.rules.specs.Memories.{bufferAt}
 use Rattle.rules.proofs.Split.{pick-true, pass-true}
 use Rattle.segment.specs.Layout.{dataAt, dataWords}
 use Rattle.segment.proofs.Rows.{row-at, length-row}
 use Rattle.segment.specs.Table.{nth, row, dataOf}
-use Rattle.memory.specs.Stands.{bufferAt}
 use Rattle.sound.specs.Rows.{zeroWords}
 use Rattle.sound.specs.Walks.{entryWord, restZero}
 
@@ -85,11 +85,9 @@ at-quiet xs p (suc n) h =
 
 module _ (bufs : List ℕ) (size : length bufs ≡ places * bufferBytes * files) (i : ℕ) (h : i < files * places) where
   pub buffer-long : length (bufferAt i bufs) ≡ bufferBytes
-  unfolding bufferAt
   buffer-long = length-take-le bufferBytes (drop (bufferBytes * i) bufs) (rw (length-drop (bufferBytes * i) bufs) (omega arith))
 
   buffer-byte : (j : ℕ) → j < bufferBytes → getD (bufferAt i bufs) j 0 ≡ getD bufs (bufferBytes * i + j) 0
-  unfolding bufferAt
   buffer-byte j k = getD-take bufferBytes (drop (bufferBytes * i) bufs) j 0 k ∙ getD-drop (bufferBytes * i) bufs j 0
 
   pub rest-is : (n : ℕ) → n ≤ bufferBytes → restZero bufs i n ≡ true → bufferAt i bufs ≡ take n (bufferAt i bufs) ++ zeros (bufferBytes - n)

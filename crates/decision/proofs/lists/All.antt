@@ -14,7 +14,7 @@ use Rattle.decision.proofs.lists.Means.{owners}
 use Rattle.decision.proofs.lists.Stages.{FreeOk, ReadsOk, WritesOk, PortsOk, TimersOk, free-found, reads-found, writes-found, ports-found, timers-found}
 use Rattle.decision.proofs.lists.Parts.{Parts, whole, flat-whole}
 
--- the marks on places behind each stage
+-- the marks on places after each stage
 module _ (s busy : List ℕ) (p : Parts) where
   abbrev pub pastReads : List ℕ
   pastReads = marks 1 busy (owners s (flat (p .reads)))
@@ -80,7 +80,7 @@ module _ (s bufs : List ℕ) where
       st .well (p .free, (p .reads, (p .writes, (p .ports, p .timers)))) seen busy (g .free, (g .reads, (g .writes, (g .ports, g .timers)))) (rw (flat-whole p) at m)
       ∙ ap (λ (l : List ℕ). walked true (marks 1 seen l) (pastTimers s busy p)) (sym (flat-whole p))
 
--- and so from no mark on
+-- the walks of all lists, beginning with no marks
 pub all-walks : (s bufs : List ℕ) → allWalks s bufs ≡ walksFrom s bufs (blank entries) (blank (files * places))
 unfolding allWalks walksFrom blank
 all-walks s bufs = refl

@@ -78,7 +78,7 @@ module _ (s bufs : List ℕ) (p : Parts) where
         let t = good-stands g in
         marks-right t (timers-counted s bufs p t (g .reads .2) (g .writes .2) (g .ports .2) (g .timers .2))
 
-  -- and from the survey to what the walks find
+  -- the way back, from the survey to what the walks find
   module _ (v : Survey s bufs (whole p)) where
     short : (l : ℕ) → l < listCount → length (getD (whole p) l []) < most
     short l h =

@@ -1,4 +1,4 @@
--- All elements of the lists, one list behind the other.
+-- All elements of the lists, one list after the other.
 use Prim.Native.Nat.{ℕ, suc, _+_, _≤_, _<_}
 use mathlib.Core.Path.{_≡_, refl, ap, _∙_}
 use mathlib.Core.List.{List, [], _∷_, _++_}

@@ -69,7 +69,7 @@ module _ (need v : ℕ) where
       go (no e) (inl a) = inl (omega (arith, a .0, bit-ne y x e), a .1 ∙ other e)
       go (no e) (inr a) = inr (omega (arith, a .0, bit-ne y x e), sym (other e) ∙ a .1, a .2)
 
-  -- and so they are met if none stands there twice and all have that mark
+  -- the numbers xs are met if none occurs twice and all have the mark `need`
   pub untouched : (t xs : List ℕ) → Below (length t) xs → ((x : ℕ) → 1 ≤ count x xs → (count x xs ≡ 1) × (getD t x 0 ≡ need)) → Met need v t xs
   unfolding Met marks count
   untouched t [] b h = tt

@@ -1,4 +1,4 @@
--- The marks on places behind each stage, by counting: 1 for a request that waits, 2 for one completed, 3 for one that waits with a timer.
+-- The marks on places after each stage, by counting: 1 for a request that waits, 2 for one completed, 3 for one that waits with a timer.
 use Prim.Native.Nat.{ℕ, _+_, _*_, _≤_}
 use mathlib.Core.Path.{_≡_}
 use mathlib.Core.List.{List}

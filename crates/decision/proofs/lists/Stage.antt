@@ -7,7 +7,7 @@ use Rattle.rules.proofs.Split.{by-cases, pick-false}
 use Rattle.sound.specs.Walks.{Walked, walked, andThen}
 use Rattle.decision.proofs.lists.Marks.{marks, Met, marks-append, met-append, append-met}
 
--- what a walk w found that went well: its entries were met for the first time, Ok holds of it and of the places' marks, and `post` are those behind it
+-- what a walk w found that went well: its entries were met for the first time, Ok holds of it and of the places' marks, and `post` are the marks after it
 pub record Found {X : Type 0} (all : X → List ℕ) (Ok : List ℕ → X → Type 0) (post : List ℕ → X → List ℕ) (seen busy : List ℕ) (w : Walked) : Type 0 where
   pub it : X
   pub holds : Ok busy it
@@ -18,7 +18,7 @@ pub record Stage {X : Type 0} (walk : List ℕ → List ℕ → Walked) (all : X
   pub found : (seen busy : List ℕ) → walk seen busy .ok ≡ true → Found all Ok post seen busy (walk seen busy)
   pub well : (x : X) (seen busy : List ℕ) → Ok busy x → Met 0 1 seen (all x) → walk seen busy ≡ walked true (marks 1 seen (all x)) (post busy x)
 
--- the same, said otherwise
+-- a stage, with Ok and `post` said otherwise
 pub stage-as : {X : Type 0} (walk : List ℕ → List ℕ → Walked) (all : X → List ℕ) (Ok Ok′ : List ℕ → X → Type 0) (post post′ : List ℕ → X → List ℕ)
     → ((busy : List ℕ) (x : X) → Ok busy x → Ok′ busy x) → ((busy : List ℕ) (x : X) → Ok′ busy x → Ok busy x)
     → ((busy : List ℕ) (x : X) → post busy x ≡ post′ busy x)

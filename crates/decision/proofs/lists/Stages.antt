@@ -18,11 +18,11 @@ use Rattle.decision.proofs.lists.Walk.{Kind, after, Passing}
 use Rattle.decision.proofs.lists.Walkers.{freeKind, queueKind, portKind, timerKind, most, free-stage, queue-stage, timer-stage, port-stage}
 use Rattle.decision.proofs.lists.Means.{owners, Means, after-marks, pass-row, row-pass, row-each, each-row, read-means, write-means, port-means, timer-means, row-timers, timers-row, free-after, pass-free, free-pass}
 
--- fewer than n entries from slot p on, and what holds of each
+-- fewer than n entries starting at slot p, and what holds of each
 abbrev pub Holding : List ℕ → ℕ → ℕ → (ℕ → Type 0) → List ℕ → Type 0
 Holding s n p Q xs = (length xs < n) × Chain s p xs × Each Q xs
 
--- of one list that marks places
+-- the stage of one list that marks places
 module _ (s : List ℕ) (need v n p : ℕ) (Q : ℕ → Type 0) (k : Kind) (means : Means s need v (λ low. Q) k) (walk : List ℕ → List ℕ → Walked) where
   pub stage-one : Stage walk (λ xs. xs) (Passing s k n 0 p) (after k)
       → Stage walk (λ xs. xs) (λ busy xs. Holding s n p Q xs × Met need v busy (owners s xs)) (λ busy xs. marks v busy (owners s xs))
@@ -32,7 +32,7 @@ module _ (s : List ℕ) (need v n p : ℕ) (Q : ℕ → Type 0) (k : Kind) (mean
       (λ busy xs o. (o .0 .0, o .0 .1, row-pass s need v (λ low. Q) k means 0 busy xs (each-row s Q 0 xs (o .0 .2)) (o .1)))
       (λ busy xs. after-marks s need v (λ low. Q) k means busy xs)
 
--- of such lists one behind the other
+-- the stage of such lists, one after the other
 module _ (s : List ℕ) (need v : ℕ) (S : ℕ → List ℕ → Type 0) where
   abbrev OkOne : ℕ → List ℕ → List ℕ → Type 0
   OkOne j busy xs = S j xs × Met need v busy (owners s xs)
@@ -60,7 +60,7 @@ module _ (s : List ℕ) (need v : ℕ) (S : ℕ → List ℕ → Type 0) where
       let r = append-met need v busy (owners s xs) (owners s (flat ls)) (rw (map-append (placeIn s) xs (flat ls)) at m) in
       ((a .0, r .0), lists-row (suc j) (marks v busy (owners s xs)) ls (a .1) (r .1))
 
-  -- n of them from list j on
+  -- n such lists starting at list j
   abbrev pub Holdings : ℕ → ℕ → List ℕ → List (List ℕ) → Type 0
   Holdings n j busy ls = (length ls ≡ n) × Lists S j ls × Met need v busy (owners s (flat ls))
 

@@ -1,4 +1,4 @@
--- The walks of lists that stand one behind the other.
+-- The walks of lists that lie one after the other.
 use Prim.Native.Nat.{ℕ, zero, suc, _+_, _<_}
 use mathlib.Core.Bool.{true}
 use mathlib.Core.Path.{_≡_, refl, ap, _∙_}
@@ -10,7 +10,7 @@ use Rattle.decision.proofs.lists.Flat.{flat}
 use Rattle.decision.proofs.lists.Marks.{marks, Met}
 use Rattle.decision.proofs.lists.Stage.{Found, Stage, stage-then}
 
--- what holds of each list, by its number from j on
+-- what holds of each list, by its number, starting at j
 unfoldable pub Lists : (ℕ → List ℕ → Type 0) → ℕ → List (List ℕ) → Type 0
 Lists P j [] = Unit {0}
 Lists P j (xs ∷ ls) = P j xs × Lists P (suc j) ls
@@ -28,7 +28,7 @@ from-lists P j (xs ∷ ls) f =
     let e : j + 0 ≡ j = omega arith in
     (rw e at (f 0 (omega arith)), from-lists P (suc j) ls (λ l h. let d : suc j + l ≡ j + suc l = omega arith in rw d (f (suc l) (omega arith))))
 
--- of n lists from the first on
+-- what holds of n lists, starting at the first
 module _ (P : ℕ → List ℕ → Type 0) (n : ℕ) (ls : List (List ℕ)) (size : length ls ≡ n) where
   pub lists-at : Lists P 0 ls → (l : ℕ) → l < n → P l (getD ls l [])
   lists-at a l h = let e : 0 + l ≡ l = omega arith in rw e at (lists-from P 0 ls a l (rw size h))
@@ -36,7 +36,7 @@ module _ (P : ℕ → List ℕ → Type 0) (n : ℕ) (ls : List (List ℕ)) (siz
   pub at-lists : ((l : ℕ) → l < n → P l (getD ls l [])) → Lists P 0 ls
   at-lists f = from-lists P 0 ls (λ l h. let e : 0 + l ≡ l = omega arith in rw e (f l (rw size at h)))
 
--- from list j on: Ok j of list j with the marks before it, `post j` the marks behind it
+-- the lists starting at list j: Ok j of list j with the marks before it, `post j` the marks after it
 module _ (Ok : ℕ → List ℕ → List ℕ → Type 0) (post : ℕ → List ℕ → List ℕ → List ℕ) where
   unfoldable pub OkRow : ℕ → List ℕ → List (List ℕ) → Type 0
   OkRow j busy [] = Unit {0}

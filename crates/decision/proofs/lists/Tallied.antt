@@ -40,7 +40,7 @@ module _ (t ys : List ℕ) (b : Below (length t) ys) (q : ℕ → ℕ) where
   pub marks-completed : ((i : ℕ) → getD t i 0 ≡ q i) → ((i : ℕ) → q i + count i ys ≤ 1) → Met 0 2 t ys
   marks-completed h o = untouched 0 2 t ys b (λ i c. (omega (arith, o i), omega (arith, h i, o i)))
 
-  -- with c of those completed
+  -- the marks after the timers, where c counts the completed requests
   pub timer-marks : (c : ℕ → ℕ) → ((i : ℕ) → (getD t i 0 ≡ q i + 2 * c i) × (q i + c i ≤ 1)) → Met 1 3 t ys
       → (i : ℕ) → (getD (marks 3 t ys) i 0 ≡ q i + 2 * c i + 2 * count i ys) × (count i ys ≤ q i)
   timer-marks c h m i = go (touched 1 3 (λ e. omega arith) t ys b m i)
@@ -71,7 +71,7 @@ all-met seen zero h = refl
 all-met seen (suc n) h =
     pick-true (eqb (getD seen n 0) 1) (allMet seen n) _ (eq-eqb (getD seen n 0) 1 (h n (omega arith))) ∙ all-met seen n (λ x l. h x (omega arith))
 
--- of n things, met once each
+-- n things, each met once
 module _ (n : ℕ) (xs : List ℕ) (b : Below n xs) where
   met-count : Met 0 1 (blank n) xs → (x : ℕ) → (getD (marks 1 (blank n) xs) x 0 ≡ count x xs) × (count x xs ≤ 1)
   met-count m x =

@@ -16,12 +16,12 @@ use Rattle.sound.specs.Walks.{Walked, walked, entryWord}
 use Rattle.decision.proofs.lists.Marks.{marks, Met}
 use Rattle.decision.proofs.lists.Stage.{Found, Stage}
 
--- a kind of list: the test of an entry, by the marks on places and the seconds of the entry before; and the marks on places behind it
+-- a kind of list: the test of an entry, by the marks on places and the seconds of the entry before; and the marks on places after it
 pub record Kind : Type 0 where
   pub test : List ℕ → ℕ → ℕ → Bool
   pub mark : List ℕ → ℕ → List ℕ
 
--- the marks on places behind the entries xs
+-- the marks on places after the entries xs
 unfoldable pub after : Kind → List ℕ → List ℕ → List ℕ
 after k busy [] = busy
 after k busy (x ∷ xs) = after k (k .mark busy x) xs
@@ -32,7 +32,7 @@ module _ (s : List ℕ) (k : Kind) where
   Pass low busy [] = Unit {0}
   Pass low busy (x ∷ xs) = (k .test busy low x ≡ true) × Pass (entryWord s x 7) (k .mark busy x) xs
 
-  -- fewer than n entries, from slot p on
+  -- fewer than n entries, starting at slot p
   abbrev pub Passing : ℕ → ℕ → ℕ → List ℕ → List ℕ → Type 0
   Passing n low p busy xs = (length xs < n) × Chain s p xs × Pass low busy xs
 

@@ -15,28 +15,10 @@ use Rattle.desk.proofs.event.Tie as tie
 returns : tie.Need-returns
 returns c = (event-length _ _ _ (c .if1 .taken), omega arith)
 
-sound-requires : tie.Need-sound-requires
-sound-requires c κs = search needs
-
-same-length : tie.Need-same-length
-same-length c = refl
-
-same-length-2 : tie.Need-same-length-2
-same-length-2 c = refl
-
-same-length-3 : tie.Need-same-length-3
-same-length-3 c = refl
-
 returns-2 : tie.Need-returns-2
 returns-2 c =
     let here : tie.Else1 = search in let if1 = here .if1 in
     (event-unsound _ _ _ (if1 .left) (sym (c .before .sound .ensures) ∙ not-true _ (c .if2 .taken)), omega arith)
-
-decode-requires : tie.Need-decode-requires
-decode-requires c κs = search needs
-
-enum-known-said : tie.Need-enum-known-said
-enum-known-said c = search needs
 
 refuse-requires : tie.Need-refuse-requires
 unfolding Bytes
@@ -55,18 +37,6 @@ refuse-requires c κs =
       ),
       omega (arith, if1 .left),
     )
-
-same-length-4 : tie.Need-same-length-4
-same-length-4 c = search needs
-
-same-length-5 : tie.Need-same-length-5
-same-length-5 c = search needs
-
-same-length-6 : tie.Need-same-length-6
-same-length-6 c = search needs
-
-same-length-7 : tie.Need-same-length-7
-same-length-7 c = search needs
 
 returns-3 : tie.Need-returns-3
 unfolding Bytes
@@ -112,18 +82,6 @@ status-requires c κs =
     let room : tie.Else1 = search in
     omega (arith, room .if1 .left)
 
-same-length-8 : tie.Need-same-length-8
-same-length-8 c = search needs
-
-same-length-9 : tie.Need-same-length-9
-same-length-9 c = search needs
-
-same-length-10 : tie.Need-same-length-10
-same-length-10 c = search needs
-
-same-length-11 : tie.Need-same-length-11
-same-length-11 c = search needs
-
 returns-4 : tie.Need-returns-4
 unfolding Bytes
 returns-4 c =
@@ -167,18 +125,6 @@ serve-requires c κs =
           not-refused _ _ _ d (sym (decode .ensures) ∙ said .given .1) (judge .ensures .0 _ _ _ d s S) (if3 .left),
     )
 
-same-length-12 : tie.Need-same-length-12
-same-length-12 c = search needs
-
-same-length-13 : tie.Need-same-length-13
-same-length-13 c = search needs
-
-same-length-14 : tie.Need-same-length-14
-same-length-14 c = search needs
-
-same-length-15 : tie.Need-same-length-15
-same-length-15 c = search needs
-
 returns-5 : tie.Need-returns-5
 unfolding Bytes
 returns-5 c =
@@ -198,30 +144,30 @@ event-spec =
     tie.close
     (tie.spec
     returns
-    sound-requires
-    same-length
-    same-length-2
-    same-length-3
+    (λ c κs. search needs)
+    (λ c. refl)
+    (λ c. refl)
+    (λ c. refl)
     returns-2
-    decode-requires
-    enum-known-said
+    (λ c κs. search needs)
+    (λ c. search needs)
     refuse-requires
-    same-length-4
-    same-length-5
-    same-length-6
-    same-length-7
+    (λ c. search needs)
+    (λ c. search needs)
+    (λ c. search needs)
+    (λ c. search needs)
     returns-3
     judge-requires
     shared-slice-read-status
     status-requires
-    same-length-8
-    same-length-9
-    same-length-10
-    same-length-11
+    (λ c. search needs)
+    (λ c. search needs)
+    (λ c. search needs)
+    (λ c. search needs)
     returns-4
     serve-requires
-    same-length-12
-    same-length-13
-    same-length-14
-    same-length-15
+    (λ c. search needs)
+    (λ c. search needs)
+    (λ c. search needs)
+    (λ c. search needs)
     returns-5)

@@ -8,14 +8,8 @@ use borrow.Author.Needs.{needs}
 use Rattle.desk.proofs.refusal_of.Statement.{statement}
 use Rattle.desk.proofs.refusal_of.Tie as tie
 
-sound-requires : tie.Need-sound-requires
-sound-requires c κs = search needs
-
 returns : tie.Need-returns
 returns c = unsound-number _ (sym (c .before .sound .ensures) ∙ not-true _ (c .if1 .taken)) _
-
-decode-requires : tie.Need-decode-requires
-decode-requires c κs = search needs
 
 number-of-requires : tie.Need-number-of-requires
 unfolding Bytes
@@ -35,4 +29,4 @@ returns-2 c =
     frame-number _ (sym (sound .ensures) ∙ not-false _ (if1 .left)) _ _ (decode .ensures) _ (c .number-of .ensures)
 
 pub refusal-of-spec : {M : Type 1} → statement M
-refusal-of-spec = tie.close (tie.spec sound-requires returns decode-requires number-of-requires returns-2)
+refusal-of-spec = tie.close (tie.spec (λ c κs. search needs) returns (λ c κs. search needs) number-of-requires returns-2)

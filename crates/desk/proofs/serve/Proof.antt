@@ -14,9 +14,6 @@ encode-requires c κs =
     let start : tie.Start = search in
     omega (arith, act .kept .1 .1 .1 .0, start .pre .0 .1)
 
-cast-result : tie.Need-cast-result
-cast-result c = search needs
-
 add-result : tie.Need-add-result
 add-result c =
     let here : tie.After-act = search in let act = here .act in
@@ -24,18 +21,6 @@ add-result c =
     let (d, s, S) = start .pre .0 .0 in
     let n = served-short (act .ensures d s S) in
     record { fits = omega (arith, n, c .before .before .before .encode .ensures .1 .1) }
-
-same-length : tie.Need-same-length
-same-length c = search needs
-
-same-length-2 : tie.Need-same-length-2
-same-length-2 c = search needs
-
-same-length-3 : tie.Need-same-length-3
-same-length-3 c = search needs
-
-same-length-4 : tie.Need-same-length-4
-same-length-4 c = search needs
 
 returns : tie.Need-returns
 returns c =
@@ -52,10 +37,10 @@ serve-spec =
     (tie.spec
     act-requires
     encode-requires
-    cast-result
+    (λ c. search needs)
     add-result
-    same-length
-    same-length-2
-    same-length-3
-    same-length-4
+    (λ c. search needs)
+    (λ c. search needs)
+    (λ c. search needs)
+    (λ c. search needs)
     returns)

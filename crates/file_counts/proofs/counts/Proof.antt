@@ -5,24 +5,12 @@ use borrow.Author.Needs.{needs}
 use Rattle.file_counts.proofs.counts.Statement.{statement}
 use Rattle.file_counts.proofs.counts.Tie as tie
 
-take-file-requires : tie.Need-take-file-requires
-take-file-requires c κs = search needs
-
-share-requires : tie.Need-share-requires
-share-requires c κs = search needs
-
 data-records-requires : tie.Need-data-records-requires
 data-records-requires c κs =
     let start : tie.Start = search in
     let p = start .pre in
     held-file (p .stands) _ (p .file) (p .b) (p .is) _ _ (c .before .before .take-file .ensures)
     (c .share .ensures)
-
-count-side-requires : tie.Need-count-side-requires
-count-side-requires c κs = search needs
-
-count-side-requires-2 : tie.Need-count-side-requires-2
-count-side-requires-2 c κs = search needs
 
 returns : tie.Need-returns
 returns c =
@@ -37,9 +25,9 @@ pub counts-spec : {M : Type 1} → statement M
 counts-spec =
     tie.close
     (tie.spec
-    take-file-requires
-    share-requires
+    (λ c κs. search needs)
+    (λ c κs. search needs)
     data-records-requires
-    count-side-requires
-    count-side-requires-2
+    (λ c κs. search needs)
+    (λ c κs. search needs)
     returns)

@@ -21,9 +21,6 @@ loop-holds c = count-start _ _ _ (c .first .ensures .1)
 header-requires : tie.Need-header-requires Inv-loop μ-loop
 header-requires c κs = stands-readable _ _ _ (c .before .before .loop .inv .stands) (c .if1 .taken)
 
-data-count-requires : tie.Need-data-count-requires Inv-loop μ-loop
-data-count-requires c κs = search needs
-
 add-found : tie.Need-add-found Inv-loop μ-loop
 add-found c =
     let b3 = c .before .before .before in
@@ -60,7 +57,7 @@ data-records-spec =
     first-requires
     loop-holds
     header-requires
-    data-count-requires
+    (λ c κs. search needs)
     add-found
     next-requires
     loop-less

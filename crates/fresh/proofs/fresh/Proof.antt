@@ -17,24 +17,6 @@ returns-3 : tie.Need-returns-3
 unfolding unmade
 returns-3 c = no-buffers _ (c .before .before .if1 .left) (c .before .if2 .left) (c .if3 .taken)
 
-fresh-segment-requires : tie.Need-fresh-segment-requires
-fresh-segment-requires c κs = search needs
-
-zero-requires : tie.Need-zero-requires
-zero-requires c κs = search needs
-
-zero-requires-2 : tie.Need-zero-requires-2
-zero-requires-2 c κs = search needs
-
-same-length : tie.Need-same-length
-same-length c = search needs
-
-same-length-2 : tie.Need-same-length-2
-same-length-2 c = search needs
-
-same-length-3 : tie.Need-same-length-3
-same-length-3 c = search needs
-
 returns-4 : tie.Need-returns-4
 returns-4 c =
     let here : tie.After-zero = search in let zero = here .zero in
@@ -52,10 +34,10 @@ fresh-spec =
     returns
     returns-2
     returns-3
-    fresh-segment-requires
-    zero-requires
-    zero-requires-2
-    same-length
-    same-length-2
-    same-length-3
+    (λ c κs. search needs)
+    (λ c κs. search needs)
+    (λ c κs. search needs)
+    (λ c. search needs)
+    (λ c. search needs)
+    (λ c. search needs)
     returns-4)

@@ -22,18 +22,6 @@ abbrev μ-loop : tie.MeasureT-loop
 loop-holds : tie.Need-loop-holds Inv-loop μ-loop
 loop-holds c = (omega arith, refl, refl)
 
-fresh-word-requires : tie.Need-fresh-word-requires Inv-loop μ-loop
-fresh-word-requires c κs = search needs
-
-put-requires : tie.Need-put-requires Inv-loop μ-loop
-put-requires c κs = search needs
-
-add-k : tie.Need-add-k Inv-loop μ-loop
-add-k c = search needs
-
-loop-less : tie.Need-loop-less Inv-loop μ-loop
-loop-less c = search needs
-
 loop-again : tie.Need-loop-again Inv-loop μ-loop
 loop-again c =
     let here : tie.After-fresh-word Inv-loop μ-loop = search in let fresh-word = here .fresh-word in
@@ -45,9 +33,6 @@ loop-again c =
       search needs,
     )
 
-same-length : tie.Need-same-length Inv-loop μ-loop
-same-length c = search needs
-
 returns : tie.Need-returns Inv-loop μ-loop
 returns c = from-end _ _ _ (c .before .before .before .pre) (c .loop-test .left) (c .before .loop .inv .1)
 
@@ -58,10 +43,10 @@ fresh-segment-spec =
     Inv-loop
     μ-loop
     loop-holds
-    fresh-word-requires
-    put-requires
-    add-k
-    loop-less
+    (λ c κs. search needs)
+    (λ c κs. search needs)
+    (λ c. search needs)
+    (λ c. search needs)
     loop-again
-    same-length
+    (λ c. search needs)
     returns)

@@ -11,12 +11,6 @@ returns c = word-free _ (c .if1 .taken)
 returns-2 : tie.Need-returns-2
 returns-2 c = word-list _ (c .before .if1 .left) (c .if2 .taken)
 
-cast-fresh-link : tie.Need-cast-fresh-link
-cast-fresh-link c = search needs
-
-fresh-link-requires : tie.Need-fresh-link-requires
-fresh-link-requires c κs = search needs
-
 returns-3 : tie.Need-returns-3
 returns-3 c =
     let here : tie.Else1 = search in let if1 = here .if1 in
@@ -33,4 +27,4 @@ returns-5 c = word-row _ (c .before .before .if1 .left) (c .before .if2 .left) (
 pub fresh-word-spec : {M : Type 1} → statement M
 fresh-word-spec =
     tie.close
-    (tie.spec returns returns-2 cast-fresh-link fresh-link-requires returns-3 returns-4 returns-5)
+    (tie.spec returns returns-2 (λ c. search needs) (λ c κs. search needs) returns-3 returns-4 returns-5)

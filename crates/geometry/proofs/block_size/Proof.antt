@@ -5,9 +5,6 @@ use borrow.Author.Needs.{needs}
 use Rattle.geometry.proofs.block_size.Statement.{statement}
 use Rattle.geometry.proofs.block_size.Tie as tie
 
-add-result : tie.Need-add-result
-add-result c = search needs
-
 mul-result : tie.Need-mul-result
 mul-result c = omega (arith, records-most _ _ (c .pre .0) (c .pre .1))
 
@@ -19,4 +16,4 @@ unfolding blockSize
 returns c = omega (arith, records-most _ _ (c .pre .0) (c .pre .1))
 
 pub block-size-spec : {M : Type 1} → statement M
-block-size-spec = tie.close (tie.spec add-result mul-result add-result-2 returns)
+block-size-spec = tie.close (tie.spec (λ c. search needs) mul-result add-result-2 returns)

@@ -5,18 +5,9 @@ use borrow.Author.Needs.{needs}
 use Rattle.geometry.proofs.divided_up.Statement.{statement}
 use Rattle.geometry.proofs.divided_up.Tie as tie
 
-sub-result : tie.Need-sub-result
-sub-result c = search needs
-
-add-result : tie.Need-add-result
-add-result c = search needs
-
-div-result : tie.Need-div-result
-div-result c = search needs
-
 returns : tie.Need-returns
 unfolding dividedUp
 returns c = (refl, divided-up-least (c .args .n) (c .args .m) (c .pre .0) (c .pre .1))
 
 pub divided-up-spec : {M : Type 1} → statement M
-divided-up-spec = tie.close (tie.spec sub-result add-result div-result returns)
+divided-up-spec = tie.close (tie.spec (λ c. search needs) (λ c. search needs) (λ c. search needs) returns)

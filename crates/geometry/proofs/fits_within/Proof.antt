@@ -6,12 +6,6 @@ use borrow.Author.Needs.{needs}
 use Rattle.geometry.proofs.fits_within.Statement.{statement}
 use Rattle.geometry.proofs.fits_within.Tie as tie
 
-block-size-requires : tie.Need-block-size-requires
-block-size-requires c κs = search needs
-
-cast-result : tie.Need-cast-result
-cast-result c = search needs
-
 mul-result : tie.Need-mul-result
 mul-result c =
     omega (
@@ -24,4 +18,4 @@ returns : tie.Need-returns
 returns c = rw (c .block-size .ensures .0)
 
 pub fits-within-spec : {M : Type 1} → statement M
-fits-within-spec = tie.close (tie.spec block-size-requires cast-result mul-result returns)
+fits-within-spec = tie.close (tie.spec (λ c κs. search needs) (λ c. search needs) mul-result returns)

@@ -11,18 +11,6 @@ use Rattle.geometry.proofs.in_range.Reads as reads
 use Rattle.geometry.proofs.in_range.Lts as lts
 use Rattle.geometry.proofs.within.Reads as within-reads
 
-within-requires : tie.Need-within-requires
-within-requires c κs = search needs
-
-within-requires-2 : tie.Need-within-requires-2
-within-requires-2 c κs = search needs
-
-within-requires-3 : tie.Need-within-requires-3
-within-requires-3 c κs = search needs
-
-within-requires-4 : tie.Need-within-requires-4
-within-requires-4 c κs = search needs
-
 two :
     (c : lts.Joined1 (within-reads.Asked, within-reads.Learnt) reads.Pre reads.Post)
     → c .if1 .if2 ≡
@@ -54,9 +42,9 @@ pub in-range-spec : {M : Type 1} → statement M
 in-range-spec =
     tie.close
     (tie.spec
-    within-requires
-    within-requires-2
-    within-requires-3
-    within-requires-4
+    (λ c κs. search needs)
+    (λ c κs. search needs)
+    (λ c κs. search needs)
+    (λ c κs. search needs)
     returns
     returns-2)

@@ -5,16 +5,10 @@ use borrow.Author.Needs.{needs}
 use Rattle.hex.proofs.decode.Statement.{statement}
 use Rattle.hex.proofs.decode.Tie as tie
 
-is-line-requires : tie.Need-is-line-requires
-is-line-requires c κs = search needs
-
 fill-requires : tie.Need-fill-requires
 fill-requires c κs =
     let l = line-is _ _ (sym (c .before .before .is-line .ensures) ∙ c .before .if1 .taken) in
     (l .2, omega arith)
-
-same-length : tie.Need-same-length
-same-length c = search needs
 
 returns : tie.Need-returns
 returns c =
@@ -34,4 +28,4 @@ returns-2 c =
     (rw e, (rw e, omega arith))
 
 pub decode-spec : {M : Type 1} → statement M
-decode-spec = tie.close (tie.spec is-line-requires fill-requires same-length returns returns-2)
+decode-spec = tie.close (tie.spec (λ c κs. search needs) fill-requires (λ c. search needs) returns returns-2)

@@ -10,11 +10,8 @@ returns c = sym (line-odd _ _ (c .if1 .taken))
 returns-2 : tie.Need-returns-2
 returns-2 c = sym (line-long _ _ (c .if2 .taken))
 
-all-digits-requires : tie.Need-all-digits-requires
-all-digits-requires c κs = search needs
-
 returns-3 : tie.Need-returns-3
 returns-3 c = c .all-digits .ensures ∙ sym (line-short _ _ (c .before .before .if1 .left) (c .before .if2 .left))
 
 pub is-line-spec : {M : Type 1} → statement M
-is-line-spec = tie.close (tie.spec returns returns-2 all-digits-requires returns-3)
+is-line-spec = tie.close (tie.spec returns returns-2 (λ c κs. search needs) returns-3)

@@ -4,30 +4,6 @@ use borrow.Author.Needs.{needs}
 use Rattle.hex.proofs.line.Statement.{statement}
 use Rattle.hex.proofs.line.Tie as tie
 
-sub-encode : tie.Need-sub-encode
-sub-encode c = search needs
-
-part-encode-start : tie.Need-part-encode-start
-part-encode-start c = search needs
-
-part-encode-end : tie.Need-part-encode-end
-part-encode-end c = search needs
-
-encode-requires : tie.Need-encode-requires
-encode-requires c κs = search needs
-
-add-end : tie.Need-add-end
-add-end c = search needs
-
-slice-write-out : tie.Need-slice-write-out
-slice-write-out c = search needs
-
-add-result : tie.Need-add-result
-add-result c = search needs
-
-same-length : tie.Need-same-length
-same-length c = search needs
-
 returns : tie.Need-returns
 returns c =
     let start : tie.Start = search in (
@@ -40,12 +16,12 @@ pub line-spec : {M : Type 1} → statement M
 line-spec =
     tie.close
     (tie.spec
-    sub-encode
-    part-encode-start
-    part-encode-end
-    encode-requires
-    add-end
-    slice-write-out
-    add-result
-    same-length
+    (λ c. search needs)
+    (λ c. search needs)
+    (λ c. search needs)
+    (λ c κs. search needs)
+    (λ c. search needs)
+    (λ c. search needs)
+    (λ c. search needs)
+    (λ c. search needs)
     returns)

@@ -13,9 +13,6 @@ returns-2 c = omega (arith, value-number (c .before .before .args .b) (omega ari
 returns-3 : tie.Need-returns-3
 returns-3 c = omega (arith, value-between (c .before .before .before .args .b) (omega arith) (omega arith))
 
-add-result : tie.Need-add-result
-add-result c = search needs
-
 returns-4 : tie.Need-returns-4
 returns-4 c =
     let start : tie.Start = search in
@@ -27,4 +24,4 @@ returns-5 c =
     omega (arith, value-over (start .args .b) (omega arith))
 
 pub value-spec : {M : Type 1} → statement M
-value-spec = tie.close (tie.spec returns returns-2 returns-3 add-result returns-4 returns-5)
+value-spec = tie.close (tie.spec returns returns-2 returns-3 (λ c. search needs) returns-4 returns-5)

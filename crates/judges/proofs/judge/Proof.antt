@@ -13,9 +13,6 @@ enum-known-event c = c .match .keys1
 judge-build-requires : tie.Need-judge-build-requires
 judge-build-requires c κs = let start : tie.Start = search in start .pre
 
-plain-requires : tie.Need-plain-requires
-plain-requires c κs = search needs
-
 enum-known-event-2 : tie.Need-enum-known-event-2
 enum-known-event-2 c = c .match .keys2
 
@@ -28,17 +25,11 @@ enum-known-event-3 c = c .match .keys3
 judge-read-requires : tie.Need-judge-read-requires
 judge-read-requires c κs = let start : tie.Start = search in start .pre
 
-plain-requires-2 : tie.Need-plain-requires-2
-plain-requires-2 c κs = search needs
-
 enum-known-event-4 : tie.Need-enum-known-event-4
 enum-known-event-4 c = c .match .keys4
 
 judge-write-requires : tie.Need-judge-write-requires
 judge-write-requires c κs = let start : tie.Start = search in start .pre
-
-plain-requires-3 : tie.Need-plain-requires-3
-plain-requires-3 c κs = search needs
 
 enum-known-event-5 : tie.Need-enum-known-event-5
 enum-known-event-5 c = c .match .keys5
@@ -46,17 +37,11 @@ enum-known-event-5 c = c .match .keys5
 judge-control-requires : tie.Need-judge-control-requires
 judge-control-requires c κs = let start : tie.Start = search in start .pre
 
-plain-requires-4 : tie.Need-plain-requires-4
-plain-requires-4 c κs = search needs
-
 enum-known-event-6 : tie.Need-enum-known-event-6
 enum-known-event-6 c = c .match .keys6
 
 judge-collect-requires : tie.Need-judge-collect-requires
 judge-collect-requires c κs = let start : tie.Start = search in start .pre
-
-plain-requires-5 : tie.Need-plain-requires-5
-plain-requires-5 c κs = search needs
 
 enum-known-event-7 : tie.Need-enum-known-event-7
 enum-known-event-7 c = c .match .keys7
@@ -64,23 +49,14 @@ enum-known-event-7 c = c .match .keys7
 judge-close-requires : tie.Need-judge-close-requires
 judge-close-requires c κs = let start : tie.Start = search in start .pre
 
-plain-requires-6 : tie.Need-plain-requires-6
-plain-requires-6 c κs = search needs
-
 enum-told : tie.Need-enum-told
 enum-told c = c .match .keys8
-
-plain-requires-7 : tie.Need-plain-requires-7
-plain-requires-7 c κs = search needs
 
 enum-known-event-8 : tie.Need-enum-known-event-8
 enum-known-event-8 c = c .match .keys9
 
 judge-counts-requires : tie.Need-judge-counts-requires
 judge-counts-requires c κs = let start : tie.Start = search in start .pre
-
-plain-requires-8 : tie.Need-plain-requires-8
-plain-requires-8 c κs = search needs
 
 returns : tie.Need-returns
 unfolding frameAsks purgesBy
@@ -151,29 +127,29 @@ judge-spec =
     (tie.spec
     enum-known-event
     judge-build-requires
-    plain-requires
+    (λ c κs. search needs)
     enum-known-event-2
     judge-open-requires
     enum-known-event-3
     judge-read-requires
-    plain-requires-2
+    (λ c κs. search needs)
     enum-known-event-4
     judge-write-requires
-    plain-requires-3
+    (λ c κs. search needs)
     enum-known-event-5
     judge-control-requires
-    plain-requires-4
+    (λ c κs. search needs)
     enum-known-event-6
     judge-collect-requires
-    plain-requires-5
+    (λ c κs. search needs)
     enum-known-event-7
     judge-close-requires
-    plain-requires-6
+    (λ c κs. search needs)
     enum-told
-    plain-requires-7
+    (λ c κs. search needs)
     enum-known-event-8
     judge-counts-requires
-    plain-requires-8
+    (λ c κs. search needs)
     returns
     returns-2
     returns-3

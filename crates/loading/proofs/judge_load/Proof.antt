@@ -6,9 +6,6 @@ use Rattle.loading.proofs.Judged.{judges-unsound, sound-size, judges-hi
 use Rattle.loading.proofs.judge_load.Statement.{statement}
 use Rattle.loading.proofs.judge_load.Tie as tie
 
-sound-requires : tie.Need-sound-requires
-sound-requires c κs = search needs
-
 returns : tie.Need-returns
 returns c = judges-unsound _ _ _ (sym (c .before .sound .ensures) ∙ not-true _ (c .if1 .taken))
 
@@ -26,9 +23,6 @@ returns-3 c =
     let here : tie.After-sound = search in let sound = here .sound in
     judges-built _ _ _ (sym (sound .ensures) ∙ not-false _ (c .before .before .before .if1 .left))
     (omega (arith, c .before .before .if2 .left)) _ (c .before .words-of .ensures) (c .if3 .taken)
-
-is-sheet-requires : tie.Need-is-sheet-requires
-is-sheet-requires c κs = search needs
 
 returns-4 : tie.Need-returns-4
 returns-4 c =
@@ -52,11 +46,11 @@ pub judge-load-spec : {M : Type 1} → statement M
 judge-load-spec =
     tie.close
     (tie.spec
-    sound-requires
+    (λ c κs. search needs)
     returns
     returns-2
     words-of-requires
     returns-3
-    is-sheet-requires
+    (λ c κs. search needs)
     returns-4
     returns-5)

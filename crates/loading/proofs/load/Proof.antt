@@ -4,18 +4,6 @@ use Rattle.loading.proofs.Done.{refused-load, judges-zero, done-asks, d
 use Rattle.loading.proofs.load.Statement.{statement}
 use Rattle.loading.proofs.load.Tie as tie
 
-judge-load-requires : tie.Need-judge-load-requires
-judge-load-requires c κs = search needs
-
-same-length : tie.Need-same-length
-same-length c = search needs
-
-same-length-2 : tie.Need-same-length-2
-same-length-2 c = search needs
-
-same-length-3 : tie.Need-same-length-3
-same-length-3 c = search needs
-
 returns : tie.Need-returns
 returns c = refused-load _ _ _ _ (c .before .judge-load .ensures) (c .if1 .taken)
 
@@ -29,15 +17,6 @@ lay-out-requires c κs =
     let j = judges-zero _ _ _ _ (c .before .before .before .if1 .left) (judge-load .ensures) in
     done-asks _ _ _ (λ i. slice-known .given i .fits) (λ i. slice-known2 .given i .fits)
     (λ i. slice-known3 .given i .fits) j
-
-same-length-4 : tie.Need-same-length-4
-same-length-4 c = search needs
-
-same-length-5 : tie.Need-same-length-5
-same-length-5 c = search needs
-
-same-length-6 : tie.Need-same-length-6
-same-length-6 c = search needs
 
 returns-2 : tie.Need-returns-2
 unfolding Bytes
@@ -55,13 +34,13 @@ pub load-spec : {M : Type 1} → statement M
 load-spec =
     tie.close
     (tie.spec
-    judge-load-requires
-    same-length
-    same-length-2
-    same-length-3
+    (λ c κs. search needs)
+    (λ c. search needs)
+    (λ c. search needs)
+    (λ c. search needs)
     returns
     lay-out-requires
-    same-length-4
-    same-length-5
-    same-length-6
+    (λ c. search needs)
+    (λ c. search needs)
+    (λ c. search needs)
     returns-2)

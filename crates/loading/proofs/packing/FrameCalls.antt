@@ -31,10 +31,11 @@ use denote.Triple.Clauses.{lasts}
 use denote.Triple.Spec.{tripleOf}
 use denote.Triple.Walked.{says}
 use Rattle.rules.specs.Limits.{files, shareBytes, sheetLineBytes}
+use Rattle.rules.specs.Memories.{shareAt}
 use Rattle.ring.specs.declared.Ring.{Ring}
 use Rattle.ring.specs.Ring as spec
 use Rattle.blocks.specs.Writing.{Ready, inscribed}
-use Rattle.blocks.specs.Memory.{blocksBytes, shareAt}
+use Rattle.blocks.specs.Memory.{blocksBytes}
 use Rattle.ring.proofs.Ring as G
 use Rattle.ring.proofs.Ring.Laws as G′
 use Rattle.reader.specs.declared.Reader.{Reader}

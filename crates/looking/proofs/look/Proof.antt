@@ -5,9 +5,6 @@ use borrow.Author.Needs.{needs}
 use Rattle.looking.proofs.look.Statement.{statement}
 use Rattle.looking.proofs.look.Tie as tie
 
-shown-requires : tie.Need-shown-requires
-shown-requires c κs = search needs
-
 part-requires : tie.Need-part-requires
 part-requires c κs = c .shown .ensures .0
 
@@ -26,4 +23,4 @@ returns c =
     )
 
 pub look-spec : {M : Type 1} → statement M
-look-spec = tie.close (tie.spec shown-requires part-requires returns)
+look-spec = tie.close (tie.spec (λ c κs. search needs) part-requires returns)

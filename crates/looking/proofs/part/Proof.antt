@@ -3,29 +3,8 @@ use borrow.Author.Needs.{needs}
 use Rattle.looking.proofs.part.Statement.{statement}
 use Rattle.looking.proofs.part.Tie as tie
 
-enum-told : tie.Need-enum-told
-enum-told c = search needs
-
-sub-result : tie.Need-sub-result
-sub-result c = search needs
-
-part-result-start : tie.Need-part-result-start
-part-result-start c = search needs
-
-part-result-end : tie.Need-part-result-end
-part-result-end c = search needs
-
-enum-known-what : tie.Need-enum-known-what
-enum-known-what c = search needs
-
 add-result : tie.Need-add-result
 add-result c = let s = c .before .before .before in let h = block-inside _ _ _ (s .pre) _ _ (c .before .what .given .1) in search needs
-
-sub-result-2 : tie.Need-sub-result-2
-sub-result-2 c = search needs
-
-part-result-start-2 : tie.Need-part-result-start-2
-part-result-start-2 c = search needs
 
 part-result-end-2 : tie.Need-part-result-end-2
 part-result-end-2 c =
@@ -33,17 +12,8 @@ part-result-end-2 c =
     let h = block-inside _ _ _ (s .pre) _ _ (c .before .what .given .1) in
     search needs
 
-enum-known-what-2 : tie.Need-enum-known-what-2
-enum-known-what-2 c = search needs
-
 add-result-2 : tie.Need-add-result-2
 add-result-2 c = let s = c .before .before .before in let h = buffer-inside _ _ _ (s .pre) _ _ (c .before .what2 .given .1) in search needs
-
-sub-result-3 : tie.Need-sub-result-3
-sub-result-3 c = search needs
-
-part-result-start-3 : tie.Need-part-result-start-3
-part-result-start-3 c = search needs
 
 part-result-end-3 : tie.Need-part-result-end-3
 part-result-end-3 c =
@@ -64,19 +34,19 @@ pub part-spec : {M : Type 1} → statement M
 part-spec =
     tie.close
     (tie.spec
-    enum-told
-    sub-result
-    part-result-start
-    part-result-end
-    enum-known-what
+    (λ c. search needs)
+    (λ c. search needs)
+    (λ c. search needs)
+    (λ c. search needs)
+    (λ c. search needs)
     add-result
-    sub-result-2
-    part-result-start-2
+    (λ c. search needs)
+    (λ c. search needs)
     part-result-end-2
-    enum-known-what-2
+    (λ c. search needs)
     add-result-2
-    sub-result-3
-    part-result-start-3
+    (λ c. search needs)
+    (λ c. search needs)
     part-result-end-3
     returns
     returns-2

@@ -8,9 +8,6 @@ use borrow.Author.Needs.{needs}
 use Rattle.looking.proofs.shown.Statement.{statement}
 use Rattle.looking.proofs.shown.Tie as tie
 
-sound-requires : tie.Need-sound-requires
-sound-requires c κs = search needs
-
 returns : tie.Need-returns
 unfolding Inside
 returns c = (tt, unsound-shows _ _ _ (sym (c .before .sound .ensures) ∙ not-true _ (c .if1 .taken)))
@@ -38,4 +35,4 @@ returns-2 c =
     )
 
 pub shown-spec : {M : Type 1} → statement M
-shown-spec = tie.close (tie.spec sound-requires returns find-requires returns-2)
+shown-spec = tie.close (tie.spec (λ c κs. search needs) returns find-requires returns-2)

@@ -3,15 +3,6 @@ use borrow.Author.Needs.{needs}
 use Rattle.looking.proofs.status.Statement.{statement}
 use Rattle.looking.proofs.status.Tie as tie
 
-enum-known-what : tie.Need-enum-known-what
-enum-known-what c = search needs
-
-enum-told : tie.Need-enum-told
-enum-told c = search needs
-
-enum-told-2 : tie.Need-enum-told-2
-enum-told-2 c = search needs
-
 returns : tie.Need-returns
 unfolding statusShown
 returns c = rw (c .before .what .given .1)
@@ -27,4 +18,4 @@ returns-3 c = rw (c .enum-told2 .given .1)
 pub status-spec : {M : Type 1} → statement M
 status-spec =
     tie.close
-    (tie.spec enum-known-what enum-told enum-told-2 returns returns-2 returns-3)
+    (tie.spec (λ c. search needs) (λ c. search needs) (λ c. search needs) returns returns-2 returns-3)

@@ -5,15 +5,9 @@ use borrow.Author.Needs.{needs}
 use Rattle.midst.proofs.put_file.Statement.{statement}
 use Rattle.midst.proofs.put_file.Tie as tie
 
-write-file-requires : tie.Need-write-file-requires
-write-file-requires c κs = search needs
-
-same-length : tie.Need-same-length
-same-length c = search needs
-
 returns : tie.Need-returns
 unfolding fileRowWords fileWords
 returns c = rw (c .before .before .write-file .ensures)
 
 pub put-file-spec : {M : Type 1} → statement M
-put-file-spec = tie.close (tie.spec write-file-requires same-length returns)
+put-file-spec = tie.close (tie.spec (λ c κs. search needs) (λ c. search needs) returns)

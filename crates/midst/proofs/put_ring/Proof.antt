@@ -6,33 +6,6 @@ use Rattle.midst.proofs.Own.{ring-back}
 use Rattle.midst.proofs.put_ring.Statement.{statement}
 use Rattle.midst.proofs.put_ring.Tie as tie
 
-mul-at : tie.Need-mul-at
-mul-at c = search needs
-
-add-at : tie.Need-add-at
-add-at c = search needs
-
-add-put : tie.Need-add-put
-add-put c = search needs
-
-put-requires : tie.Need-put-requires
-put-requires c κs = search needs
-
-add-put-2 : tie.Need-add-put-2
-add-put-2 c = search needs
-
-put-requires-2 : tie.Need-put-requires-2
-put-requires-2 c κs = search needs
-
-add-put-3 : tie.Need-add-put-3
-add-put-3 c = search needs
-
-put-requires-3 : tie.Need-put-requires-3
-put-requires-3 c κs = search needs
-
-same-length : tie.Need-same-length
-same-length c = search needs
-
 returns : tie.Need-returns
 returns c =
     let start : tie.Start = search in
@@ -47,13 +20,13 @@ pub put-ring-spec : {M : Type 1} → statement M
 put-ring-spec =
     tie.close
     (tie.spec
-    mul-at
-    add-at
-    add-put
-    put-requires
-    add-put-2
-    put-requires-2
-    add-put-3
-    put-requires-3
-    same-length
+    (λ c. search needs)
+    (λ c. search needs)
+    (λ c. search needs)
+    (λ c κs. search needs)
+    (λ c. search needs)
+    (λ c κs. search needs)
+    (λ c. search needs)
+    (λ c κs. search needs)
+    (λ c. search needs)
     returns)

@@ -5,11 +5,8 @@ use borrow.Author.Needs.{needs}
 use Rattle.midst.proofs.take_file.Statement.{statement}
 use Rattle.midst.proofs.take_file.Tie as tie
 
-read-file-requires : tie.Need-read-file-requires
-read-file-requires c κs = search needs
-
 returns : tie.Need-returns
 returns c = ap fileOfRow (c .read-file .ensures)
 
 pub take-file-spec : {M : Type 1} → statement M
-take-file-spec = tie.close (tie.spec read-file-requires returns)
+take-file-spec = tie.close (tie.spec (λ c κs. search needs) returns)

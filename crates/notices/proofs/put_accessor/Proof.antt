@@ -4,15 +4,6 @@ use borrow.Author.Needs.{needs}
 use Rattle.notices.proofs.put_accessor.Statement.{statement}
 use Rattle.notices.proofs.put_accessor.Tie as tie
 
-put-who-requires : tie.Need-put-who-requires
-put-who-requires c κs = search needs
-
-put-settings-requires : tie.Need-put-settings-requires
-put-settings-requires c κs = search needs
-
-same-length : tie.Need-same-length
-same-length c = search needs
-
 returns : tie.Need-returns
 unfolding rowLine accessorLine
 returns c =
@@ -24,7 +15,7 @@ pub put-accessor-spec : {M : Type 1} → statement M
 put-accessor-spec =
     tie.close
     (tie.spec
-    put-who-requires
-    put-settings-requires
-    same-length
+    (λ c κs. search needs)
+    (λ c κs. search needs)
+    (λ c. search needs)
     returns)

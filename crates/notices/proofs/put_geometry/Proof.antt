@@ -5,15 +5,6 @@ use borrow.Author.Needs.{needs}
 use Rattle.notices.proofs.put_geometry.Statement.{statement}
 use Rattle.notices.proofs.put_geometry.Tie as tie
 
-put-size-requires : tie.Need-put-size-requires
-put-size-requires c κs = search needs
-
-put-blocks-requires : tie.Need-put-blocks-requires
-put-blocks-requires c κs = search needs
-
-same-length : tie.Need-same-length
-same-length c = search needs
-
 returns : tie.Need-returns
 unfolding geometryLine
 returns c =
@@ -25,7 +16,7 @@ pub put-geometry-spec : {M : Type 1} → statement M
 put-geometry-spec =
     tie.close
     (tie.spec
-    put-size-requires
-    put-blocks-requires
-    same-length
+    (λ c κs. search needs)
+    (λ c κs. search needs)
+    (λ c. search needs)
     returns)

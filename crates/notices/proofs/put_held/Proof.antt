@@ -5,15 +5,6 @@ use borrow.Author.Needs.{needs}
 use Rattle.notices.proofs.put_held.Statement.{statement}
 use Rattle.notices.proofs.put_held.Tie as tie
 
-put-records-requires : tie.Need-put-records-requires
-put-records-requires c κs = search needs
-
-put-room-requires : tie.Need-put-room-requires
-put-room-requires c κs = search needs
-
-same-length : tie.Need-same-length
-same-length c = search needs
-
 returns : tie.Need-returns
 unfolding heldLine
 returns c =
@@ -25,7 +16,7 @@ pub put-held-spec : {M : Type 1} → statement M
 put-held-spec =
     tie.close
     (tie.spec
-    put-records-requires
-    put-room-requires
-    same-length
+    (λ c κs. search needs)
+    (λ c κs. search needs)
+    (λ c. search needs)
     returns)

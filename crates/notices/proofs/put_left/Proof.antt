@@ -6,45 +6,12 @@ use borrow.Author.Needs.{needs}
 use Rattle.notices.proofs.put_left.Statement.{statement}
 use Rattle.notices.proofs.put_left.Tie as tie
 
-enum-told : tie.Need-enum-told
-enum-told c = search needs
-
-slice-aggregate-put-text : tie.Need-slice-aggregate-put-text
-slice-aggregate-put-text c = search needs
-
-put-text-requires : tie.Need-put-text-requires
-put-text-requires c κs = search needs
-
-enum-known-left : tie.Need-enum-known-left
-enum-known-left c = search needs
-
-slice-aggregate-put-text-2 : tie.Need-slice-aggregate-put-text-2
-slice-aggregate-put-text-2 c = search needs
-
-put-text-requires-2 : tie.Need-put-text-requires-2
-put-text-requires-2 c κs = search needs
-
-put-number-requires : tie.Need-put-number-requires
-put-number-requires c κs = search needs
-
-slice-aggregate-put-text-3 : tie.Need-slice-aggregate-put-text-3
-slice-aggregate-put-text-3 c = search needs
-
-put-text-requires-3 : tie.Need-put-text-requires-3
-put-text-requires-3 c κs = search needs
-
-same-length : tie.Need-same-length
-same-length c = search needs
-
 returns : tie.Need-returns
 unfolding leftText spell
 returns c =
     let told : tie.After-enum-told = search in
     let s0 : tie.After-put-text = search in
     rw (told .enum-told .given .1) (put-within 14 (omega arith) (s0 .put-text .ensures))
-
-same-length-2 : tie.Need-same-length-2
-same-length-2 c = search needs
 
 returns-2 : tie.Need-returns-2
 unfolding leftText spell
@@ -59,16 +26,16 @@ pub put-left-spec : {M : Type 1} → statement M
 put-left-spec =
     tie.close
     (tie.spec
-    enum-told
-    slice-aggregate-put-text
-    put-text-requires
-    enum-known-left
-    slice-aggregate-put-text-2
-    put-text-requires-2
-    put-number-requires
-    slice-aggregate-put-text-3
-    put-text-requires-3
-    same-length
+    (λ c. search needs)
+    (λ c. search needs)
+    (λ c κs. search needs)
+    (λ c. search needs)
+    (λ c. search needs)
+    (λ c κs. search needs)
+    (λ c κs. search needs)
+    (λ c. search needs)
+    (λ c κs. search needs)
+    (λ c. search needs)
     returns
-    same-length-2
+    (λ c. search needs)
     returns-2)

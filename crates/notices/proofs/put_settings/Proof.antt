@@ -5,24 +5,6 @@ use borrow.Author.Needs.{needs}
 use Rattle.notices.proofs.put_settings.Statement.{statement}
 use Rattle.notices.proofs.put_settings.Tie as tie
 
-put-timeout-requires : tie.Need-put-timeout-requires
-put-timeout-requires c κs = search needs
-
-slice-aggregate-put-if : tie.Need-slice-aggregate-put-if
-slice-aggregate-put-if c = search needs
-
-put-if-requires : tie.Need-put-if-requires
-put-if-requires c κs = search needs
-
-slice-aggregate-put-text : tie.Need-slice-aggregate-put-text
-slice-aggregate-put-text c = search needs
-
-put-text-requires : tie.Need-put-text-requires
-put-text-requires c κs = search needs
-
-same-length : tie.Need-same-length
-same-length c = search needs
-
 returns : tie.Need-returns
 unfolding settingsText spell lf
 returns c =
@@ -35,10 +17,10 @@ pub put-settings-spec : {M : Type 1} → statement M
 put-settings-spec =
     tie.close
     (tie.spec
-    put-timeout-requires
-    slice-aggregate-put-if
-    put-if-requires
-    slice-aggregate-put-text
-    put-text-requires
-    same-length
+    (λ c κs. search needs)
+    (λ c. search needs)
+    (λ c κs. search needs)
+    (λ c. search needs)
+    (λ c κs. search needs)
+    (λ c. search needs)
     returns)

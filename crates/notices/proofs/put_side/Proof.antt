@@ -7,18 +7,6 @@ use borrow.Author.Needs.{needs}
 use Rattle.notices.proofs.put_side.Statement.{statement}
 use Rattle.notices.proofs.put_side.Tie as tie
 
-slice-aggregate-put-text : tie.Need-slice-aggregate-put-text
-slice-aggregate-put-text c = search needs
-
-put-text-requires : tie.Need-put-text-requires
-put-text-requires c κs = search needs
-
-put-number-requires : tie.Need-put-number-requires
-put-number-requires c κs = search needs
-
-same-length : tie.Need-same-length
-same-length c = search needs
-
 returns : tie.Need-returns
 unfolding sideText spell
 returns c =
@@ -26,27 +14,6 @@ returns c =
     let s0 : tie.After-put-text = search in
     let s1 : tie.After-put-number = search in
     rw (eq-eqb _ _ (here .if1 .taken)) (put-within 37 (omega arith) (s0 .put-text .ensures then s1 .put-number .ensures))
-
-slice-aggregate-put-text-2 : tie.Need-slice-aggregate-put-text-2
-slice-aggregate-put-text-2 c = search needs
-
-put-text-requires-2 : tie.Need-put-text-requires-2
-put-text-requires-2 c κs = search needs
-
-slice-aggregate-put-if : tie.Need-slice-aggregate-put-if
-slice-aggregate-put-if c = search needs
-
-put-if-requires : tie.Need-put-if-requires
-put-if-requires c κs = search needs
-
-slice-aggregate-put-if-2 : tie.Need-slice-aggregate-put-if-2
-slice-aggregate-put-if-2 c = search needs
-
-put-if-requires-2 : tie.Need-put-if-requires-2
-put-if-requires-2 c κs = search needs
-
-same-length-2 : tie.Need-same-length-2
-same-length-2 c = search needs
 
 returns-2 : tie.Need-returns-2
 unfolding sideText spell
@@ -61,16 +28,16 @@ pub put-side-spec : {M : Type 1} → statement M
 put-side-spec =
     tie.close
     (tie.spec
-    slice-aggregate-put-text
-    put-text-requires
-    put-number-requires
-    same-length
+    (λ c. search needs)
+    (λ c κs. search needs)
+    (λ c κs. search needs)
+    (λ c. search needs)
     returns
-    slice-aggregate-put-text-2
-    put-text-requires-2
-    slice-aggregate-put-if
-    put-if-requires
-    slice-aggregate-put-if-2
-    put-if-requires-2
-    same-length-2
+    (λ c. search needs)
+    (λ c κs. search needs)
+    (λ c. search needs)
+    (λ c κs. search needs)
+    (λ c. search needs)
+    (λ c κs. search needs)
+    (λ c. search needs)
     returns-2)

@@ -10,24 +10,6 @@ returns : tie.Need-returns
 unfolding timeoutText
 returns c = rw (eq-eqb _ _ (c .if1 .taken)) (put-none 17)
 
-slice-aggregate-put-text : tie.Need-slice-aggregate-put-text
-slice-aggregate-put-text c = search needs
-
-put-text-requires : tie.Need-put-text-requires
-put-text-requires c κs = search needs
-
-put-number-requires : tie.Need-put-number-requires
-put-number-requires c κs = search needs
-
-slice-aggregate-put-text-2 : tie.Need-slice-aggregate-put-text-2
-slice-aggregate-put-text-2 c = search needs
-
-put-text-requires-2 : tie.Need-put-text-requires-2
-put-text-requires-2 c κs = search needs
-
-same-length : tie.Need-same-length
-same-length c = search needs
-
 returns-2 : tie.Need-returns-2
 unfolding timeoutText spell
 returns-2 c =
@@ -42,10 +24,10 @@ put-timeout-spec =
     tie.close
     (tie.spec
     returns
-    slice-aggregate-put-text
-    put-text-requires
-    put-number-requires
-    slice-aggregate-put-text-2
-    put-text-requires-2
-    same-length
+    (λ c. search needs)
+    (λ c κs. search needs)
+    (λ c κs. search needs)
+    (λ c. search needs)
+    (λ c κs. search needs)
+    (λ c. search needs)
     returns-2)

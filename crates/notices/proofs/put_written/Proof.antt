@@ -7,27 +7,12 @@ use borrow.Author.Needs.{needs}
 use Rattle.notices.proofs.put_written.Statement.{statement}
 use Rattle.notices.proofs.put_written.Tie as tie
 
-slice-aggregate-put-text : tie.Need-slice-aggregate-put-text
-slice-aggregate-put-text c = search needs
-
-put-text-requires : tie.Need-put-text-requires
-put-text-requires c κs = search needs
-
-same-length : tie.Need-same-length
-same-length c = search needs
-
 returns : tie.Need-returns
 unfolding writtenText spell
 returns c =
     let here : tie.Then1 = search in
     let s0 : tie.After-put-text = search in
     rw (eq-eqb _ _ (here .if1 .taken)) (put-within 12 (omega arith) (s0 .put-text .ensures))
-
-put-status-requires : tie.Need-put-status-requires
-put-status-requires c κs = search needs
-
-same-length-2 : tie.Need-same-length-2
-same-length-2 c = search needs
 
 returns-2 : tie.Need-returns-2
 unfolding writtenText
@@ -40,10 +25,10 @@ pub put-written-spec : {M : Type 1} → statement M
 put-written-spec =
     tie.close
     (tie.spec
-    slice-aggregate-put-text
-    put-text-requires
-    same-length
+    (λ c. search needs)
+    (λ c κs. search needs)
+    (λ c. search needs)
     returns
-    put-status-requires
-    same-length-2
+    (λ c κs. search needs)
+    (λ c. search needs)
     returns-2)

@@ -29,23 +29,11 @@ write-file-requires c κs =
     let start : tie.Start = search in
     (build-sizes _ _ _ _ _ (start .pre) .0, build-file _ _ _ _ _ (start .pre))
 
-capacity-requires : tie.Need-capacity-requires
-capacity-requires c κs = search needs
-
 cast-room : tie.Need-cast-room
 cast-room c =
     let here : tie.After-data-blocks = search in let data-blocks = here .data-blocks in
     let start : tie.Start = search in
     omega (arith, c .capacity .ensures, build-room _ _ _ _ _ (start .pre) _ (data-blocks .ensures .0))
-
-same-length : tie.Need-same-length
-same-length c = search needs
-
-same-length-2 : tie.Need-same-length-2
-same-length-2 c = search needs
-
-same-length-3 : tie.Need-same-length-3
-same-length-3 c = search needs
 
 returns : tie.Need-returns
 returns c =
@@ -69,9 +57,9 @@ build-spec =
     mul-zero
     zero-requires
     write-file-requires
-    capacity-requires
+    (λ c κs. search needs)
     cast-room
-    same-length
-    same-length-2
-    same-length-3
+    (λ c. search needs)
+    (λ c. search needs)
+    (λ c. search needs)
     returns)

@@ -4,22 +4,10 @@ use borrow.Author.Needs.{needs}
 use Rattle.opening.proofs.open.Statement.{statement}
 use Rattle.opening.proofs.open.Tie as tie
 
-sharing-of-requires : tie.Need-sharing-of-requires
-sharing-of-requires c κs = search needs
-
 open-reader-requires : tie.Need-open-reader-requires
 open-reader-requires c κs =
     let start : tie.Start = search in
     asks-reader _ _ _ _ (start .pre .0)
-
-same-length : tie.Need-same-length
-same-length c = search needs
-
-same-length-2 : tie.Need-same-length-2
-same-length-2 c = search needs
-
-same-length-3 : tie.Need-same-length-3
-same-length-3 c = search needs
 
 returns : tie.Need-returns
 returns c =
@@ -34,15 +22,6 @@ open-writer-requires c κs =
     let start : tie.Start = search in
     (start .pre .0 .0, (_, (start .pre .1, each-writer _ _ _ _ (c .before .before .before .if1 .left) (start .pre .0 .1))))
 
-same-length-4 : tie.Need-same-length-4
-same-length-4 c = search needs
-
-same-length-5 : tie.Need-same-length-5
-same-length-5 c = search needs
-
-same-length-6 : tie.Need-same-length-6
-same-length-6 c = search needs
-
 returns-2 : tie.Need-returns-2
 returns-2 c =
     let here : tie.After-open-writer = search in let open-writer = here .open-writer in
@@ -56,14 +35,14 @@ pub open-spec : {M : Type 1} → statement M
 open-spec =
     tie.close
     (tie.spec
-    sharing-of-requires
+    (λ c κs. search needs)
     open-reader-requires
-    same-length
-    same-length-2
-    same-length-3
+    (λ c. search needs)
+    (λ c. search needs)
+    (λ c. search needs)
     returns
     open-writer-requires
-    same-length-4
-    same-length-5
-    same-length-6
+    (λ c. search needs)
+    (λ c. search needs)
+    (λ c. search needs)
     returns-2)

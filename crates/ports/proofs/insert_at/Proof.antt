@@ -3,21 +3,6 @@ use Rattle.ports.specs.Slots.{insert}
 use Rattle.ports.proofs.insert_at.Statement.{statement}
 use Rattle.ports.proofs.insert_at.Tie as tie
 
-get-requires : tie.Need-get-requires
-get-requires c κs = search needs
-
-link-at-requires : tie.Need-link-at-requires
-link-at-requires c κs = search needs
-
-put-requires : tie.Need-put-requires
-put-requires c κs = search needs
-
-put-requires-2 : tie.Need-put-requires-2
-put-requires-2 c κs = search needs
-
-same-length : tie.Need-same-length
-same-length c = search needs
-
 returns : tie.Need-returns
 unfolding insert
 returns c =
@@ -29,4 +14,4 @@ returns c =
 pub insert-at-spec : {M : Type 1} → statement M
 insert-at-spec =
     tie.close
-    (tie.spec get-requires link-at-requires put-requires put-requires-2 same-length returns)
+    (tie.spec (λ c κs. search needs) (λ c κs. search needs) (λ c κs. search needs) (λ c κs. search needs) (λ c. search needs) returns)

@@ -4,15 +4,6 @@ use Rattle.ports.specs.Slots.{released}
 use Rattle.ports.proofs.release_entry.Statement.{statement}
 use Rattle.ports.proofs.release_entry.Tie as tie
 
-write-entry-requires : tie.Need-write-entry-requires
-write-entry-requires c κs = search needs
-
-insert-at-requires : tie.Need-insert-at-requires
-insert-at-requires c κs = search needs
-
-same-length : tie.Need-same-length
-same-length c = search needs
-
 returns : tie.Need-returns
 unfolding released entryWords
 returns c =
@@ -21,4 +12,4 @@ returns c =
 
 pub release-entry-spec : {M : Type 1} → statement M
 release-entry-spec =
-    tie.close (tie.spec write-entry-requires insert-at-requires same-length returns)
+    tie.close (tie.spec (λ c κs. search needs) (λ c κs. search needs) (λ c. search needs) returns)

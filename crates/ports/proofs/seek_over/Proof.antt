@@ -20,14 +20,8 @@ abbrev μ-loop : tie.MeasureT-loop
 loop-holds : tie.Need-loop-holds Inv-loop μ-loop
 loop-holds c = (search needs, refl)
 
-get-requires : tie.Need-get-requires Inv-loop μ-loop
-get-requires c κs = search needs
-
 returns : tie.Need-returns Inv-loop μ-loop
 returns c = (sym (c .before .before .before .loop .inv .1 ∙ seek-stop _ _ _ (c .before .get .ensures) _ _ (c .if1 .taken)), search needs)
-
-entry-seconds-requires : tie.Need-entry-seconds-requires Inv-loop μ-loop
-entry-seconds-requires c κs = search needs
 
 returns-2 : tie.Need-returns-2 Inv-loop μ-loop
 unfolding entryAt entryOf
@@ -39,15 +33,6 @@ returns-2 c =
           (rw (← c .before .entry-seconds .ensures) (lt-ltb _ _ (c .if2 .taken)))),
       search needs,
     )
-
-link-at-requires : tie.Need-link-at-requires Inv-loop μ-loop
-link-at-requires c κs = search needs
-
-sub-n : tie.Need-sub-n Inv-loop μ-loop
-sub-n c = search needs
-
-loop-less : tie.Need-loop-less Inv-loop μ-loop
-loop-less c = search needs
 
 loop-again : tie.Need-loop-again Inv-loop μ-loop
 unfolding entryAt entryOf
@@ -73,12 +58,12 @@ seek-over-spec =
     Inv-loop
     μ-loop
     loop-holds
-    get-requires
+    (λ c κs. search needs)
     returns
-    entry-seconds-requires
+    (λ c κs. search needs)
     returns-2
-    link-at-requires
-    sub-n
-    loop-less
+    (λ c κs. search needs)
+    (λ c. search needs)
+    (λ c. search needs)
     loop-again
     returns-3)

@@ -5,15 +5,6 @@ use Rattle.ports.specs.Slots.{unlink, taken}
 use Rattle.ports.proofs.take_entry.Statement.{statement}
 use Rattle.ports.proofs.take_entry.Tie as tie
 
-unlink-at-requires : tie.Need-unlink-at-requires
-unlink-at-requires c κs = search needs
-
-write-entry-requires : tie.Need-write-entry-requires
-write-entry-requires c κs = search needs
-
-same-length : tie.Need-same-length
-same-length c = search needs
-
 returns : tie.Need-returns
 unfolding taken
 returns c =
@@ -28,9 +19,6 @@ returns c =
       ),
     )
 
-same-length-2 : tie.Need-same-length-2
-same-length-2 c = search needs
-
 returns-2 : tie.Need-returns-2
 unfolding taken unlink
 returns-2 c =
@@ -40,4 +28,4 @@ returns-2 c =
 pub take-entry-spec : {M : Type 1} → statement M
 take-entry-spec =
     tie.close
-    (tie.spec unlink-at-requires write-entry-requires same-length returns same-length-2 returns-2)
+    (tie.spec (λ c κs. search needs) (λ c κs. search needs) (λ c. search needs) returns (λ c. search needs) returns-2)

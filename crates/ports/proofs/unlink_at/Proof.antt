@@ -4,21 +4,6 @@ use Rattle.ports.specs.Slots.{unlink}
 use Rattle.ports.proofs.unlink_at.Statement.{statement}
 use Rattle.ports.proofs.unlink_at.Tie as tie
 
-get-requires : tie.Need-get-requires
-get-requires c κs = search needs
-
-link-at-requires : tie.Need-link-at-requires
-link-at-requires c κs = search needs
-
-get-requires-2 : tie.Need-get-requires-2
-get-requires-2 c κs = search needs
-
-put-requires : tie.Need-put-requires
-put-requires c κs = search needs
-
-same-length : tie.Need-same-length
-same-length c = search needs
-
 returns : tie.Need-returns
 unfolding unlink
 returns c =
@@ -36,9 +21,6 @@ returns c =
       ),
     )
 
-same-length-2 : tie.Need-same-length-2
-same-length-2 c = search needs
-
 returns-2 : tie.Need-returns-2
 unfolding unlink
 returns-2 c = (c .before .get .ensures, rw (← c .before .get .ensures, le-ltb _ _ (c .if1 .left)))
@@ -47,11 +29,11 @@ pub unlink-at-spec : {M : Type 1} → statement M
 unlink-at-spec =
     tie.close
     (tie.spec
-    get-requires
-    link-at-requires
-    get-requires-2
-    put-requires
-    same-length
+    (λ c κs. search needs)
+    (λ c κs. search needs)
+    (λ c κs. search needs)
+    (λ c κs. search needs)
+    (λ c. search needs)
     returns
-    same-length-2
+    (λ c. search needs)
     returns-2)

@@ -6,9 +6,6 @@ use borrow.Author.Needs.{needs}
 use Rattle.reader.proofs.good_numbers.Statement.{statement}
 use Rattle.reader.proofs.good_numbers.Tie as tie
 
-in-range-requires : tie.Need-in-range-requires
-in-range-requires c κs = search needs
-
 returns : tie.Need-returns
 returns c = sym (numbers-range _ _ _ _ (sym (c .before .in-range .ensures) ∙ not-true _ (c .if1 .taken)))
 
@@ -18,9 +15,6 @@ fits-share-requires c κs =
 
 returns-2 : tie.Need-returns-2
 returns-2 c = sym (numbers-share _ _ _ _ (sym (c .before .fits-share .ensures) ∙ not-true _ (c .if2 .taken)))
-
-capacity-requires : tie.Need-capacity-requires
-capacity-requires c κs = search needs
 
 returns-3 : tie.Need-returns-3
 returns-3 c =
@@ -42,10 +36,10 @@ pub good-numbers-spec : {M : Type 1} → statement M
 good-numbers-spec =
     tie.close
     (tie.spec
-    in-range-requires
+    (λ c κs. search needs)
     returns
     fits-share-requires
     returns-2
-    capacity-requires
+    (λ c κs. search needs)
     returns-3
     returns-4)

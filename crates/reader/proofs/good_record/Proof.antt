@@ -7,20 +7,11 @@ use Rattle.reader.proofs.good_record.Tie as tie
 returns : tie.Need-returns
 returns c = sym (rec-short _ _ (c .if1 .taken))
 
-get-requires : tie.Need-get-requires
-get-requires c κs = search needs
-
 returns-2 : tie.Need-returns-2
 returns-2 c = sym (rec-type _ _ (rw (c .before .get .ensures) at (c .if2 .taken)))
 
-get-requires-2 : tie.Need-get-requires-2
-get-requires-2 c κs = search needs
-
 returns-3 : tie.Need-returns-3
 returns-3 c = sym (rec-id _ _ (rw (c .before .get2 .ensures) at (c .if3 .taken)))
-
-most-size-requires : tie.Need-most-size-requires
-most-size-requires c κs = search needs
 
 returns-4 : tie.Need-returns-4
 returns-4 c =
@@ -34,4 +25,4 @@ returns-4 c =
 pub good-record-spec : {M : Type 1} → statement M
 good-record-spec =
     tie.close
-    (tie.spec returns get-requires returns-2 get-requires-2 returns-3 most-size-requires returns-4)
+    (tie.spec returns (λ c κs. search needs) returns-2 (λ c κs. search needs) returns-3 (λ c κs. search needs) returns-4)

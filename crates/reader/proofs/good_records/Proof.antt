@@ -22,24 +22,6 @@ abbrev μ-loop : tie.MeasureT-loop
 loop-holds : tie.Need-loop-holds Inv-loop μ-loop
 loop-holds c = (c .before .before .pre .0, refl, refl)
 
-next-frame-requires : tie.Need-next-frame-requires Inv-loop μ-loop
-next-frame-requires c κs = search needs
-
-sub-good-record : tie.Need-sub-good-record Inv-loop μ-loop
-sub-good-record c = search needs
-
-part-good-record-start : tie.Need-part-good-record-start Inv-loop μ-loop
-part-good-record-start c = search needs
-
-part-good-record-end : tie.Need-part-good-record-end Inv-loop μ-loop
-part-good-record-end c = search needs
-
-good-record-requires : tie.Need-good-record-requires Inv-loop μ-loop
-good-record-requires c κs = search needs
-
-same-length : tie.Need-same-length Inv-loop μ-loop
-same-length c = search needs
-
 returns : tie.Need-returns Inv-loop μ-loop
 returns c =
     let here : tie.After-next-frame Inv-loop μ-loop = search in let n = here .next-frame in
@@ -49,12 +31,6 @@ returns c =
     (l .inv .2
     ∙ round-bad _ _ _ _ _ _ _ (loop-test .taken) (n .ensures .0) (n .ensures .1 .0) (omega arith)
     (c .before .good-record .ensures) (not-true _ (c .if1 .taken)))
-
-sub-left : tie.Need-sub-left Inv-loop μ-loop
-sub-left c = search needs
-
-loop-less : tie.Need-loop-less Inv-loop μ-loop
-loop-less c = search needs
 
 loop-again : tie.Need-loop-again Inv-loop μ-loop
 loop-again c =
@@ -68,9 +44,6 @@ loop-again c =
           (c .before .good-record .ensures) (not-false _ (c .if1 .left)),
     )
 
-same-length-2 : tie.Need-same-length-2 Inv-loop μ-loop
-same-length-2 c = search needs
-
 returns-2 : tie.Need-returns-2 Inv-loop μ-loop
 returns-2 c = sym (c .before .loop .inv .2 ∙ from-end _ _ _ _ (c .loop-test .left))
 
@@ -81,15 +54,15 @@ good-records-spec =
     Inv-loop
     μ-loop
     loop-holds
-    next-frame-requires
-    sub-good-record
-    part-good-record-start
-    part-good-record-end
-    good-record-requires
-    same-length
+    (λ c κs. search needs)
+    (λ c. search needs)
+    (λ c. search needs)
+    (λ c. search needs)
+    (λ c κs. search needs)
+    (λ c. search needs)
     returns
-    sub-left
-    loop-less
+    (λ c. search needs)
+    (λ c. search needs)
     loop-again
-    same-length-2
+    (λ c. search needs)
     returns-2)

@@ -4,17 +4,8 @@ use borrow.Author.Needs.{needs}
 use Rattle.reader.proofs.is_sheet.Statement.{statement}
 use Rattle.reader.proofs.is_sheet.Tie as tie
 
-read-head-requires : tie.Need-read-head-requires
-read-head-requires c κs = search needs
-
 returns : tie.Need-returns
 returns c = sym (sheet-none _ (rw (c .before .before .read-head .ensures .0) at (c .if1 .taken)))
-
-slice-aggregate-good-records : tie.Need-slice-aggregate-good-records
-slice-aggregate-good-records c = search needs
-
-good-records-requires : tie.Need-good-records-requires
-good-records-requires c κs = search needs
 
 returns-2 : tie.Need-returns-2
 returns-2 c =
@@ -26,8 +17,8 @@ pub is-sheet-spec : {M : Type 1} → statement M
 is-sheet-spec =
     tie.close
     (tie.spec
-    read-head-requires
+    (λ c κs. search needs)
     returns
-    slice-aggregate-good-records
-    good-records-requires
+    (λ c. search needs)
+    (λ c κs. search needs)
     returns-2)

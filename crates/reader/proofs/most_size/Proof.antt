@@ -4,12 +4,6 @@ use borrow.Author.Needs.{needs}
 use Rattle.reader.proofs.most_size.Statement.{statement}
 use Rattle.reader.proofs.most_size.Tie as tie
 
-mul-result : tie.Need-mul-result
-mul-result c = search needs
-
-add-result : tie.Need-add-result
-add-result c = search needs
-
 returns : tie.Need-returns
 unfolding mostSize
 returns c = rw (eq-eqb _ 0 (c .if1 .taken))
@@ -19,4 +13,4 @@ unfolding mostSize
 returns-2 c = rw (ne-eqb _ 0 (c .if1 .left))
 
 pub most-size-spec : {M : Type 1} → statement M
-most-size-spec = tie.close (tie.spec mul-result add-result returns returns-2)
+most-size-spec = tie.close (tie.spec (λ c. search needs) (λ c. search needs) returns returns-2)

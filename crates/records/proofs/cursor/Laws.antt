@@ -92,14 +92,14 @@ module _ (w : ℕ) (r : Ring) (xs : List ℕ) (h : Held w r xs) where
       own w r xs h (λ (t : Ring) (ys : List ℕ). Readable ys (placeIn g ys (t .block) (t .spent)) × (recAt ys (placeIn g ys (t .block) (t .spent)) ≡ q))
       (readable-head g s (h .fitted .sized) (h .holds) q rest e, headAt-read g s q rest (h .fitted .sized) (h .holds) e)
 
-  -- it stands whole in its block
+  -- the oldest record lies whole in its block
   head-inside : (q : Rec) (rest : List Rec) → s .recs ≡ q ∷ rest → headPlace w r xs + 6 ≤ r .block * blockBytes g + blockBytes g
   unfolding headAt Whole
   head-inside q rest e =
       own w r xs h (λ (t : Ring) (ys : List ℕ). placeIn g ys (t .block) (t .spent) + 6 ≤ t .block * blockBytes g + blockBytes g)
       (omega (arith, headAt-stands g s q rest (h .fitted .sized) (h .holds) e .1, recordWords-least q))
 
-  -- those of its block that are spent are passed one by one
+  -- the spent records of the oldest block are passed one by one
   pub head-behind : (b : Span) → b ≡ spanOf g (r .block) → Behind xs (b .at + b .size) (b .at + 4) (r .spent)
   unfolding placeIn
   head-behind b e o = rw e (held-on-spent (s .recs) refl)
@@ -137,7 +137,7 @@ module _ (w : ℕ) (r : Ring) (xs : List ℕ) (h : Held w r xs) where
     pub held-on : Held w (advanced r) xs
     held-on = held-advanced w r xs h (first .0) (first .1) (first .2)
 
-    -- the record behind it in its block
+    -- the record after the oldest one in its block
     head-next : (advanced r .spent ≡ 0 → ⊥) → next xs (headPlace w r xs) ≡ headPlace w (advanced r) xs
     unfolding placeIn skip
     head-next n =
@@ -166,7 +166,7 @@ module _ (w : ℕ) (xs : List ℕ) (c : Cursor) (S : Stands w xs c) where
     pub stands-held : (z : Ring) → z ≡ advanced (c .ring) → Held w z xs
     stands-held z e = rw e (held-on w (c .ring) xs (S .held) l)
 
-    -- one on, at the start of the next block or right behind
+    -- the cursor one record further is at the start of the next block, or right after the record
     pub stands-start : (z : Ring) → z ≡ advanced (c .ring) → (b : Span) → b ≡ spanOf (geo w z) (z .block) → z .spent ≡ 0 → Stands w xs (record { ring = z; at = b .at + 4 })
     unfolding placeIn skip
     stands-start z e b f n = record {

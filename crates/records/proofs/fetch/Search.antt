@@ -121,7 +121,7 @@ pub shown-none : (c : Cursor) → c .ring .held ≤ 0 → shown c ≡ Nothing
 unfolding shown
 shown-none c l = pick-false (ltb 0 (c .ring .held)) _ _ (le-ltb 0 (c .ring .held) l)
 
--- what the search has come to
+-- what the search has found
 abbrev Ends : ℕ → Ring → List ℕ → Cursor → Type 0
 Ends w q xs c = ((s : Store) → Stores w q xs s → c .ring ≡ ringOf (geo w q) (ahead (geo w q) false s)) × (Stands w xs c × (searchOf w q xs ≡ shown c))
 
@@ -145,7 +145,7 @@ module _ (w : ℕ) (q : Ring) (xs : List ℕ) (h : Held w q xs) (c : Cursor) (k 
       (k .stands, k .same ∙ (search-here w (c .ring) xs ranged l (at-head ∙ z) ∙ (ap At (sym (k .stands .at)) ∙ sym (shown-at c l)))),
     )
 
-    -- one on, past an open or close record
+    -- the search goes past an open or close record
     pub search-next : (wordAt xs (c .at + 2) ≡ 0 → ⊥) → (d : Cursor) → d .ring ≡ advanced (c .ring) → Stands w xs d → Search w q xs d
     search-next z d e S =
         let y : wordAt xs (headPlace w (c .ring) xs + 2) ≡ 0 → ⊥ = λ x. z (sym at-head ∙ x) in

@@ -1,4 +1,4 @@
--- The place behind a record, and what its head says.
+-- The place after a record, and what its head says.
 use Prim.Native.Nat.{ℕ, _+_, _-_, _*_, _/_}
 use mathlib.Core.Path.{_≡_}
 use mathlib.Core.List.{List}

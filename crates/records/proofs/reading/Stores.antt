@@ -29,7 +29,7 @@ unfolding Whole recordWords
 readable xs p e r h l = let f = fields xs p r (h .0) in record { low = omega (arith, f .size); inside = omega (arith, f .size, h .1) }
 
 module _ (g : Geo) (s : Store) (o : Sized g) (h : Holds g s) where
-  -- so is each record held
+  -- each record held can be read
   pub legible : (i : ℕ) → i < length (s .recs) → Readable (s .share) (placeOf g (s .share) (s .block) (s .spent + i))
   unfolding used
   legible i l =
@@ -41,7 +41,7 @@ module _ (g : Geo) (s : Store) (o : Sized g) (h : Holds g s) where
   pub readable-head : (r : Rec) (rest : List Rec) → s .recs ≡ r ∷ rest → Readable (s .share) (headAt g s)
   readable-head r rest e = readable (s .share) (headAt g s) (s .block * blockBytes g + blockBytes g) r (headAt-stands g s r rest o h e) (omega (arith, h .long, block-inside g o (s .block) (h .block)))
 
-  -- the records from the i-th held on
+  -- the records starting at the i-th held
   oldest-from : (l : List Rec) (i : ℕ) → drop i (s .recs) ≡ l → found (s .share) (oldestOf g (s .share) (s .block) (s .spent + i) (length l)) ≡ rules.oldest l
   unfolding oldestOf found rules.oldest recAt
   oldest-from [] i e = refl

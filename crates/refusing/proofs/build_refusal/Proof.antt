@@ -6,9 +6,6 @@ use borrow.Author.Needs.{needs}
 use Rattle.refusing.proofs.build_refusal.Statement.{statement}
 use Rattle.refusing.proofs.build_refusal.Tie as tie
 
-in-range-requires : tie.Need-in-range-requires
-in-range-requires c κs = search needs
-
 returns : tie.Need-returns
 unfolding buildRefusal
 returns c = rw (failed (c .before .in-range .ensures) (c .if1 .taken))
@@ -44,7 +41,7 @@ pub build-refusal-spec : {M : Type 1} → statement M
 build-refusal-spec =
     tie.close
     (tie.spec
-    in-range-requires
+    (λ c κs. search needs)
     returns
     data-blocks-requires
     fits-share-requires

@@ -4,12 +4,9 @@ use borrow.Author.Needs.{needs}
 use Rattle.refusing.proofs.code_refusal.Statement.{statement}
 use Rattle.refusing.proofs.code_refusal.Tie as tie
 
-while-free-requires : tie.Need-while-free-requires
-while-free-requires c κs = search needs
-
 returns : tie.Need-returns
 unfolding codeRefusal
 returns c = c .while-free .ensures
 
 pub code-refusal-spec : {M : Type 1} → statement M
-code-refusal-spec = tie.close (tie.spec while-free-requires returns)
+code-refusal-spec = tie.close (tie.spec (λ c κs. search needs) returns)

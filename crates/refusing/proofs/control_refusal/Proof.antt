@@ -5,51 +5,6 @@ use borrow.Author.Needs.{needs}
 use Rattle.refusing.proofs.control_refusal.Statement.{statement}
 use Rattle.refusing.proofs.control_refusal.Tie as tie
 
-enum-told : tie.Need-enum-told
-enum-told c = search needs
-
-while-free-requires : tie.Need-while-free-requires
-while-free-requires c κs = search needs
-
-enum-told-2 : tie.Need-enum-told-2
-enum-told-2 c = search needs
-
-while-free-requires-2 : tie.Need-while-free-requires-2
-while-free-requires-2 c κs = search needs
-
-enum-told-3 : tie.Need-enum-told-3
-enum-told-3 c = search needs
-
-nothing-refusal-requires : tie.Need-nothing-refusal-requires
-nothing-refusal-requires c κs = search needs
-
-enum-known-control : tie.Need-enum-known-control
-enum-known-control c = search needs
-
-switch-refusal-requires : tie.Need-switch-refusal-requires
-switch-refusal-requires c κs = search needs
-
-while-free-requires-3 : tie.Need-while-free-requires-3
-while-free-requires-3 c κs = search needs
-
-enum-known-control-2 : tie.Need-enum-known-control-2
-enum-known-control-2 c = search needs
-
-reader-refusal-requires : tie.Need-reader-refusal-requires
-reader-refusal-requires c κs = search needs
-
-while-free-requires-4 : tie.Need-while-free-requires-4
-while-free-requires-4 c κs = search needs
-
-enum-known-control-3 : tie.Need-enum-known-control-3
-enum-known-control-3 c = search needs
-
-reader-refusal-requires-2 : tie.Need-reader-refusal-requires-2
-reader-refusal-requires-2 c κs = search needs
-
-while-free-requires-5 : tie.Need-while-free-requires-5
-while-free-requires-5 c κs = search needs
-
 returns : tie.Need-returns
 unfolding controlRefusal
 returns c = rw (c .before .enum-told .given .1) (c .while-free .ensures)
@@ -84,21 +39,21 @@ pub control-refusal-spec : {M : Type 1} → statement M
 control-refusal-spec =
     tie.close
     (tie.spec
-    enum-told
-    while-free-requires
-    enum-told-2
-    while-free-requires-2
-    enum-told-3
-    nothing-refusal-requires
-    enum-known-control
-    switch-refusal-requires
-    while-free-requires-3
-    enum-known-control-2
-    reader-refusal-requires
-    while-free-requires-4
-    enum-known-control-3
-    reader-refusal-requires-2
-    while-free-requires-5
+    (λ c. search needs)
+    (λ c κs. search needs)
+    (λ c. search needs)
+    (λ c κs. search needs)
+    (λ c. search needs)
+    (λ c κs. search needs)
+    (λ c. search needs)
+    (λ c κs. search needs)
+    (λ c κs. search needs)
+    (λ c. search needs)
+    (λ c κs. search needs)
+    (λ c κs. search needs)
+    (λ c. search needs)
+    (λ c κs. search needs)
+    (λ c κs. search needs)
     returns
     returns-2
     returns-3

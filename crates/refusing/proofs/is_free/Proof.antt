@@ -4,15 +4,6 @@ use borrow.Author.Needs.{needs}
 use Rattle.refusing.proofs.is_free.Statement.{statement}
 use Rattle.refusing.proofs.is_free.Tie as tie
 
-enum-told : tie.Need-enum-told
-enum-told c = search needs
-
-enum-told-2 : tie.Need-enum-told-2
-enum-told-2 c = search needs
-
-enum-told-3 : tie.Need-enum-told-3
-enum-told-3 c = search needs
-
 returns : tie.Need-returns
 unfolding free
 returns c = rw (c .enum-told .given .1)
@@ -26,4 +17,4 @@ unfolding free
 returns-3 c = rw (c .enum-told3 .given .1)
 
 pub is-free-spec : {M : Type 1} → statement M
-is-free-spec = tie.close (tie.spec enum-told enum-told-2 enum-told-3 returns returns-2 returns-3)
+is-free-spec = tie.close (tie.spec (λ c. search needs) (λ c. search needs) (λ c. search needs) returns returns-2 returns-3)

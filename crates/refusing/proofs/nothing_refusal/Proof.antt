@@ -4,9 +4,6 @@ use borrow.Author.Needs.{needs}
 use Rattle.refusing.proofs.nothing_refusal.Statement.{statement}
 use Rattle.refusing.proofs.nothing_refusal.Tie as tie
 
-is-free-requires : tie.Need-is-free-requires
-is-free-requires c κs = search needs
-
 returns : tie.Need-returns
 unfolding nothingRefusal
 returns c = rw (← c .before .is-free .ensures, c .if1 .taken)
@@ -16,4 +13,4 @@ unfolding nothingRefusal
 returns-2 c = rw (← c .before .is-free .ensures, c .if1 .left)
 
 pub nothing-refusal-spec : {M : Type 1} → statement M
-nothing-refusal-spec = tie.close (tie.spec is-free-requires returns returns-2)
+nothing-refusal-spec = tie.close (tie.spec (λ c κs. search needs) returns returns-2)

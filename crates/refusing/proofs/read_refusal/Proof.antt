@@ -6,9 +6,6 @@ use borrow.Author.Needs.{needs}
 use Rattle.refusing.proofs.read_refusal.Statement.{statement}
 use Rattle.refusing.proofs.read_refusal.Tie as tie
 
-is-free-requires : tie.Need-is-free-requires
-is-free-requires c κs = search needs
-
 returns : tie.Need-returns
 unfolding readRefusal whileFree
 returns c = rw (failed (c .before .is-free .ensures) (c .if1 .taken))
@@ -16,9 +13,6 @@ returns c = rw (failed (c .before .is-free .ensures) (c .if1 .taken))
 returns-2 : tie.Need-returns-2
 unfolding readRefusal whileFree
 returns-2 c = rw (held (c .before .before .is-free .ensures) (c .before .if1 .left), eq-eqb _ _ (c .if2 .taken))
-
-readable-requires : tie.Need-readable-requires
-readable-requires c κs = search needs
 
 returns-3 : tie.Need-returns-3
 unfolding readRefusal whileFree
@@ -42,4 +36,4 @@ returns-4 c =
 
 pub read-refusal-spec : {M : Type 1} → statement M
 read-refusal-spec =
-    tie.close (tie.spec is-free-requires returns returns-2 readable-requires returns-3 returns-4)
+    tie.close (tie.spec (λ c κs. search needs) returns returns-2 (λ c κs. search needs) returns-3 returns-4)

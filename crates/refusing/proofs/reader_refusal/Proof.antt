@@ -9,12 +9,9 @@ returns : tie.Need-returns
 unfolding readerRefusal
 returns c = rw (eq-eqb _ _ (c .if1 .taken))
 
-switch-refusal-requires : tie.Need-switch-refusal-requires
-switch-refusal-requires c κs = search needs
-
 returns-2 : tie.Need-returns-2
 unfolding readerRefusal
 returns-2 c = rw (ne-eqb _ _ (c .before .if1 .left)) (c .switch-refusal .ensures)
 
 pub reader-refusal-spec : {M : Type 1} → statement M
-reader-refusal-spec = tie.close (tie.spec returns switch-refusal-requires returns-2)
+reader-refusal-spec = tie.close (tie.spec returns (λ c κs. search needs) returns-2)

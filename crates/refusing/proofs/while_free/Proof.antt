@@ -4,9 +4,6 @@ use borrow.Author.Needs.{needs}
 use Rattle.refusing.proofs.while_free.Statement.{statement}
 use Rattle.refusing.proofs.while_free.Tie as tie
 
-is-free-requires : tie.Need-is-free-requires
-is-free-requires c κs = search needs
-
 returns : tie.Need-returns
 unfolding whileFree
 returns c = rw (← c .before .is-free .ensures, c .if1 .taken)
@@ -16,4 +13,4 @@ unfolding whileFree
 returns-2 c = rw (← c .before .is-free .ensures, c .if1 .left)
 
 pub while-free-spec : {M : Type 1} → statement M
-while-free-spec = tie.close (tie.spec is-free-requires returns returns-2)
+while-free-spec = tie.close (tie.spec (λ c κs. search needs) returns returns-2)

@@ -6,9 +6,6 @@ use borrow.Author.Needs.{needs}
 use Rattle.refusing.proofs.write_refusal.Statement.{statement}
 use Rattle.refusing.proofs.write_refusal.Tie as tie
 
-is-free-requires : tie.Need-is-free-requires
-is-free-requires c κs = search needs
-
 returns : tie.Need-returns
 unfolding writeRefusal whileFree
 returns c = rw (failed (c .before .is-free .ensures) (c .if1 .taken))
@@ -16,12 +13,6 @@ returns c = rw (failed (c .before .is-free .ensures) (c .if1 .taken))
 returns-2 : tie.Need-returns-2
 unfolding writeRefusal whileFree
 returns-2 c = rw (held (c .before .before .is-free .ensures) (c .before .if1 .left), ne-eqb _ _ (c .if2 .taken))
-
-mul-if3 : tie.Need-mul-if3
-mul-if3 c = search needs
-
-count-bytes-requires : tie.Need-count-bytes-requires
-count-bytes-requires c κs = search needs
 
 returns-3 : tie.Need-returns-3
 unfolding writeRefusal whileFree
@@ -48,4 +39,4 @@ returns-4 c =
 pub write-refusal-spec : {M : Type 1} → statement M
 write-refusal-spec =
     tie.close
-    (tie.spec is-free-requires returns returns-2 mul-if3 count-bytes-requires returns-3 returns-4)
+    (tie.spec (λ c κs. search needs) returns returns-2 (λ c. search needs) (λ c κs. search needs) returns-3 returns-4)

@@ -4,18 +4,6 @@ use borrow.Author.Needs.{needs}
 use Rattle.requests.proofs.cancel.Statement.{statement}
 use Rattle.requests.proofs.cancel.Tie as tie
 
-unlink-at-requires : tie.Need-unlink-at-requires
-unlink-at-requires c κs = search needs
-
-disarm-requires : tie.Need-disarm-requires
-disarm-requires c κs = search needs
-
-release-entry-requires : tie.Need-release-entry-requires
-release-entry-requires c κs = search needs
-
-same-length : tie.Need-same-length
-same-length c = search needs
-
 returns : tie.Need-returns
 unfolding cancelled
 returns c =
@@ -26,4 +14,4 @@ returns c =
 pub cancel-spec : {M : Type 1} → statement M
 cancel-spec =
     tie.close
-    (tie.spec unlink-at-requires disarm-requires release-entry-requires same-length returns)
+    (tie.spec (λ c κs. search needs) (λ c κs. search needs) (λ c κs. search needs) (λ c. search needs) returns)

@@ -4,18 +4,6 @@ use borrow.Author.Needs.{needs}
 use Rattle.requests.proofs.collect.Statement.{statement}
 use Rattle.requests.proofs.collect.Tie as tie
 
-add-unlink-at : tie.Need-add-unlink-at
-add-unlink-at c = search needs
-
-unlink-at-requires : tie.Need-unlink-at-requires
-unlink-at-requires c κs = search needs
-
-release-entry-requires : tie.Need-release-entry-requires
-release-entry-requires c κs = search needs
-
-same-length : tie.Need-same-length
-same-length c = search needs
-
 returns : tie.Need-returns
 unfolding collected
 returns c =
@@ -25,4 +13,4 @@ returns c =
 pub collect-spec : {M : Type 1} → statement M
 collect-spec =
     tie.close
-    (tie.spec add-unlink-at unlink-at-requires release-entry-requires same-length returns)
+    (tie.spec (λ c. search needs) (λ c κs. search needs) (λ c κs. search needs) (λ c. search needs) returns)

@@ -4,27 +4,6 @@ use borrow.Author.Needs.{needs}
 use Rattle.requests.proofs.complete.Statement.{statement}
 use Rattle.requests.proofs.complete.Tie as tie
 
-unlink-at-requires : tie.Need-unlink-at-requires
-unlink-at-requires c κs = search needs
-
-disarm-requires : tie.Need-disarm-requires
-disarm-requires c κs = search needs
-
-write-entry-requires : tie.Need-write-entry-requires
-write-entry-requires c κs = search needs
-
-cast-insert-at : tie.Need-cast-insert-at
-cast-insert-at c = search needs
-
-add-insert-at : tie.Need-add-insert-at
-add-insert-at c = search needs
-
-insert-at-requires : tie.Need-insert-at-requires
-insert-at-requires c κs = search needs
-
-same-length : tie.Need-same-length
-same-length c = search needs
-
 returns : tie.Need-returns
 unfolding completed
 returns c =
@@ -43,11 +22,11 @@ pub complete-spec : {M : Type 1} → statement M
 complete-spec =
     tie.close
     (tie.spec
-    unlink-at-requires
-    disarm-requires
-    write-entry-requires
-    cast-insert-at
-    add-insert-at
-    insert-at-requires
-    same-length
+    (λ c κs. search needs)
+    (λ c κs. search needs)
+    (λ c κs. search needs)
+    (λ c. search needs)
+    (λ c. search needs)
+    (λ c κs. search needs)
+    (λ c. search needs)
     returns)

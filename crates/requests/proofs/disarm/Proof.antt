@@ -5,15 +5,6 @@ use borrow.Author.Needs.{needs}
 use Rattle.requests.proofs.disarm.Statement.{statement}
 use Rattle.requests.proofs.disarm.Tie as tie
 
-take-out-requires : tie.Need-take-out-requires
-take-out-requires c κs = search needs
-
-release-entry-requires : tie.Need-release-entry-requires
-release-entry-requires c κs = search needs
-
-same-length : tie.Need-same-length
-same-length c = search needs
-
 returns : tie.Need-returns
 unfolding disarmed
 returns c =
@@ -25,9 +16,6 @@ returns c =
       ← take-out .ensures .0,
       lt-ltb _ _ (if1 .taken),
     )
-
-same-length-2 : tie.Need-same-length-2
-same-length-2 c = search needs
 
 returns-2 : tie.Need-returns-2
 unfolding disarmed
@@ -41,4 +29,4 @@ returns-2 c =
 pub disarm-spec : {M : Type 1} → statement M
 disarm-spec =
     tie.close
-    (tie.spec take-out-requires release-entry-requires same-length returns same-length-2 returns-2)
+    (tie.spec (λ c κs. search needs) (λ c κs. search needs) (λ c. search needs) returns (λ c. search needs) returns-2)

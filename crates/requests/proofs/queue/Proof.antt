@@ -4,15 +4,6 @@ use borrow.Author.Needs.{needs}
 use Rattle.requests.proofs.queue.Statement.{statement}
 use Rattle.requests.proofs.queue.Tie as tie
 
-take-entry-requires : tie.Need-take-entry-requires
-take-entry-requires c κs = search needs
-
-append-to-requires : tie.Need-append-to-requires
-append-to-requires c κs = search needs
-
-same-length : tie.Need-same-length
-same-length c = search needs
-
 returns : tie.Need-returns
 unfolding queued
 returns c =
@@ -20,4 +11,4 @@ returns c =
     rw (c .before .before .append-to .ensures, take-entry .ensures .1, take-entry .ensures .0)
 
 pub queue-spec : {M : Type 1} → statement M
-queue-spec = tie.close (tie.spec take-entry-requires append-to-requires same-length returns)
+queue-spec = tie.close (tie.spec (λ c κs. search needs) (λ c κs. search needs) (λ c. search needs) returns)

@@ -5,15 +5,6 @@ use borrow.Author.Needs.{needs}
 use Rattle.requests.proofs.take_out.Statement.{statement}
 use Rattle.requests.proofs.take_out.Tie as tie
 
-seek-place-requires : tie.Need-seek-place-requires
-seek-place-requires c κs = search needs
-
-unlink-at-requires : tie.Need-unlink-at-requires
-unlink-at-requires c κs = search needs
-
-same-length : tie.Need-same-length
-same-length c = search needs
-
 returns : tie.Need-returns
 unfolding slotOf entryOf out
 returns c =
@@ -25,4 +16,4 @@ returns c =
     ) (refl, refl)
 
 pub take-out-spec : {M : Type 1} → statement M
-take-out-spec = tie.close (tie.spec seek-place-requires unlink-at-requires same-length returns)
+take-out-spec = tie.close (tie.spec (λ c κs. search needs) (λ c κs. search needs) (λ c. search needs) returns)

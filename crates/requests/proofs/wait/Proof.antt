@@ -5,17 +5,11 @@ use borrow.Author.Needs.{needs}
 use Rattle.requests.proofs.wait.Statement.{statement}
 use Rattle.requests.proofs.wait.Tie as tie
 
-queue-requires : tie.Need-queue-requires
-queue-requires c κs = search needs
-
 arm-requires : tie.Need-arm-requires
 arm-requires c κs =
     let here : tie.After-queue = search in let queue = here .queue in
     let start : tie.Start = search in
     (search needs, rw (queue .ensures) (start .pre .1 .2))
-
-same-length : tie.Need-same-length
-same-length c = search needs
 
 returns : tie.Need-returns
 unfolding waiting
@@ -24,13 +18,10 @@ returns c =
     let here : tie.After-queue = search in let queue = here .queue in
     rw (c .before .before .arm .ensures, queue .ensures, ne-eqb _ _ (if1 .taken))
 
-same-length-2 : tie.Need-same-length-2
-same-length-2 c = search needs
-
 returns-2 : tie.Need-returns-2
 unfolding waiting
 returns-2 c = rw (c .before .before .before .queue .ensures, eq-eqb _ _ (c .if1 .left))
 
 pub wait-spec : {M : Type 1} → statement M
 wait-spec =
-    tie.close (tie.spec queue-requires arm-requires same-length returns same-length-2 returns-2)
+    tie.close (tie.spec (λ c κs. search needs) arm-requires (λ c. search needs) returns (λ c. search needs) returns-2)

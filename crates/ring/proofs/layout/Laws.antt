@@ -16,7 +16,7 @@ module _ (g : Geo) (o : Sized g) (n k : ℕ) (e : n ≡ blockSize (g .words) (g 
   unfolding blockBytes
   span-made = ap (λ (m : ℕ). record { at = k * (2 * m); size = 2 * m }) e
 
-  -- it has room for its two words, and lies in the share
+  -- a block has room for its two words, and lies in the share
   pub span-inside : (4 ≤ 2 * n) × (k * (2 * n) + 2 * n ≤ shareBytes)
   unfolding blockBytes blockSize
   span-inside = (omega arith, rw e (block-inside g o k h))

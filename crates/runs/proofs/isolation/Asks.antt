@@ -62,7 +62,7 @@ asks-none f s e =
     (λ r. let (n, p) = or-false (namesFile f s) (passes s) e in asks-right f s r ∙ mine-none f (asked (callIn s)) (names-is f s r ∙ n) (time-is s r ∙ p))
     (λ r. asks-wrong f s r)
 
--- of a run, what is asked of f is asked by our calls
+-- what a run asks of f is asked by our calls
 pub only-ours : (f : ℕ) (xs : List HostCall) → unmade xs ≡ true → only f (stretch xs) ≡ asksAll f (ours f xs)
 unfolding only stretch ours asksAll
 only-ours f [] u = refl

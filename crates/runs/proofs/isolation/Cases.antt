@@ -1,4 +1,4 @@
--- A call behind the first is asked of the rules, or has a wrong length of answer or record memory (29): what each does to a run.
+-- A call after the first is asked of the rules, or has a wrong length of answer or record memory (29): what each does to a run.
 use mathlib.Core.Path.{_≡_, refl, sym, ap, _∙_}
 use mathlib.Core.Bool.{Bool, true, false, false≢true}
 use mathlib.Core.List.{List, [], _∷_, _++_, append-assoc, append-nil}
@@ -15,7 +15,7 @@ use Rattle.runs.specs.Condition2.{stretch, heard, since}
 use Rattle.runs.specs.Condition3.{Sort, made, sortOf, unmade}
 use Rattle.runs.specs.Condition3 as sort
 
--- what a call comes to where no length is in the way
+-- the call of the rules that a call asks for if its lengths are right
 unfoldable pub callIn : Sort → Call
 callIn made = rules.event []
 callIn (sort.event n frame) = rules.event frame
@@ -36,7 +36,7 @@ pub data Case (x : HostCall) : Type 0 where
   fits : right (sortOf x) ≡ true → meant x ≡ asks (callIn (sortOf x)) → Case x
   misfits : right (sortOf x) ≡ false → meant x ≡ unfit → Case x
 
--- what is left of a run behind a call
+-- what is left of a run after a call
 abbrev Rest : Meant → List HostCall → Bool
 Rest w xs = elim w as (λ (v : Meant). Bool) [ anew ↦ false | unfit ↦ unmade xs | asks c ↦ unmade xs ]
 

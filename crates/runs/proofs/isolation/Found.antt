@@ -30,7 +30,7 @@ use Rattle.runs.specs.Condition3 as sort
 use Rattle.runs.proofs.isolation.Cases.{callIn, right, Case, fits, misfits, case-of, stretch-unfit, heard-unfit, stretch-asks, heard-asks}
 use Rattle.runs.proofs.isolation.Asks.{names-is}
 
--- of a reply
+-- what is found of a reply
 unfoldable pub foundBy : Sort → Reply → Found
 foundBy made r = record { status = replyStatus r; size = 0; bytes = [] }
 foundBy (sort.event n frame) r = record { status = getD (replyBytes r) 1 29; size = length (replyBytes r); bytes = replyBytes r }
@@ -77,7 +77,7 @@ found-unfit (look f p memory) e = refl
 found-unfit (save f output) e = refl
 found-unfit (load f text) e = refl
 
--- of the replies to calls naming f
+-- what is found of the replies to calls naming f
 unfoldable pub foundAll : ℕ → List Sort → List Reply → List Found
 foundAll f [] rs = []
 foundAll f (s ∷ ss) rs =
@@ -140,7 +140,7 @@ long-on d c n = eight-answered d (asked c) n
 abbrev Says : ℕ → List HostCall → Desk → Type 0
 Says f xs d = finds f xs (heard xs (replies d (stretch xs))) ≡ foundAll f (ours f xs) (theirs f (stretch xs) (replies d (stretch xs)))
 
--- the same behind a call x, where cs are the calls of the rules until the desk is made fresh again
+-- `Says` of a call x and those after it, where cs are the calls of the rules until the desk is made fresh again
 abbrev SaysNext : ℕ → HostCall → List HostCall → Desk → List Call → Type 0
 SaysNext f x xs d cs =
     finds f (x ∷ xs) (heard (x ∷ xs) (replies d cs))

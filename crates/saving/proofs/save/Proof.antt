@@ -8,12 +8,6 @@ use borrow.Author.Needs.{needs}
 use Rattle.saving.proofs.save.Statement.{statement}
 use Rattle.saving.proofs.save.Tie as tie
 
-sound-requires : tie.Need-sound-requires
-sound-requires c κs = search needs
-
-refused-requires : tie.Need-refused-requires
-refused-requires c κs = search needs
-
 returns : tie.Need-returns
 returns c = (
   saves _ _ _ _
@@ -32,9 +26,6 @@ words-of-requires c κs =
     (λ i. c .before .before .before .shared-slice-known3 .given i .fits)
     (sym (c .before .sound .ensures) ∙ not-false _ (c .if1 .left)) in
     S .stands .segment .size
-
-refused-requires-2 : tie.Need-refused-requires-2
-refused-requires-2 c κs = search needs
 
 returns-2 : tie.Need-returns-2
 returns-2 c =
@@ -58,9 +49,6 @@ save-file-requires c κs =
     (sym (sound .ensures) ∙ not-false _ (c .before .before .before .if1 .left)) in
     save-stands _ _ (c .before .before .words-of .ensures) (c .before .if2 .left) S
 
-same-length : tie.Need-same-length
-same-length c = search needs
-
 returns-3 : tie.Need-returns-3
 returns-3 c =
     let here : tie.Else2 = search in let if2 = here .if2 in
@@ -78,12 +66,12 @@ pub save-spec : {M : Type 1} → statement M
 save-spec =
     tie.close
     (tie.spec
-    sound-requires
-    refused-requires
+    (λ c κs. search needs)
+    (λ c κs. search needs)
     returns
     words-of-requires
-    refused-requires-2
+    (λ c κs. search needs)
     returns-2
     save-file-requires
-    same-length
+    (λ c. search needs)
     returns-3)

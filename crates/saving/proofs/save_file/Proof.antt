@@ -5,20 +5,11 @@ use borrow.Author.Needs.{needs}
 use Rattle.saving.proofs.save_file.Statement.{statement}
 use Rattle.saving.proofs.save_file.Tie as tie
 
-take-file-requires : tie.Need-take-file-requires
-take-file-requires c κs = search needs
-
-share-requires : tie.Need-share-requires
-share-requires c κs = search needs
-
 sheet-length-requires : tie.Need-sheet-length-requires
 sheet-length-requires c κs =
     let start : tie.Start = search in
     held-file (start .pre .stands) _ (start .pre .file) (start .pre .b) (start .pre .is) _ _
     (c .before .take-file .ensures) (c .share .ensures)
-
-refused-requires : tie.Need-refused-requires
-refused-requires c κs = search needs
 
 returns : tie.Need-returns
 returns c =
@@ -40,9 +31,6 @@ write-sheet-requires c κs =
       omega (arith, c .before .before .sheet-length .ensures, c .before .if1 .left),
     )
 
-same-length : tie.Need-same-length
-same-length c = search needs
-
 returns-2 : tie.Need-returns-2
 returns-2 c =
     let here : tie.Else1 = search in let if1 = here .if1 in
@@ -60,11 +48,11 @@ pub save-file-spec : {M : Type 1} → statement M
 save-file-spec =
     tie.close
     (tie.spec
-    take-file-requires
-    share-requires
+    (λ c κs. search needs)
+    (λ c κs. search needs)
     sheet-length-requires
-    refused-requires
+    (λ c κs. search needs)
     returns
     write-sheet-requires
-    same-length
+    (λ c. search needs)
     returns-2)

@@ -47,7 +47,7 @@ pub record Measured (w : ℕ) (xs : List ℕ) (r : Ring) (c : Cursor) (total : �
   pub low : total ≤ headLine + (2 * shareBytes + 1) * (r .held - c .ring .held)
   pub same : total + length (lines w xs (c .ring)) ≡ length (sheetOf w r xs)
 
--- and from `used` on the output, which was out₀, waits for the rest
+-- the midst of writing: the output, which was out₀, has the lines up to the cursor and takes the rest from `used` onward
 pub record Written (w : ℕ) (xs : List ℕ) (r : Ring) (from : ℕ) (out₀ : List ℕ) (c : Cursor) (used : ℕ) (out : List ℕ) : Type 0 where
   pub stands : Stands w xs c
   pub room : used + length (lines w xs (c .ring)) ≤ length out

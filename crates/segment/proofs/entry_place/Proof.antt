@@ -8,15 +8,6 @@ use Rattle.segment.proofs.Rows.{row-at}
 use Rattle.segment.proofs.entry_place.Statement.{statement}
 use Rattle.segment.proofs.entry_place.Tie as tie
 
-data-at-requires : tie.Need-data-at-requires
-data-at-requires c κs = search needs
-
-add-get : tie.Need-add-get
-add-get c = search needs
-
-get-requires : tie.Need-get-requires
-get-requires c κs = search needs
-
 returns : tie.Need-returns
 unfolding entryAt entryOf dataOf
 returns c =
@@ -25,4 +16,4 @@ returns c =
     (sym (row-at (c .before .before .before .args .s .now) _ dataWords 0 (omega arith)))
 
 pub entry-place-spec : {M : Type 1} → statement M
-entry-place-spec = tie.close (tie.spec data-at-requires add-get get-requires returns)
+entry-place-spec = tie.close (tie.spec (λ c κs. search needs) (λ c. search needs) (λ c κs. search needs) returns)

@@ -3,15 +3,9 @@ use Rattle.segment.specs.Table.{nth}
 use Rattle.segment.proofs.get.Statement.{statement}
 use Rattle.segment.proofs.get.Tie as tie
 
-mul-get : tie.Need-mul-get
-mul-get c = search needs
-
-get-requires : tie.Need-get-requires
-get-requires c κs = search needs
-
 returns : tie.Need-returns
 unfolding nth
 returns c = c .get .ensures
 
 pub get-spec : {M : Type 1} → statement M
-get-spec = tie.close (tie.spec mul-get get-requires returns)
+get-spec = tie.close (tie.spec (λ c. search needs) (λ c κs. search needs) returns)

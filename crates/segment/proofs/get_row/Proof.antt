@@ -20,29 +20,8 @@ loop-holds : tie.Need-loop-holds Inv-loop μ-loop
 unfolding row
 loop-holds c = (omega arith, refl, refl)
 
-add-get : tie.Need-add-get Inv-loop μ-loop
-add-get c = search needs
-
-get-requires : tie.Need-get-requires Inv-loop μ-loop
-get-requires c κs = search needs
-
-mul-vs : tie.Need-mul-vs Inv-loop μ-loop
-mul-vs c = search needs
-
-slice-write-vs : tie.Need-slice-write-vs Inv-loop μ-loop
-slice-write-vs c = search needs
-
-add-i : tie.Need-add-i Inv-loop μ-loop
-add-i c = search needs
-
-loop-less : tie.Need-loop-less Inv-loop μ-loop
-loop-less c = search needs
-
 loop-again : tie.Need-loop-again Inv-loop μ-loop
 loop-again c = (search needs, rw (c .before .before .loop .inv .1, c .get .ensures) (row-turn _ _ _ _), search needs)
-
-same-length : tie.Need-same-length Inv-loop μ-loop
-same-length c = search needs
 
 returns : tie.Need-returns Inv-loop μ-loop
 returns c =
@@ -57,12 +36,12 @@ get-row-spec =
     Inv-loop
     μ-loop
     loop-holds
-    add-get
-    get-requires
-    mul-vs
-    slice-write-vs
-    add-i
-    loop-less
+    (λ c. search needs)
+    (λ c κs. search needs)
+    (λ c. search needs)
+    (λ c. search needs)
+    (λ c. search needs)
+    (λ c. search needs)
     loop-again
-    same-length
+    (λ c. search needs)
     returns)

@@ -4,18 +4,6 @@ use Rattle.segment.specs.Fields.{entryWords}
 use Rattle.segment.proofs.write_entry.Statement.{statement}
 use Rattle.segment.proofs.write_entry.Tie as tie
 
-data-at-requires : tie.Need-data-at-requires
-data-at-requires c κs = search needs
-
-slice-aggregate-put-row : tie.Need-slice-aggregate-put-row
-slice-aggregate-put-row c = search needs
-
-put-row-requires : tie.Need-put-row-requires
-put-row-requires c κs = search needs
-
-same-length : tie.Need-same-length
-same-length c = search needs
-
 returns : tie.Need-returns
 unfolding putData entryWords
 returns c =
@@ -25,4 +13,4 @@ returns c =
 pub write-entry-spec : {M : Type 1} → statement M
 write-entry-spec =
     tie.close
-    (tie.spec data-at-requires slice-aggregate-put-row put-row-requires same-length returns)
+    (tie.spec (λ c κs. search needs) (λ c. search needs) (λ c κs. search needs) (λ c. search needs) returns)

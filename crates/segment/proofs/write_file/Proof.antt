@@ -3,18 +3,6 @@ use Rattle.segment.specs.Fields.{fileWords}
 use Rattle.segment.proofs.write_file.Statement.{statement}
 use Rattle.segment.proofs.write_file.Tie as tie
 
-file-at-requires : tie.Need-file-at-requires
-file-at-requires c κs = search needs
-
-slice-aggregate-put-row : tie.Need-slice-aggregate-put-row
-slice-aggregate-put-row c = search needs
-
-put-row-requires : tie.Need-put-row-requires
-put-row-requires c κs = search needs
-
-same-length : tie.Need-same-length
-same-length c = search needs
-
 returns : tie.Need-returns
 unfolding fileWords
 returns c =
@@ -24,4 +12,4 @@ returns c =
 pub write-file-spec : {M : Type 1} → statement M
 write-file-spec =
     tie.close
-    (tie.spec file-at-requires slice-aggregate-put-row put-row-requires same-length returns)
+    (tie.spec (λ c κs. search needs) (λ c. search needs) (λ c κs. search needs) (λ c. search needs) returns)

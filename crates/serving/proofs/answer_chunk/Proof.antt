@@ -35,48 +35,6 @@ loop-holds : tie.Need-loop-holds Inv-loop μ-loop
 unfolding goes
 loop-holds c = search needs
 
-sub-feed : tie.Need-sub-feed Inv-loop μ-loop
-sub-feed c = search needs
-
-part-feed-start : tie.Need-part-feed-start Inv-loop μ-loop
-part-feed-start c = search needs
-
-part-feed-end : tie.Need-part-feed-end Inv-loop μ-loop
-part-feed-end c = search needs
-
-feed-requires : tie.Need-feed-requires Inv-loop μ-loop
-feed-requires c κs = search needs
-
-sub-print : tie.Need-sub-print Inv-loop μ-loop
-sub-print c = search needs
-
-part-print-start : tie.Need-part-print-start Inv-loop μ-loop
-part-print-start c = search needs
-
-part-print-end : tie.Need-part-print-end Inv-loop μ-loop
-part-print-end c = search needs
-
-print-requires : tie.Need-print-requires Inv-loop μ-loop
-print-requires c κs = search needs
-
-last-requires : tie.Need-last-requires Inv-loop μ-loop
-last-requires c κs = search needs
-
-same-length : tie.Need-same-length Inv-loop μ-loop
-same-length c = search needs
-
-same-length-2 : tie.Need-same-length-2 Inv-loop μ-loop
-same-length-2 c = search needs
-
-same-length-3 : tie.Need-same-length-3 Inv-loop μ-loop
-same-length-3 c = search needs
-
-same-length-4 : tie.Need-same-length-4 Inv-loop μ-loop
-same-length-4 c = search needs
-
-same-length-5 : tie.Need-same-length-5 Inv-loop μ-loop
-same-length-5 c = search needs
-
 returns : tie.Need-returns Inv-loop μ-loop
 returns c =
     let here : tie.After-feed Inv-loop μ-loop = search in let feed = here .feed in
@@ -138,21 +96,6 @@ loop-again c =
       kept-on _ _ _ (loop .inv .8) (feed .ensures .1 .1 .1),
     )
 
-same-length-6 : tie.Need-same-length-6 Inv-loop μ-loop
-same-length-6 c = search needs
-
-same-length-7 : tie.Need-same-length-7 Inv-loop μ-loop
-same-length-7 c = search needs
-
-same-length-8 : tie.Need-same-length-8 Inv-loop μ-loop
-same-length-8 c = search needs
-
-same-length-9 : tie.Need-same-length-9 Inv-loop μ-loop
-same-length-9 c = search needs
-
-same-length-10 : tie.Need-same-length-10 Inv-loop μ-loop
-same-length-10 c = search needs
-
 returns-2 : tie.Need-returns-2 Inv-loop μ-loop
 returns-2 c = (
   c .before .loop .inv .6,
@@ -169,27 +112,27 @@ answer-chunk-spec =
     Inv-loop
     μ-loop
     loop-holds
-    sub-feed
-    part-feed-start
-    part-feed-end
-    feed-requires
-    sub-print
-    part-print-start
-    part-print-end
-    print-requires
-    last-requires
-    same-length
-    same-length-2
-    same-length-3
-    same-length-4
-    same-length-5
+    (λ c. search needs)
+    (λ c. search needs)
+    (λ c. search needs)
+    (λ c κs. search needs)
+    (λ c. search needs)
+    (λ c. search needs)
+    (λ c. search needs)
+    (λ c κs. search needs)
+    (λ c κs. search needs)
+    (λ c. search needs)
+    (λ c. search needs)
+    (λ c. search needs)
+    (λ c. search needs)
+    (λ c. search needs)
     returns
     add-at
     loop-less
     loop-again
-    same-length-6
-    same-length-7
-    same-length-8
-    same-length-9
-    same-length-10
+    (λ c. search needs)
+    (λ c. search needs)
+    (λ c. search needs)
+    (λ c. search needs)
+    (λ c. search needs)
     returns-2)

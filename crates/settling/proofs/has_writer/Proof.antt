@@ -5,22 +5,13 @@ use borrow.Author.Needs.{needs}
 use Rattle.settling.proofs.has_writer.Statement.{statement}
 use Rattle.settling.proofs.has_writer.Tie as tie
 
-add-get : tie.Need-add-get
-add-get c = search needs
-
-get-requires : tie.Need-get-requires
-get-requires c κs = search needs
-
 returns : tie.Need-returns
 returns c =
     let start : tie.Start = search in
     sym (lt-ltb 0 _ (start .pre .2 (rw (← c .before .get .ensures) (c .if1 .taken))))
 
-count-side-requires : tie.Need-count-side-requires
-count-side-requires c κs = search needs
-
 returns-2 : tie.Need-returns-2
 returns-2 c = ap (ltb 0) (c .count-side .ensures .0)
 
 pub has-writer-spec : {M : Type 1} → statement M
-has-writer-spec = tie.close (tie.spec add-get get-requires returns count-side-requires returns-2)
+has-writer-spec = tie.close (tie.spec (λ c. search needs) (λ c κs. search needs) returns (λ c κs. search needs) returns-2)

@@ -7,18 +7,6 @@ use Rattle.settling.proofs.settle_back.Tie as tie
 settle-requires : tie.Need-settle-requires
 settle-requires c κs = let start : tie.Start = search in start .pre
 
-put-file-requires : tie.Need-put-file-requires
-put-file-requires c κs = search needs
-
-same-length : tie.Need-same-length
-same-length c = search needs
-
-same-length-2 : tie.Need-same-length-2
-same-length-2 c = search needs
-
-same-length-3 : tie.Need-same-length-3
-same-length-3 c = search needs
-
 returns : tie.Need-returns
 returns c = λ o b M B r.
     let put = c .before .before in
@@ -30,4 +18,4 @@ returns c = λ o b M B r.
 pub settle-back-spec : {M : Type 1} → statement M
 settle-back-spec =
     tie.close
-    (tie.spec settle-requires put-file-requires same-length same-length-2 same-length-3 returns)
+    (tie.spec settle-requires (λ c κs. search needs) (λ c. search needs) (λ c. search needs) (λ c. search needs) returns)

@@ -6,14 +6,8 @@ use borrow.Author.Needs.{needs}
 use Rattle.sound.proofs.lists_ok.Statement.{statement}
 use Rattle.sound.proofs.lists_ok.Tie as tie
 
-all-walks-requires : tie.Need-all-walks-requires
-all-walks-requires c κs = search needs
-
 returns : tie.Need-returns
 returns c = sym (lists-off _ _ _ _ (ill _ _ _ (c .before .all-walks .ensures) (c .if1 .taken)))
-
-all-met-requires : tie.Need-all-met-requires
-all-met-requires c κs = search needs
 
 returns-2 : tie.Need-returns-2
 returns-2 c =
@@ -21,9 +15,6 @@ returns-2 c =
     sym
     (lists-unmet _ _ _ _ (well _ _ _ (all-walks .ensures) (c .before .before .before .if1 .left))
     (failed (c .before .all-met .ensures) (c .if2 .taken)))
-
-files-idle-requires : tie.Need-files-idle-requires
-files-idle-requires c κs = search needs
 
 returns-3 : tie.Need-returns-3
 returns-3 c =
@@ -37,4 +28,4 @@ returns-3 c =
 pub lists-ok-spec : {M : Type 1} → statement M
 lists-ok-spec =
     tie.close
-    (tie.spec all-walks-requires returns all-met-requires returns-2 files-idle-requires returns-3)
+    (tie.spec (λ c κs. search needs) returns (λ c κs. search needs) returns-2 (λ c κs. search needs) returns-3)

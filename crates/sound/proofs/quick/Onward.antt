@@ -129,7 +129,7 @@ onto s seen busy e at n m a q l x h o =
 apart : (xs : List ℕ) (i j : ℕ) → i < j → getD xs j 0 ≡ 0 → getD (set xs i 1) j 0 ≡ 0
 apart xs i j l h = getD-set-other xs i j 1 0 (λ q. absurd (omega arith)) ∙ h
 
--- and over four of them
+-- the walk goes over four entries
 pub onto-four : (s seen busy : List ℕ) (e at m : ℕ) → at ≡ 2 * linkAt e → Linked s at (e + 1) → Linked s (at + 20) (e + 2) → Linked s (at + 40) (e + 3) → Linked s (at + 60) (e + 4)
     → getD seen e 0 ≡ 0 → getD seen (e + 1) 0 ≡ 0 → getD seen (e + 2) 0 ≡ 0 → getD seen (e + 3) 0 ≡ 0 → e + 4 < entries → 4 ≤ m
     → freeFrom s e seen busy m ≡ freeFrom s (e + 4) (set (set (set (set seen e 1) (e + 1) 1) (e + 2) 1) (e + 3) 1) busy (m - 4)

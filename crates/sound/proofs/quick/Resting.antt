@@ -80,6 +80,6 @@ five-all s n p f =
     (both-quiet s n (2 * n) (3 * n) (p + 2 * n) (p + 3 * n) (omega arith) (omega arith) (f .2)
     (both-quiet s n n (2 * n) (p + 3 * n) (p + 4 * n) (omega arith) (omega arith) (f .3) (f .4))))
 
--- and what they leave of n buffers
+-- n buffers are zero if five stretches of k bytes and the r bytes left of them are
 pub fifths : (bufs : List ℕ) (p q n k r : ℕ) → bufferBytes * n ≡ 5 * k + r → q ≡ p + 5 * k → quiet bufs p (5 * k) ≡ true → quiet bufs q r ≡ true → quiet bufs p (bufferBytes * n) ≡ true
 fifths bufs p q n k r e f g h = both-quiet bufs (5 * k) r (bufferBytes * n) p q e f g h

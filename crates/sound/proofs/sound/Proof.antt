@@ -18,9 +18,6 @@ returns-3 : tie.Need-returns-3
 unfolding soundly
 returns-3 c = rw (eq-eqb _ _ (c .before .before .if1 .left), eq-eqb _ _ (c .before .if2 .left), ne-eqb _ _ (c .if3 .taken))
 
-files-ok-requires : tie.Need-files-ok-requires
-files-ok-requires c κs = search needs
-
 returns-4 : tie.Need-returns-4
 unfolding soundly
 returns-4 c =
@@ -31,9 +28,6 @@ returns-4 c =
       eq-eqb _ _ (c .before .before .if3 .left),
       failed (c .before .files-ok .ensures) (c .if4 .taken),
     )
-
-lists-ok-requires : tie.Need-lists-ok-requires
-lists-ok-requires c κs = search needs
 
 returns-5 : tie.Need-returns-5
 unfolding soundly
@@ -54,7 +48,7 @@ sound-spec =
     returns
     returns-2
     returns-3
-    files-ok-requires
+    (λ c κs. search needs)
     returns-4
-    lists-ok-requires
+    (λ c κs. search needs)
     returns-5)

@@ -1,19 +1,20 @@
--- The free list from an entry on, and an entry's bytes where its link is the next number.
-use Prim.Native.Nat.{ℕ, _+_, _*_}
+-- The free list starting at an entry, and an entry's bytes where its link is the next number.
+use Prim.Native.Nat.{ℕ, _+_, _-_, _*_, _≤_, _<_}
 use mathlib.Core.Path.{_≡_}
 use mathlib.Core.Bool.{true, false, _&&_}
 use mathlib.Core.List.{List}
 use lib.Dec.{eqb}
 use lib.ListN.{getD, set}
+use Rattle.rules.specs.Limits.{entries}
 use Rattle.segment.specs.Layout.{linkAt, dataWords}
 use Rattle.words.specs.Word.{quiet}
 use Rattle.sound.specs.Walks.{Walked, walked, freeEntry, freeWalk}
 
--- the word n, below 256, stands at p, and behind it m bytes that are zero
+-- the word n, below 256, lies at p, and the m bytes after it are zero
 unfoldable pub Led : List ℕ → ℕ → ℕ → ℕ → Type 0
 Led s p n m = (getD s p 0 ≡ 0) × (getD s (p + 1) 0 ≡ n) × (quiet s (p + 2) m ≡ true)
 
--- an entry's bytes, its link's among them
+-- the number of an entry's bytes, its link's among them
 abbrev pub entryBytes : ℕ
 entryBytes = 2 + 2 * dataWords
 
@@ -21,6 +22,11 @@ entryBytes = 2 + 2 * dataWords
 abbrev pub Linked : List ℕ → ℕ → ℕ → Type 0
 Linked s at n = Led s at n (2 * dataWords)
 
--- the walk where a slot holds e
+-- the walk of the free list from a slot that holds e
 unfoldable pub freeFrom : List ℕ → ℕ → List ℕ → List ℕ → ℕ → Walked
 freeFrom s e seen busy n = elim (eqb (getD seen e 0) 0 && freeEntry s e) [ false ↦ walked false seen busy | true ↦ freeWalk s (linkAt e) (set seen e 1) busy n ]
+
+-- the walk from e comes to r, at most `most` entries further: with the marks changed from seen to seen′, what is left of it is the walk from r
+abbrev pub Onward : List ℕ → ℕ → ℕ → List ℕ → ℕ → List ℕ → Type 0
+Onward s e most seen r seen′ =
+    (e ≤ r) × (r < entries) × (r ≤ e + most) × ((busy : List ℕ) → freeFrom s e seen busy most ≡ freeFrom s r seen′ busy (most - (r - e)))

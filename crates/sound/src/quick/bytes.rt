@@ -1,5 +1,5 @@
-// Two, four and eight bytes as one number, low byte first: a sum of shifted bytes is one load to the compiler, and not a load and a test for each.
-// `join-two`, `join-four` and `join-eight` (proofs/quick/Joined.antt): the number is 0 exactly where all its bytes are.
+// Two, four and eight bytes as one number, low byte first. The compiler makes one load of a sum of shifted bytes, and not a load and a test for each.
+// `join-two`, `join-four` and `join-eight` (proofs/quick/Joined.antt): the number is 0 exactly if all its bytes are.
 ghost use mathlib.Core.Path.{_≡_};
 ghost use Prim.Native.Nat.{ℕ, _+_, _*_, _≤_, _<_};
 ghost use lib.Dec.{eqb};
@@ -36,8 +36,8 @@ pub fn eight(s: &[u8], p: usize) -> u64
     four(s, p) + four(s, p + 4) * 4294967296
 }
 
-// Whether the nine words of an entry's data, from word k on, are zero: three loads for eighteen bytes, the last eight of them with six that were read
-// before. It is `zero_words` (`whole`, proofs/quick/Entry.antt).
+// Whether the nine words of an entry's data, starting at word k, are zero: three loads for eighteen bytes, the last one reading six of them again.
+// Equals `zero_words` (`whole`, proofs/quick/Entry.antt).
 pub fn bare(s: &[u8], k: usize) -> bool
     requires { ⌜ (length (now s) ≡ segmentBytes) × (k + dataWords ≤ segmentWords) ⌝ }
     ensures { λ r. ⌜ r ≡ zeroWords (now (s .entry)) k dataWords ⌝ }

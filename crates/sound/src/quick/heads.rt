@@ -1,7 +1,5 @@
-// Lists that are all empty: where all their heads are nil, all bytes of them are 255, one `or` for all and no walk. `queues-none` and `ports-none`
+// Fast path for lists that are all empty: if all their heads are nil, all bytes of the heads are 255; one `or` shows it, without a walk. `queues-none` and `ports-none`
 // (proofs/quick/Nils.antt): the plain walks then meet nothing.
-use crate::ENTRY_COUNT;
-use crate::walks;
 use kinds::limits::FILES;
 use kinds::limits::PLACES;
 use kinds::sides::WRITER;
@@ -11,15 +9,15 @@ ghost use mathlib.Core.Bool.{true};
 ghost use mathlib.Core.List.{List};
 ghost use Prim.Native.Nat.{ℕ, _+_, _*_, _≤_};
 ghost use lib.ListN.{length};
-ghost use Rattle.rules.specs.Limits.{files, places, bufferBytes};
+ghost use Rattle.rules.specs.Limits.{files, places};
 ghost use Rattle.segment.specs.Layout.{segmentBytes};
 ghost use Rattle.sound.specs.quick.Ones.{ones};
 ghost use Rattle.sound.specs.Walks.{walked, queueWalks, portWalks};
 
-// Each byte of nil.
+// The value of each byte of nil.
 const NIL_BYTE: u8 = 255;
 
-// Whether n bytes from a place on are those of nil.
+// Whether n bytes, starting at `at`, are all bytes of nil.
 fn ones(s: &[u8], at: usize, n: usize) -> bool
     requires { ⌜ at + n ≤ length (now s) ⌝ }
     ensures { λ r. ⌜ r ≡ ones (now (s .entry)) at n ⌝ }
@@ -36,7 +34,7 @@ fn ones(s: &[u8], at: usize, n: usize) -> bool
 }
 
 // Whether nothing waits on that side in any file.
-fn no_queues(s: &[u8], side: u16) -> bool
+pub fn no_queues(s: &[u8], side: u16) -> bool
     requires { ⌜ length (now s) ≡ segmentBytes ⌝ }
     ensures { λ r. ⌜ (r ≡ true → (bufs seen busy : List ℕ) → queueWalks (now (s .entry)) bufs side 0 seen busy files ≡ walked true seen busy) ⌝ }
 {
@@ -47,40 +45,9 @@ fn no_queues(s: &[u8], side: u16) -> bool
 }
 
 // Whether no request is completed.
-fn no_replies(s: &[u8]) -> bool
+pub fn no_replies(s: &[u8]) -> bool
     requires { ⌜ length (now s) ≡ segmentBytes ⌝ }
     ensures { λ r. ⌜ (r ≡ true → (bufs seen busy : List ℕ) → portWalks (now (s .entry)) bufs 0 seen busy (files * places) ≡ walked true seen busy) ⌝ }
 {
     ones(s, 2 * layout::REPLY_PORTS, 2 * FILES * PLACES)
-}
-
-pub fn queue_walks(
-    s: &[u8],
-    buffers: &[u8],
-    side: u16,
-    seen: &mut [u8; ENTRY_COUNT],
-    busy: &mut [u8; layout::DESK_PLACES],
-) -> bool
-    requires { ⌜ (length (now s) ≡ segmentBytes) × (length (now buffers) ≡ places * bufferBytes * files) ⌝ }
-    ensures { λ r. ⌜ walked r (now (seen .exit)) (now (busy .exit)) ≡ queueWalks (now (s .entry)) (now (buffers .entry)) side 0 (now (seen .entry)) (now (busy .entry)) files ⌝ }
-{
-    if no_queues(s, side) {
-        return true;
-    }
-    walks::queue_walks(s, buffers, side, seen, busy)
-}
-
-pub fn port_walks(
-    s: &[u8],
-    buffers: &[u8],
-    seen: &mut [u8; ENTRY_COUNT],
-    busy: &mut [u8; layout::DESK_PLACES],
-) -> bool
-    requires { ⌜ (length (now s) ≡ segmentBytes) × (length (now buffers) ≡ places * bufferBytes * files) ⌝ }
-    ensures { λ r. ⌜ walked r (now (seen .exit)) (now (busy .exit)) ≡ portWalks (now (s .entry)) (now (buffers .entry)) 0 (now (seen .entry)) (now (busy .entry)) (files * places) ⌝ }
-{
-    if no_replies(s) {
-        return true;
-    }
-    walks::port_walks(s, buffers, seen, busy)
 }

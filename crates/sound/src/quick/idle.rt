@@ -1,5 +1,5 @@
-// Buffers that are all zero: 2,080 bytes of a file in one loop with no way out, whoever uses them, and no look at who does. `idle-run`
-// (proofs/quick/Resting.antt): the plain test holds of them.
+// Fast path: one branch-free loop over the 2,080 bytes of a file's eight buffers, without asking which are in use. If all are zero, the plain test holds:
+// `idle-run` (proofs/quick/Resting.antt).
 use crate::idle;
 use kinds::limits::BUFFER_BYTES;
 use segment::layout;
@@ -11,12 +11,12 @@ ghost use Rattle.rules.specs.Limits.{files, places, bufferBytes};
 ghost use Rattle.words.specs.Word.{quiet};
 ghost use Rattle.sound.specs.Sound.{idleZero};
 
-// A fifth of a buffer, and what five of them leave of it: nothing, where its bytes can be divided by five.
+// A fifth of a buffer, and what is left of the buffer after five fifths: nothing if five divides its bytes.
 const FIFTH: usize = BUFFER_BYTES / 5;
 
 const LEFT: usize = BUFFER_BYTES - 5 * FIFTH;
 
-// Whether five times n bytes from a place on are zero, in five runs side by side, for which the processor need not wait in turn.
+// Whether 5 × n bytes, starting at `at`, are zero, read in five runs side by side so that the processor need not wait for each in turn.
 fn quiet_runs(s: &[u8], at: usize, n: usize) -> bool
     requires { ⌜ at + 5 * n ≤ length (now s) ⌝ }
     ensures { λ r. ⌜ (r ≡ true → quiet (now (s .entry)) at (5 * n) ≡ true) ⌝ }
@@ -32,7 +32,7 @@ fn quiet_runs(s: &[u8], at: usize, n: usize) -> bool
     all == 0
 }
 
-// Whether n buffers from a place on are zero.
+// Whether n buffers, starting at byte `at`, are zero.
 fn quiet_buffers(s: &[u8], at: usize, n: usize) -> bool
     requires { ⌜ at + bufferBytes * n ≤ length (now s) ⌝ }
     ensures { λ r. ⌜ (r ≡ true → quiet (now (s .entry)) at (bufferBytes * n) ≡ true) ⌝ }

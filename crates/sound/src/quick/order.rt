@@ -1,25 +1,24 @@
-// The free list where its entries stand in order, as on a fresh desk. Which entry is next is counted, and not read from a link, so that no read waits for
-// the one before; the test is an `or` of differences, since of `if link == next` the compiler makes a read that waits. `onto` and `onto-four`
+// Fast path over the free list while its entries are in order, as on a fresh desk. The next entry is counted, not read from a link, so that no read waits for
+// the one before. The test is an `or` of differences, since the compiler turns `if link == next` into a read that waits. `onto` and `onto-four`
 // (proofs/quick/Onward.antt): the plain walk goes the same way.
-use crate::ENTRY_COUNT;
-use crate::MET;
+use crate::marks::ENTRY_COUNT;
+use crate::marks::MET;
 use crate::quick::bytes::broad;
 use crate::quick::bytes::eight;
 use crate::quick::bytes::four;
 use segment::layout;
 ghost use mathlib.Core.Path.{_≡_};
-ghost use mathlib.Core.List.{List};
-ghost use Prim.Native.Nat.{ℕ, _+_, _-_, _*_, _≤_, _<_};
+ghost use Prim.Native.Nat.{_+_, _-_, _*_, _≤_, _<_};
 ghost use lib.ListN.{length, getD};
 ghost use Rattle.rules.specs.Limits.{entries};
 ghost use Rattle.segment.specs.Layout.{segmentBytes};
-ghost use Rattle.sound.specs.quick.Onward.{entryBytes, Linked, freeFrom};
+ghost use Rattle.sound.specs.quick.Onward.{entryBytes, Linked, Onward};
 
 const LAST: usize = layout::ENTRIES as usize - 1;
 
 const ENTRY_BYTES: usize = 2 * layout::ENTRY_WORDS;
 
-// The last entry that a run from e on may reach.
+// The last entry that a run from e may reach.
 fn farthest(e: usize, most: usize) -> usize
     requires { ⌜ e < entries ⌝ }
     ensures { λ r. ⌜ (e ≤ r) × (r < entries) × (r ≤ e + most) ⌝ }
@@ -27,7 +26,7 @@ fn farthest(e: usize, most: usize) -> usize
     if most < LAST - e { e + most } else { LAST }
 }
 
-// The marks of four entries: 0 only where none was met.
+// The marks of four entries as one number: 0 only if none was met.
 fn four_marks(seen: &[u8; ENTRY_COUNT], e: usize) -> u64
     requires { ⌜ e + 3 < entries ⌝ }
     ensures { λ r. ⌜ (r ≡ 0 → (getD (now (seen .entry)) e 0 ≡ 0) × (getD (now (seen .entry)) (e + 1) 0 ≡ 0) × (getD (now (seen .entry)) (e + 2) 0 ≡ 0) × (getD (now (seen .entry)) (e + 3) 0 ≡ 0)) ⌝ }
@@ -37,7 +36,7 @@ fn four_marks(seen: &[u8; ENTRY_COUNT], e: usize) -> u64
     low + high * 65536
 }
 
-// Of the entry at byte `at`: 0 only where it is free and linked to entry n.
+// A number for the entry at byte `at`: 0 only if it is free and linked to entry n.
 fn linked(s: &[u8], at: usize, n: usize) -> u64
     requires { ⌜ (at + entryBytes ≤ length (now s)) × (n < 256) ⌝ }
     ensures { λ r. ⌜ (r ≡ 0 → Linked (now (s .entry)) at n) ⌝ }
@@ -45,7 +44,7 @@ fn linked(s: &[u8], at: usize, n: usize) -> u64
     (eight(s, at) ^ (n as u64 * 256)) | eight(s, at + 8) | four(s, at + 16)
 }
 
-// Of four entries, e the first, at byte `at`: 0 only where each is free and linked to the next number.
+// A number for four entries, the first of them e at byte `at`: 0 only if each is free and linked to the next number.
 fn four_linked(s: &[u8], at: usize, e: usize) -> u64
     requires { ⌜ (at + 4 * entryBytes ≤ length (now s)) × (e + 4 < 256) ⌝ }
     ensures { λ r. ⌜ (r ≡ 0 → Linked (now (s .entry)) at (e + 1) × Linked (now (s .entry)) (at + entryBytes) (e + 2) × Linked (now (s .entry)) (at + 2 * entryBytes) (e + 3) × Linked (now (s .entry)) (at + 3 * entryBytes) (e + 4)) ⌝ }
@@ -56,10 +55,10 @@ fn four_linked(s: &[u8], at: usize, e: usize) -> u64
         | linked(s, at + 3 * ENTRY_BYTES, e + 4)
 }
 
-// From a slot that holds e on to the last of the entries in order, `most` of them at most, four at a time.
+// Walks from a slot that holds e along the entries in order, at most `most` of them, four at a time. Marks those that it passes, and gives the last.
 fn by_fours(s: &[u8], e: usize, most: usize, seen: &mut [u8; ENTRY_COUNT]) -> usize
     requires { ⌜ (length (now s) ≡ segmentBytes) × (e < entries) ⌝ }
-    ensures { λ r. ⌜ (e ≤ r) × (r < entries) × (r ≤ e + most) × ((busy : List ℕ) → freeFrom (now (s .entry)) e (now (seen .entry)) busy most ≡ freeFrom (now (s .entry)) r (now (seen .exit)) busy (most - (r - e))) ⌝ }
+    ensures { λ r. ⌜ Onward (now (s .entry)) e most (now (seen .entry)) r (now (seen .exit)) ⌝ }
 {
     let end = farthest(e, most);
     let mut last = e;
@@ -81,10 +80,10 @@ fn by_fours(s: &[u8], e: usize, most: usize, seen: &mut [u8; ENTRY_COUNT]) -> us
     last
 }
 
-// The same, one entry at most.
+// Walks as `by_fours` does, but at most one entry.
 fn by_one(s: &[u8], e: usize, most: usize, seen: &mut [u8; ENTRY_COUNT]) -> usize
     requires { ⌜ (length (now s) ≡ segmentBytes) × (e < entries) ⌝ }
-    ensures { λ r. ⌜ (e ≤ r) × (r < entries) × (r ≤ e + most) × ((busy : List ℕ) → freeFrom (now (s .entry)) e (now (seen .entry)) busy most ≡ freeFrom (now (s .entry)) r (now (seen .exit)) busy (most - (r - e))) ⌝ }
+    ensures { λ r. ⌜ Onward (now (s .entry)) e most (now (seen .entry)) r (now (seen .exit)) ⌝ }
 {
     if most < 1 {
         return e;
@@ -102,7 +101,7 @@ fn by_one(s: &[u8], e: usize, most: usize, seen: &mut [u8; ENTRY_COUNT]) -> usiz
     e + 1
 }
 
-// The same: by fours where e itself follows the entry before, else by one, since a run is then short, as that of a request and its timer.
+// Walks as `by_fours` does: by fours if e itself follows the entry before, else by one, since the run is then short, such as a request and its timer.
 pub fn in_order(
     s: &[u8],
     before: usize,
@@ -111,7 +110,7 @@ pub fn in_order(
     seen: &mut [u8; ENTRY_COUNT],
 ) -> usize
     requires { ⌜ (length (now s) ≡ segmentBytes) × (e < entries) × (before < 256) ⌝ }
-    ensures { λ r. ⌜ (e ≤ r) × (r < entries) × (r ≤ e + most) × ((busy : List ℕ) → freeFrom (now (s .entry)) e (now (seen .entry)) busy most ≡ freeFrom (now (s .entry)) r (now (seen .exit)) busy (most - (r - e))) ⌝ }
+    ensures { λ r. ⌜ Onward (now (s .entry)) e most (now (seen .entry)) r (now (seen .exit)) ⌝ }
 {
     if e == before + 1 {
         let last = by_fours(s, e, most, seen);

@@ -1,5 +1,5 @@
-// Room for more records than a file has places: its writers need not be counted, which saves a look at eight rows. `room-ample` (proofs/quick/Ample.antt):
-// the plain test then holds, whoever is open.
+// Fast path for a file with room for more records than it has places: its writers need not be counted, which saves reading eight rows. `room-ample`
+// (proofs/quick/Ample.antt): the plain test then holds, whoever is open.
 use kinds::limits::PLACES;
 ghost use mathlib.Core.Path.{_≡_};
 ghost use mathlib.Core.Bool.{true, _&&_};
@@ -8,7 +8,7 @@ ghost use Prim.Native.Nat.{ℕ, _+_};
 ghost use lib.Dec.{leb};
 ghost use Rattle.accessors.specs.Sides.{countSide};
 
-// A close record for each place, and a record.
+// Room for a close record at each place, and for one more record.
 const AMPLE: u32 = PLACES as u32 + 1;
 
 pub fn ample(used: u32, most: u32) -> bool

@@ -8,9 +8,6 @@ use Rattle.store.proofs.fetch.Tie as tie
 abbrev start : tie.After-found → tie.Start
 start c = c .before .before .before
 
-share-requires : tie.Need-share-requires
-share-requires c κs = search needs
-
 found-requires : tie.Need-found-requires
 found-requires c κs =
     let start : tie.Start = search in
@@ -35,4 +32,4 @@ returns-2 c =
     says-some (a .f) (a .typed) (a .keep) (a .blocks .now) _ (here .before .share .ensures) (a .file) _ (here .found .ensures .1) (here .found .ensures .0) (else1 .if1 .left) _ (c .taken .ensures)
 
 pub fetch-spec : {M : Type 1} → statement M
-fetch-spec = tie.close (tie.spec share-requires found-requires returns taken-requires returns-2)
+fetch-spec = tie.close (tie.spec (λ c κs. search needs) found-requires returns taken-requires returns-2)

@@ -5,9 +5,6 @@ use borrow.Author.Needs.{needs}
 use Rattle.store.proofs.purge.Statement.{statement}
 use Rattle.store.proofs.purge.Tie as tie
 
-purged-requires : tie.Need-purged-requires
-purged-requires c κs = search needs
-
 returns : tie.Need-returns
 returns c =
     let start : tie.Start = search in
@@ -16,4 +13,4 @@ returns c =
     (is, purge-keeps _ _ is)
 
 pub purge-spec : {M : Type 1} → statement M
-purge-spec = tie.close (tie.spec purged-requires returns)
+purge-spec = tie.close (tie.spec (λ c κs. search needs) returns)

@@ -4,12 +4,6 @@ use borrow.Author.Needs.{needs}
 use Rattle.store.proofs.put.Statement.{statement}
 use Rattle.store.proofs.put.Tie as tie
 
-put-at-requires : tie.Need-put-at-requires
-put-at-requires c κs = search needs
-
-same-length : tie.Need-same-length
-same-length c = search needs
-
 returns : tie.Need-returns
 returns c =
     let start : tie.Start = search in
@@ -18,4 +12,4 @@ returns c =
     (is, (here .put-at .ensures .1, put-keeps _ _ _ _ _ _ is (here .put-at .ensures .1)))
 
 pub put-spec : {M : Type 1} → statement M
-put-spec = tie.close (tie.spec put-at-requires same-length returns)
+put-spec = tie.close (tie.spec (λ c κs. search needs) (λ c. search needs) returns)

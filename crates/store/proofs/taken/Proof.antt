@@ -4,9 +4,6 @@ use borrow.Author.Needs.{needs}
 use Rattle.store.proofs.taken.Statement.{statement}
 use Rattle.store.proofs.taken.Tie as tie
 
-advanced-requires : tie.Need-advanced-requires
-advanced-requires c κs = search needs
-
 returns : tie.Need-returns
 unfolding takenRing
 returns c = rw (c .if1 .taken)
@@ -16,4 +13,4 @@ unfolding takenRing
 returns-2 c = rw (c .before .if1 .left) (c .advanced .ensures)
 
 pub taken-spec : {M : Type 1} → statement M
-taken-spec = tie.close (tie.spec advanced-requires returns returns-2)
+taken-spec = tie.close (tie.spec (λ c κs. search needs) returns returns-2)

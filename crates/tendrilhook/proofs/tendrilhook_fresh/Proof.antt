@@ -3,18 +3,6 @@ use borrow.Author.Needs.{needs}
 use Rattle.tendrilhook.proofs.tendrilhook_fresh.Statement.{statement}
 use Rattle.tendrilhook.proofs.tendrilhook_fresh.Tie as tie
 
-fresh-requires : tie.Need-fresh-requires
-fresh-requires c κs = search needs
-
-same-length : tie.Need-same-length
-same-length c = search needs
-
-same-length-2 : tie.Need-same-length-2
-same-length-2 c = search needs
-
-same-length-3 : tie.Need-same-length-3
-same-length-3 c = search needs
-
 returns : tie.Need-returns
 returns c =
     let here : tie.After-fresh = search in let fresh = here .fresh in
@@ -22,4 +10,4 @@ returns c =
 
 pub tendrilhook-fresh-spec : {M : Type 1} → statement M
 tendrilhook-fresh-spec =
-    tie.close (tie.spec fresh-requires same-length same-length-2 same-length-3 returns)
+    tie.close (tie.spec (λ c κs. search needs) (λ c. search needs) (λ c. search needs) (λ c. search needs) returns)

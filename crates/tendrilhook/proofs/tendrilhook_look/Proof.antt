@@ -10,9 +10,6 @@ use Rattle.tendrilhook.proofs.tendrilhook_look.Tie as tie
 returns : tie.Need-returns
 returns c = other-length _ _ _ _ (c .if1 .taken)
 
-shown-requires : tie.Need-shown-requires
-shown-requires c κs = search needs
-
 part-requires : tie.Need-part-requires
 part-requires c κs = c .shown .ensures .0
 
@@ -29,12 +26,6 @@ copy-requires c κs =
     (λ i. known .shared-slice-known3 .given i .fits) _ _ _ shows in
     omega (arith, h, left .if1 .left)
 
-status-requires : tie.Need-status-requires
-status-requires c κs = search needs
-
-same-length : tie.Need-same-length
-same-length c = search needs
-
 returns-2 : tie.Need-returns-2
 returns-2 c =
     let copy = c .before .before .before in
@@ -47,4 +38,4 @@ returns-2 c =
 pub tendrilhook-look-spec : {M : Type 1} → statement M
 tendrilhook-look-spec =
     tie.close
-    (tie.spec returns shown-requires part-requires copy-requires status-requires same-length returns-2)
+    (tie.spec returns (λ c κs. search needs) part-requires copy-requires (λ c κs. search needs) (λ c. search needs) returns-2)

@@ -2,14 +2,8 @@ use borrow.Author.Needs.{needs}
 use Rattle.tendrilhook.proofs.tendrilhook_save.Statement.{statement}
 use Rattle.tendrilhook.proofs.tendrilhook_save.Tie as tie
 
-save-requires : tie.Need-save-requires
-save-requires c κs = search needs
-
-same-length : tie.Need-same-length
-same-length c = search needs
-
 returns : tie.Need-returns
 returns c = c .before .before .save .ensures .0
 
 pub tendrilhook-save-spec : {M : Type 1} → statement M
-tendrilhook-save-spec = tie.close (tie.spec save-requires same-length returns)
+tendrilhook-save-spec = tie.close (tie.spec (λ c κs. search needs) (λ c. search needs) returns)

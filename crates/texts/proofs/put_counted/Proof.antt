@@ -4,18 +4,6 @@ use borrow.Author.Needs.{needs}
 use Rattle.texts.proofs.put_counted.Statement.{statement}
 use Rattle.texts.proofs.put_counted.Tie as tie
 
-put-number-requires : tie.Need-put-number-requires
-put-number-requires c κs = search needs
-
-put-text-requires : tie.Need-put-text-requires
-put-text-requires c κs = search needs
-
-put-ending-requires : tie.Need-put-ending-requires
-put-ending-requires c κs = search needs
-
-same-length : tie.Need-same-length
-same-length c = search needs
-
 returns : tie.Need-returns
 unfolding counted
 returns c =
@@ -27,4 +15,4 @@ returns c =
 pub put-counted-spec : {M : Type 1} → statement M
 put-counted-spec =
     tie.close
-    (tie.spec put-number-requires put-text-requires put-ending-requires same-length returns)
+    (tie.spec (λ c κs. search needs) (λ c κs. search needs) (λ c κs. search needs) (λ c. search needs) returns)

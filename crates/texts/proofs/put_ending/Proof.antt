@@ -9,15 +9,6 @@ returns : tie.Need-returns
 unfolding ending
 returns c = rw (eq-eqb _ _ (c .if1 .taken)) (put-none 1)
 
-slice-aggregate-put-text : tie.Need-slice-aggregate-put-text
-slice-aggregate-put-text c = search needs
-
-put-text-requires : tie.Need-put-text-requires
-put-text-requires c κs = search needs
-
-same-length : tie.Need-same-length
-same-length c = search needs
-
 returns-2 : tie.Need-returns-2
 unfolding ending
 returns-2 c =
@@ -27,4 +18,4 @@ returns-2 c =
 
 pub put-ending-spec : {M : Type 1} → statement M
 put-ending-spec =
-    tie.close (tie.spec returns slice-aggregate-put-text put-text-requires same-length returns-2)
+    tie.close (tie.spec returns (λ c. search needs) (λ c κs. search needs) (λ c. search needs) returns-2)

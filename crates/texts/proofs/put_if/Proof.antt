@@ -4,12 +4,6 @@ use borrow.Author.Needs.{needs}
 use Rattle.texts.proofs.put_if.Statement.{statement}
 use Rattle.texts.proofs.put_if.Tie as tie
 
-put-text-requires : tie.Need-put-text-requires
-put-text-requires c κs = search needs
-
-same-length : tie.Need-same-length
-same-length c = search needs
-
 returns : tie.Need-returns
 returns c =
     let here : tie.Then1 = search in
@@ -20,4 +14,4 @@ returns-2 : tie.Need-returns-2
 returns-2 c = rw (ne-eqb _ _ (c .if1 .left)) (put-none _)
 
 pub put-if-spec : {M : Type 1} → statement M
-put-if-spec = tie.close (tie.spec put-text-requires same-length returns returns-2)
+put-if-spec = tie.close (tie.spec (λ c κs. search needs) (λ c. search needs) returns returns-2)

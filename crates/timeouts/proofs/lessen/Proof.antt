@@ -22,28 +22,10 @@ abbrev μ-loop : tie.MeasureT-loop
 loop-holds : tie.Need-loop-holds Inv-loop μ-loop
 loop-holds c = (search needs, search needs, refl)
 
-get-requires : tie.Need-get-requires Inv-loop μ-loop
-get-requires c κs = search needs
-
-same-length : tie.Need-same-length Inv-loop μ-loop
-same-length c = search needs
-
 returns : tie.Need-returns Inv-loop μ-loop
 returns c =
     let here : tie.At-loop Inv-loop μ-loop = search in let loop = here .loop in
     sym (loop .inv .2 ∙ less-stop _ _ _ (c .before .get .ensures) _ _ (c .if1 .taken))
-
-lose-requires : tie.Need-lose-requires Inv-loop μ-loop
-lose-requires c κs = search needs
-
-link-at-requires : tie.Need-link-at-requires Inv-loop μ-loop
-link-at-requires c κs = search needs
-
-sub-n : tie.Need-sub-n Inv-loop μ-loop
-sub-n c = search needs
-
-loop-less : tie.Need-loop-less Inv-loop μ-loop
-loop-less c = search needs
 
 loop-again : tie.Need-loop-again Inv-loop μ-loop
 loop-again c =
@@ -57,9 +39,6 @@ loop-again c =
           (loop .inv .2 ∙ less-step _ _ _ (get .ensures) _ _ (loop-test .taken) (if1 .left)),
     )
 
-same-length-2 : tie.Need-same-length-2 Inv-loop μ-loop
-same-length-2 c = search needs
-
 returns-2 : tie.Need-returns-2 Inv-loop μ-loop
 unfolding lessAll
 returns-2 c = let z : c .before .loop .n ≡ 0 = omega arith in sym (c .before .loop .inv .2 ∙ rw z)
@@ -71,13 +50,13 @@ lessen-spec =
     Inv-loop
     μ-loop
     loop-holds
-    get-requires
-    same-length
+    (λ c κs. search needs)
+    (λ c. search needs)
     returns
-    lose-requires
-    link-at-requires
-    sub-n
-    loop-less
+    (λ c κs. search needs)
+    (λ c κs. search needs)
+    (λ c. search needs)
+    (λ c. search needs)
     loop-again
-    same-length-2
+    (λ c. search needs)
     returns-2)

@@ -13,15 +13,6 @@ run-due-requires c κs =
       (start .pre .3 .stands .bodies .buffers-size, (start .pre .0, start .pre .1, stage-begin (start .pre .3))),
     )
 
-lessen-requires : tie.Need-lessen-requires
-lessen-requires c κs = search needs
-
-same-length : tie.Need-same-length
-same-length c = search needs
-
-same-length-2 : tie.Need-same-length-2
-same-length-2 c = search needs
-
 returns : tie.Need-returns
 unfolding Bytes
 returns c =
@@ -35,4 +26,4 @@ returns c =
 
 pub pass-time-spec : {M : Type 1} → statement M
 pass-time-spec =
-    tie.close (tie.spec run-due-requires lessen-requires same-length same-length-2 returns)
+    tie.close (tie.spec run-due-requires (λ c κs. search needs) (λ c. search needs) (λ c. search needs) returns)

@@ -23,29 +23,11 @@ abbrev μ-loop : tie.MeasureT-loop
 loop-holds : tie.Need-loop-holds Inv-loop μ-loop
 loop-holds c = (search needs, search needs, λ d s S. reached-start _ S)
 
-get-requires : tie.Need-get-requires Inv-loop μ-loop
-get-requires c κs = search needs
-
-same-length : tie.Need-same-length Inv-loop μ-loop
-same-length c = search needs
-
-same-length-2 : tie.Need-same-length-2 Inv-loop μ-loop
-same-length-2 c = search needs
-
 returns : tie.Need-returns Inv-loop μ-loop
 returns c =
     let here : tie.At-loop Inv-loop μ-loop = search in let loop = here .loop in
     λ d s S.
     stop-none (loop .inv .2 d s S) _ (c .before .get .ensures) (c .if1 .taken)
-
-entry-seconds-requires : tie.Need-entry-seconds-requires Inv-loop μ-loop
-entry-seconds-requires c κs = search needs
-
-same-length-3 : tie.Need-same-length-3 Inv-loop μ-loop
-same-length-3 c = search needs
-
-same-length-4 : tie.Need-same-length-4 Inv-loop μ-loop
-same-length-4 c = search needs
 
 returns-2 : tie.Need-returns-2 Inv-loop μ-loop
 returns-2 c =
@@ -54,9 +36,6 @@ returns-2 c =
     λ d s S.
     stop-late (loop .inv .2 d s S) _ (get .ensures) (c .before .before .before .if1 .left) _
     (c .before .entry-seconds .ensures) (c .if2 .taken)
-
-entry-place-requires : tie.Need-entry-place-requires Inv-loop μ-loop
-entry-place-requires c κs = search needs
 
 time-out-requires : tie.Need-time-out-requires Inv-loop μ-loop
 time-out-requires c κs =
@@ -70,12 +49,6 @@ time-out-requires c κs =
     (get .ensures) (if1 .left) _ (entry-seconds .ensures) (if2 .left) _
     (c .before .before .entry-place .ensures) in
     (search needs, (search needs, (g .0, g .1)))
-
-sub-n : tie.Need-sub-n Inv-loop μ-loop
-sub-n c = search needs
-
-loop-less : tie.Need-loop-less Inv-loop μ-loop
-loop-less c = search needs
 
 loop-again : tie.Need-loop-again Inv-loop μ-loop
 loop-again c =
@@ -94,12 +67,6 @@ loop-again c =
           (entry-place .ensures) .2),
     )
 
-same-length-5 : tie.Need-same-length-5 Inv-loop μ-loop
-same-length-5 c = search needs
-
-same-length-6 : tie.Need-same-length-6 Inv-loop μ-loop
-same-length-6 c = search needs
-
 returns-3 : tie.Need-returns-3 Inv-loop μ-loop
 returns-3 c = λ d s S. stop-spent (c .before .loop .inv .2 d s S) (omega arith)
 
@@ -110,19 +77,19 @@ run-due-spec =
     Inv-loop
     μ-loop
     loop-holds
-    get-requires
-    same-length
-    same-length-2
+    (λ c κs. search needs)
+    (λ c. search needs)
+    (λ c. search needs)
     returns
-    entry-seconds-requires
-    same-length-3
-    same-length-4
+    (λ c κs. search needs)
+    (λ c. search needs)
+    (λ c. search needs)
     returns-2
-    entry-place-requires
+    (λ c κs. search needs)
     time-out-requires
-    sub-n
-    loop-less
+    (λ c. search needs)
+    (λ c. search needs)
     loop-again
-    same-length-5
-    same-length-6
+    (λ c. search needs)
+    (λ c. search needs)
     returns-3)

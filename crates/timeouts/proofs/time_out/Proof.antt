@@ -7,79 +7,56 @@ use borrow.Author.Needs.{needs}
 use Rattle.timeouts.proofs.time_out.Statement.{statement}
 use Rattle.timeouts.proofs.time_out.Tie as tie
 
-place-side-requires : tie.Need-place-side-requires
-place-side-requires c κs = search needs
-
-add-seek-place : tie.Need-add-seek-place
-add-seek-place c = search needs
-
-seek-place-requires : tie.Need-seek-place-requires
-seek-place-requires c κs = search needs
-
 complete-requires : tie.Need-complete-requires
 complete-requires c κs =
     let start : tie.Start = search in
+    let m : tie.After-completed-request = search in
     let here : tie.After-seek-place = search in let seek-place = here .seek-place in
     let here : tie.Then1 = search in let if1 = here .if1 in
     let here : tie.After-place-side = search in let place-side = here .place-side in (
       search needs,
       (
         seek-place .ensures .1,
-        search needs,
+        rw (m .completed-request .ensures) (start .pre .1 .1 .0),
         late-found _ _ _ (in-writers _ _ _ (place-side .ensures) (if1 .taken)) _ (seek-place .ensures .0) (start .pre .1 .1 .1),
       ),
     )
 
-clear-at-requires : tie.Need-clear-at-requires
-clear-at-requires c κs = search needs
-
-same-length : tie.Need-same-length
-same-length c = search needs
-
-same-length-2 : tie.Need-same-length-2
-same-length-2 c = search needs
-
 returns : tie.Need-returns
 unfolding lateWords entryWords
 returns c =
+    let m : tie.After-completed-request = search in
     let here : tie.After-complete = search in let complete = here .complete in
     let here : tie.After-seek-place = search in let seek-place = here .seek-place in
     let here : tie.Then1 = search in let if1 = here .if1 in
     let here : tie.After-place-side = search in let place-side = here .place-side in (
-      complete .ensures ∙ late-at _ _ _ (in-writers _ _ _ (place-side .ensures) (if1 .taken)) _ (seek-place .ensures .0),
+      (rw (m .completed-request .ensures) at (complete .ensures)) ∙ late-at _ _ _ (in-writers _ _ _ (place-side .ensures) (if1 .taken)) _ (seek-place .ensures .0),
       c .before .before .clear-at .ensures ∙ cleared _ _ _ (place-side .ensures) _ (if1 .taken),
     )
-
-add-seek-place-2 : tie.Need-add-seek-place-2
-add-seek-place-2 c = search needs
-
-seek-place-requires-2 : tie.Need-seek-place-requires-2
-seek-place-requires-2 c κs = search needs
 
 complete-requires-2 : tie.Need-complete-requires-2
 complete-requires-2 c κs =
     let start : tie.Start = search in
+    let m : tie.After-completed-request = search in
     let here : tie.After-seek-place2 = search in let seek-place = here .seek-place2 in
     let here : tie.Else1 = search in let if1 = here .if1 in
     let here : tie.After-place-side = search in let place-side = here .place-side in (
       search needs,
       (
         seek-place .ensures .1,
-        search needs,
+        rw (m .completed-request .ensures) (start .pre .1 .1 .0),
         late-found _ _ _ (in-readers _ _ _ (place-side .ensures) (if1 .left)) _ (seek-place .ensures .0) (start .pre .1 .1 .1),
       ),
     )
 
-same-length-3 : tie.Need-same-length-3
-same-length-3 c = search needs
-
 returns-2 : tie.Need-returns-2
 unfolding lateWords entryWords
 returns-2 c =
+    let m : tie.After-completed-request = search in
     let here : tie.After-seek-place2 = search in let seek-place = here .seek-place2 in
     let here : tie.Else1 = search in let if1 = here .if1 in
     let here : tie.After-place-side = search in let place-side = here .place-side in (
-      c .before .before .complete2 .ensures ∙ late-at _ _ _ (in-readers _ _ _ (place-side .ensures) (if1 .left)) _ (seek-place .ensures .0),
+      (rw (m .completed-request .ensures) at (c .before .before .complete2 .ensures)) ∙ late-at _ _ _ (in-readers _ _ _ (place-side .ensures) (if1 .left)) _ (seek-place .ensures .0),
       uncleared _ _ _ (place-side .ensures) _ (if1 .left),
     )
 
@@ -87,16 +64,17 @@ pub time-out-spec : {M : Type 1} → statement M
 time-out-spec =
     tie.close
     (tie.spec
-    place-side-requires
-    add-seek-place
-    seek-place-requires
+    (λ c κs. search needs)
+    (λ c κs. search needs)
+    (λ c. search needs)
+    (λ c κs. search needs)
     complete-requires
-    clear-at-requires
-    same-length
-    same-length-2
+    (λ c κs. search needs)
+    (λ c. search needs)
+    (λ c. search needs)
     returns
-    add-seek-place-2
-    seek-place-requires-2
+    (λ c. search needs)
+    (λ c κs. search needs)
     complete-requires-2
-    same-length-3
+    (λ c. search needs)
     returns-2)

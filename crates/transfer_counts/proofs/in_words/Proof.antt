@@ -1,5 +1,5 @@
 use mathlib.Core.Path.{refl}
-use Rattle.rules.specs.Count.{inWords}
+use Rattle.rules.specs.TransferCounts.{inWords}
 use Rattle.transfer_counts.proofs.in_words.Statement.{statement}
 use Rattle.transfer_counts.proofs.in_words.Tie as tie
 

@@ -1,11 +1,8 @@
 use native.Mathlib.Omega.{arith}
-use Rattle.rules.specs.Count.{logOf}
+use Rattle.rules.specs.TransferCounts.{logOf}
 use borrow.Author.Needs.{needs}
 use Rattle.transfer_counts.proofs.log_of.Statement.{statement}
 use Rattle.transfer_counts.proofs.log_of.Tie as tie
-
-add-result : tie.Need-add-result
-add-result c = search needs
 
 returns : tie.Need-returns
 unfolding logOf
@@ -16,4 +13,4 @@ unfolding logOf
 returns-2 c = rw (c .if1 .left)
 
 pub log-of-spec : {M : Type 1} → statement M
-log-of-spec = tie.close (tie.spec add-result returns returns-2)
+log-of-spec = tie.close (tie.spec (λ c. search needs) returns returns-2)

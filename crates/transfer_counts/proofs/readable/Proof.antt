@@ -1,14 +1,8 @@
 use mathlib.Core.Path.{sym, _∙_}
-use Rattle.rules.specs.Count.{readable}
+use Rattle.rules.specs.TransferCounts.{readable}
 use borrow.Author.Needs.{needs}
 use Rattle.transfer_counts.proofs.readable.Statement.{statement}
 use Rattle.transfer_counts.proofs.readable.Tie as tie
-
-in-words-requires : tie.Need-in-words-requires
-in-words-requires c κs = search needs
-
-count-bytes-requires : tie.Need-count-bytes-requires
-count-bytes-requires c κs = search needs
 
 returns : tie.Need-returns
 unfolding readable
@@ -19,4 +13,4 @@ unfolding readable
 returns-2 c = rw (sym (c .before .before .in-words .ensures) ∙ c .before .if1 .left, c .count-bytes .ensures .0)
 
 pub readable-spec : {M : Type 1} → statement M
-readable-spec = tie.close (tie.spec in-words-requires count-bytes-requires returns returns-2)
+readable-spec = tie.close (tie.spec (λ c κs. search needs) (λ c κs. search needs) returns returns-2)

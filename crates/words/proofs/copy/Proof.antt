@@ -16,38 +16,8 @@ Inv-loop s₀ at from n last i₀ s i = (i ≤ length from) × (s ≡ sets s₀ 
 abbrev μ-loop : tie.MeasureT-loop
 μ-loop s₀ at from n last i₀ s i = length from - i
 
-store-short-requires : tie.Need-store-short-requires Inv-loop μ-loop
-store-short-requires c κs = search needs
-
-same-length : tie.Need-same-length Inv-loop μ-loop
-same-length c = search needs
-
-returns : tie.Need-returns Inv-loop μ-loop
-returns c = search needs
-
 loop-holds : tie.Need-loop-holds Inv-loop μ-loop
 loop-holds c = (omega arith, refl, refl)
-
-add-e : tie.Need-add-e Inv-loop μ-loop
-add-e c = search needs
-
-add-store-run : tie.Need-add-store-run Inv-loop μ-loop
-add-store-run c = search needs
-
-sub-store-run : tie.Need-sub-store-run Inv-loop μ-loop
-sub-store-run c = search needs
-
-part-store-run-start : tie.Need-part-store-run-start Inv-loop μ-loop
-part-store-run-start c = search needs
-
-part-store-run-end : tie.Need-part-store-run-end Inv-loop μ-loop
-part-store-run-end c = search needs
-
-store-run-requires : tie.Need-store-run-requires Inv-loop μ-loop
-store-run-requires c κs = search needs
-
-loop-less : tie.Need-loop-less Inv-loop μ-loop
-loop-less c = search needs
 
 loop-again : tie.Need-loop-again Inv-loop μ-loop
 loop-again c =
@@ -58,24 +28,6 @@ loop-again c =
       run .store-run .ensures ∙ rw (loop .before .loop .inv .1) (sets-run (start .args .s .now) (start .args .from .now) (start .args .at) (loop .before .loop .i) 16 (loop .before .loop .i + 16 - loop .before .loop .i) (omega arith) (omega arith)),
       search needs,
     )
-
-add-store-run-2 : tie.Need-add-store-run-2 Inv-loop μ-loop
-add-store-run-2 c = search needs
-
-sub-store-run-2 : tie.Need-sub-store-run-2 Inv-loop μ-loop
-sub-store-run-2 c = search needs
-
-part-store-run-start-2 : tie.Need-part-store-run-start-2 Inv-loop μ-loop
-part-store-run-start-2 c = search needs
-
-part-store-run-end-2 : tie.Need-part-store-run-end-2 Inv-loop μ-loop
-part-store-run-end-2 c = search needs
-
-store-run-requires-2 : tie.Need-store-run-requires-2 Inv-loop μ-loop
-store-run-requires-2 c κs = search needs
-
-same-length-2 : tie.Need-same-length-2 Inv-loop μ-loop
-same-length-2 c = search needs
 
 returns-2 : tie.Need-returns-2 Inv-loop μ-loop
 returns-2 c =
@@ -93,22 +45,22 @@ copy-spec =
     (tie.spec
     Inv-loop
     μ-loop
-    store-short-requires
-    same-length
-    returns
+    (λ c κs. search needs)
+    (λ c. search needs)
+    (λ c. search needs)
     loop-holds
-    add-e
-    add-store-run
-    sub-store-run
-    part-store-run-start
-    part-store-run-end
-    store-run-requires
-    loop-less
+    (λ c. search needs)
+    (λ c. search needs)
+    (λ c. search needs)
+    (λ c. search needs)
+    (λ c. search needs)
+    (λ c κs. search needs)
+    (λ c. search needs)
     loop-again
-    add-store-run-2
-    sub-store-run-2
-    part-store-run-start-2
-    part-store-run-end-2
-    store-run-requires-2
-    same-length-2
+    (λ c. search needs)
+    (λ c. search needs)
+    (λ c. search needs)
+    (λ c. search needs)
+    (λ c κs. search needs)
+    (λ c. search needs)
     returns-2)

@@ -8,45 +8,6 @@ use Rattle.words.proofs.Parts.{sets-over}
 use Rattle.words.proofs.store_few.Statement.{statement}
 use Rattle.words.proofs.store_few.Tie as tie
 
-store-requires : tie.Need-store-requires
-store-requires c κs = search needs
-
-same-length : tie.Need-same-length
-same-length c = search needs
-
-returns : tie.Need-returns
-returns c = search needs
-
-sub-store-quarter : tie.Need-sub-store-quarter
-sub-store-quarter c = search needs
-
-part-store-quarter-start : tie.Need-part-store-quarter-start
-part-store-quarter-start c = search needs
-
-part-store-quarter-end : tie.Need-part-store-quarter-end
-part-store-quarter-end c = search needs
-
-store-quarter-requires : tie.Need-store-quarter-requires
-store-quarter-requires c κs = search needs
-
-add-store-quarter : tie.Need-add-store-quarter
-add-store-quarter c = search needs
-
-sub-store-quarter-2 : tie.Need-sub-store-quarter-2
-sub-store-quarter-2 c = search needs
-
-part-store-quarter-start-2 : tie.Need-part-store-quarter-start-2
-part-store-quarter-start-2 c = search needs
-
-part-store-quarter-end-2 : tie.Need-part-store-quarter-end-2
-part-store-quarter-end-2 c = search needs
-
-store-quarter-requires-2 : tie.Need-store-quarter-requires-2
-store-quarter-requires-2 c κs = search needs
-
-same-length-2 : tie.Need-same-length-2
-same-length-2 c = search needs
-
 returns-2 : tie.Need-returns-2
 returns-2 c =
     let start : tie.Start = search in
@@ -62,17 +23,17 @@ pub store-few-spec : {M : Type 1} → statement M
 store-few-spec =
     tie.close
     (tie.spec
-    store-requires
-    same-length
-    returns
-    sub-store-quarter
-    part-store-quarter-start
-    part-store-quarter-end
-    store-quarter-requires
-    add-store-quarter
-    sub-store-quarter-2
-    part-store-quarter-start-2
-    part-store-quarter-end-2
-    store-quarter-requires-2
-    same-length-2
+    (λ c κs. search needs)
+    (λ c. search needs)
+    (λ c. search needs)
+    (λ c. search needs)
+    (λ c. search needs)
+    (λ c. search needs)
+    (λ c κs. search needs)
+    (λ c. search needs)
+    (λ c. search needs)
+    (λ c. search needs)
+    (λ c. search needs)
+    (λ c κs. search needs)
+    (λ c. search needs)
     returns-2)

@@ -8,21 +8,6 @@ use Rattle.words.proofs.Parts.{sets-whole}
 use Rattle.words.proofs.store_run.Statement.{statement}
 use Rattle.words.proofs.store_run.Tie as tie
 
-slice-aggregate-store : tie.Need-slice-aggregate-store
-slice-aggregate-store c = search needs
-
-store-requires : tie.Need-store-requires
-store-requires c κs = search needs
-
-slice-aggregate-store-2 : tie.Need-slice-aggregate-store-2
-slice-aggregate-store-2 c = search needs
-
-store-requires-2 : tie.Need-store-requires-2
-store-requires-2 c κs = search needs
-
-same-length : tie.Need-same-length
-same-length c = search needs
-
 returns : tie.Need-returns
 returns c =
     let start : tie.Start = search in
@@ -33,9 +18,9 @@ pub store-run-spec : {M : Type 1} → statement M
 store-run-spec =
     tie.close
     (tie.spec
-    slice-aggregate-store
-    store-requires
-    slice-aggregate-store-2
-    store-requires-2
-    same-length
+    (λ c. search needs)
+    (λ c κs. search needs)
+    (λ c. search needs)
+    (λ c κs. search needs)
+    (λ c. search needs)
     returns)

@@ -98,7 +98,7 @@ impl<'a> Host<'a> {
         };
         let reply = self.library.ask(self.number, &request)?;
         for run in &reply.changes {
-            self.change(run).ok_or("a change is told of bytes that there are not")?;
+            self.change(run).ok_or("a change is reported of bytes that do not exist")?;
         }
         match reply.fault.is_empty() {
             true => Ok(reply),

@@ -72,7 +72,7 @@ fn bytes_that_differ_are_told() {
 #[test]
 fn a_change_where_there_is_no_byte_is_told() {
     for (part, at) in [(0, 3876), (1, 32768), (2, 16640), (2, u64::MAX), (4, 0)] {
-        let outside = "a change is told of bytes that there are not";
+        let outside = "a change is reported of bytes that do not exist";
         assert_eq!(told(&answer("", &[9, 31], &[change(part, at, &[0])])), outside);
     }
 }

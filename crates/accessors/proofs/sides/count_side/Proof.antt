@@ -19,26 +19,8 @@ Inv-loop segment f side i₀ left₀ found₀ i left found =
 abbrev μ-loop : tie.MeasureT-loop
 μ-loop segment f side i₀ left₀ found₀ i left found = left
 
-mul-i : tie.Need-mul-i Inv-loop μ-loop
-mul-i c = search needs
-
 loop-holds : tie.Need-loop-holds Inv-loop μ-loop
 loop-holds c = (omega arith, omega arith, omega arith)
-
-place-side-requires : tie.Need-place-side-requires Inv-loop μ-loop
-place-side-requires c κs = search needs
-
-add-found : tie.Need-add-found Inv-loop μ-loop
-add-found c = search needs
-
-add-i : tie.Need-add-i Inv-loop μ-loop
-add-i c = search needs
-
-sub-left : tie.Need-sub-left Inv-loop μ-loop
-sub-left c = search needs
-
-loop-less : tie.Need-loop-less Inv-loop μ-loop
-loop-less c = search needs
 
 loop-again : tie.Need-loop-again Inv-loop μ-loop
 loop-again c =
@@ -55,12 +37,12 @@ count-side-spec =
     (tie.spec
     Inv-loop
     μ-loop
-    mul-i
+    (λ c. search needs)
     loop-holds
-    place-side-requires
-    add-found
-    add-i
-    sub-left
-    loop-less
+    (λ c κs. search needs)
+    (λ c. search needs)
+    (λ c. search needs)
+    (λ c. search needs)
+    (λ c. search needs)
     loop-again
     returns)

@@ -5,26 +5,8 @@ use borrow.Author.Needs.{needs}
 use Rattle.blocks.proofs.by_file.put_at.Statement.{statement}
 use Rattle.blocks.proofs.by_file.put_at.Tie as tie
 
-mul-a : tie.Need-mul-a
-mul-a c = search needs
-
-add-e : tie.Need-add-e
-add-e c = search needs
-
-sub-put : tie.Need-sub-put
-sub-put c = search needs
-
-part-put-start : tie.Need-part-put-start
-part-put-start c = search needs
-
-part-put-end : tie.Need-part-put-end
-part-put-end c = search needs
-
 put-requires : tie.Need-put-requires
 put-requires c κs = (search needs, rw span (c .before .before .before .pre .1))
-
-same-length : tie.Need-same-length
-same-length c = search needs
 
 returns : tie.Need-returns
 returns c =
@@ -39,4 +21,4 @@ returns c =
 pub put-at-spec : {M : Type 1} → statement M
 put-at-spec =
     tie.close
-    (tie.spec mul-a add-e sub-put part-put-start part-put-end put-requires same-length returns)
+    (tie.spec (λ c. search needs) (λ c. search needs) (λ c. search needs) (λ c. search needs) (λ c. search needs) put-requires (λ c. search needs) returns)

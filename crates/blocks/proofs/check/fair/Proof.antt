@@ -5,47 +5,20 @@ use borrow.Author.Needs.{needs}
 use Rattle.blocks.proofs.check.fair.Statement.{statement}
 use Rattle.blocks.proofs.check.fair.Tie as tie
 
-add-if1 : tie.Need-add-if1
-add-if1 c = search needs
-
 returns : tie.Need-returns
 returns c = unfair _ _ _ _ (λ f. omega (arith, f .room))
-
-get-requires : tie.Need-get-requires
-get-requires c κs = search needs
 
 returns-2 : tie.Need-returns-2
 returns-2 c = unfair _ _ _ _ (λ f. omega (arith, f .low))
 
-mul-if3 : tie.Need-mul-if3
-mul-if3 c = search needs
-
-add-if3 : tie.Need-add-if3
-add-if3 c = search needs
-
 returns-3 : tie.Need-returns-3
 returns-3 c = unfair _ _ _ _ (λ f. omega (arith, f .high))
-
-next-requires : tie.Need-next-requires
-next-requires c κs = search needs
 
 returns-4 : tie.Need-returns-4
 returns-4 c = unfair _ _ _ _ (λ f. omega (arith, f .inside))
 
-add-get : tie.Need-add-get
-add-get c = search needs
-
-get-requires-2 : tie.Need-get-requires-2
-get-requires-2 c κs = search needs
-
 returns-5 : tie.Need-returns-5
 returns-5 c = unfair _ _ _ _ (λ f. omega (arith, f .kind))
-
-add-get-2 : tie.Need-add-get-2
-add-get-2 c = search needs
-
-get-requires-3 : tie.Need-get-requires-3
-get-requires-3 c κs = search needs
 
 returns-6 : tie.Need-returns-6
 returns-6 c = unfair _ _ _ _ (λ f. omega (arith, f .from))
@@ -77,15 +50,6 @@ returns-8 c =
     (c .before .before .before .get3 .ensures) (if1 .left) (if2 .left) (if3 .left) (if4 .left) (if5 .left)
     (c .before .before .if6 .left) (c .before .if7 .left) (c .if8 .taken)
 
-add-result : tie.Need-add-result
-add-result c = search needs
-
-cast-result : tie.Need-cast-result
-cast-result c = search needs
-
-add-result-2 : tie.Need-add-result-2
-add-result-2 c = search needs
-
 shared-slice-read-result : tie.Need-shared-slice-read-result
 unfolding next
 shared-slice-read-result c =
@@ -111,25 +75,25 @@ pub fair-spec : {M : Type 1} → statement M
 fair-spec =
     tie.close
     (tie.spec
-    add-if1
+    (λ c. search needs)
     returns
-    get-requires
+    (λ c κs. search needs)
     returns-2
-    mul-if3
-    add-if3
+    (λ c. search needs)
+    (λ c. search needs)
     returns-3
-    next-requires
+    (λ c κs. search needs)
     returns-4
-    add-get
-    get-requires-2
+    (λ c. search needs)
+    (λ c κs. search needs)
     returns-5
-    add-get-2
-    get-requires-3
+    (λ c. search needs)
+    (λ c κs. search needs)
     returns-6
     returns-7
     returns-8
-    add-result
-    cast-result
-    add-result-2
+    (λ c. search needs)
+    (λ c. search needs)
+    (λ c. search needs)
     shared-slice-read-result
     returns-9)

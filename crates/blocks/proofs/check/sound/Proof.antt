@@ -8,9 +8,6 @@ returns : tie.Need-returns
 unfolding sound
 returns c = rw (le-ltb _ _ (c .if1 .taken), sound)
 
-begun-requires : tie.Need-begun-requires
-begun-requires c κs = search needs
-
 returns-2 : tie.Need-returns-2
 unfolding sound
 returns-2 c =
@@ -20,9 +17,6 @@ returns-2 c =
       not-true (c .before .begun .result) (c .if2 .taken),
       sound,
     )
-
-sweep-requires : tie.Need-sweep-requires
-sweep-requires c κs = search needs
 
 returns-3 : tie.Need-returns-3
 unfolding sound
@@ -35,4 +29,4 @@ returns-3 c =
     ) (c .sweep .ensures)
 
 pub sound-spec : {M : Type 1} → statement M
-sound-spec = tie.close (tie.spec returns begun-requires returns-2 sweep-requires returns-3)
+sound-spec = tie.close (tie.spec returns (λ c κs. search needs) returns-2 (λ c κs. search needs) returns-3)

@@ -20,29 +20,11 @@ Inv-loop share ring words block₀ n₀ left₀ block n left =
 abbrev μ-loop : tie.MeasureT-loop
 μ-loop share ring words block₀ n₀ left₀ block n left = n
 
-cast-left : tie.Need-cast-left Inv-loop μ-loop
-cast-left c = search needs
-
-cast-left-2 : tie.Need-cast-left-2 Inv-loop μ-loop
-cast-left-2 c = search needs
-
-add-left : tie.Need-add-left Inv-loop μ-loop
-add-left c = search needs
-
 loop-holds : tie.Need-loop-holds Inv-loop μ-loop
 loop-holds c = (refl, search needs, search needs)
 
 returns : tie.Need-returns Inv-loop μ-loop
 returns c = sym (c .before .before .loop .inv .0 ∙ sweep-done _ _ _ _ _ (c .if1 .taken))
-
-least-requires : tie.Need-least-requires Inv-loop μ-loop
-least-requires c κs = search needs
-
-block-span-requires : tie.Need-block-span-requires Inv-loop μ-loop
-block-span-requires c κs = search needs
-
-holds-requires : tie.Need-holds-requires Inv-loop μ-loop
-holds-requires c κs = search needs
 
 returns-2 : tie.Need-returns-2 Inv-loop μ-loop
 returns-2 c =
@@ -54,24 +36,6 @@ returns-2 c =
     ∙ sweep-bad _ _ _ _ _ _ _ (loop-test .taken) (if1 .left) (loop .inv .1)
     (c .before .before .block-span .ensures .0) (c .before .before .before .least .ensures)
     (sym (c .before .holds .ensures) ∙ not-true _ (c .if2 .taken)))
-
-add-wrapped : tie.Need-add-wrapped Inv-loop μ-loop
-add-wrapped c = search needs
-
-wrapped-requires : tie.Need-wrapped-requires Inv-loop μ-loop
-wrapped-requires c κs = search needs
-
-cast-left-3 : tie.Need-cast-left-3 Inv-loop μ-loop
-cast-left-3 c = search needs
-
-sub-left : tie.Need-sub-left Inv-loop μ-loop
-sub-left c = search needs
-
-sub-n : tie.Need-sub-n Inv-loop μ-loop
-sub-n c = search needs
-
-loop-less : tie.Need-loop-less Inv-loop μ-loop
-loop-less c = search needs
 
 loop-again : tie.Need-loop-again Inv-loop μ-loop
 loop-again c =
@@ -96,20 +60,20 @@ sweep-spec =
     (tie.spec
     Inv-loop
     μ-loop
-    cast-left
-    cast-left-2
-    add-left
+    (λ c. search needs)
+    (λ c. search needs)
+    (λ c. search needs)
     loop-holds
     returns
-    least-requires
-    block-span-requires
-    holds-requires
+    (λ c κs. search needs)
+    (λ c κs. search needs)
+    (λ c κs. search needs)
     returns-2
-    add-wrapped
-    wrapped-requires
-    cast-left-3
-    sub-left
-    sub-n
-    loop-less
+    (λ c. search needs)
+    (λ c κs. search needs)
+    (λ c. search needs)
+    (λ c. search needs)
+    (λ c. search needs)
+    (λ c. search needs)
     loop-again
     returns-3)

@@ -18,24 +18,6 @@ abbrev μ-loop : tie.MeasureT-loop
 loop-holds : tie.Need-loop-holds Inv-loop μ-loop
 loop-holds c = (refl, search needs)
 
-whole-requires : tie.Need-whole-requires Inv-loop μ-loop
-whole-requires c κs = search needs
-
-mul-p : tie.Need-mul-p Inv-loop μ-loop
-mul-p c = search needs
-
-add-p : tie.Need-add-p Inv-loop μ-loop
-add-p c = search needs
-
-add-p-2 : tie.Need-add-p-2 Inv-loop μ-loop
-add-p-2 c = search needs
-
-sub-left : tie.Need-sub-left Inv-loop μ-loop
-sub-left c = search needs
-
-loop-less : tie.Need-loop-less Inv-loop μ-loop
-loop-less c = search needs
-
 loop-again : tie.Need-loop-again Inv-loop μ-loop
 loop-again c =
     let w = c .before .whole .ensures (c .if1 .taken) in (
@@ -43,9 +25,6 @@ loop-again c =
           ∙ walk-step _ _ _ _ _ _ _ (c .before .before .loop-test .taken) (w .0) (sym (w .1)),
       w .2,
     )
-
-fair-requires : tie.Need-fair-requires Inv-loop μ-loop
-fair-requires c κs = search needs
 
 returns : tie.Need-returns Inv-loop μ-loop
 returns c =
@@ -58,12 +37,6 @@ returns c =
 next-requires : tie.Need-next-requires Inv-loop μ-loop
 next-requires c κs = let f = fair-says _ _ _ _ (sym (c .before .fair .ensures) ∙ not-false _ (c .if2 .left)) in search needs
 
-sub-left-2 : tie.Need-sub-left-2 Inv-loop μ-loop
-sub-left-2 c = search needs
-
-loop-less-2 : tie.Need-loop-less-2 Inv-loop μ-loop
-loop-less-2 c = search needs
-
 loop-again-2 : tie.Need-loop-again-2 Inv-loop μ-loop
 loop-again-2 c =
     let here : tie.In-loop Inv-loop μ-loop = search in let loop-test = here .loop-test in
@@ -75,12 +48,6 @@ loop-again-2 c =
 
 returns-2 : tie.Need-returns-2 Inv-loop μ-loop
 returns-2 c = sym (c .before .before .loop .inv .0 ∙ walk-off _ _ _ _ _ _ (c .before .loop-test .left) (c .if3 .taken))
-
-sub-quiet : tie.Need-sub-quiet Inv-loop μ-loop
-sub-quiet c = search needs
-
-quiet-requires : tie.Need-quiet-requires Inv-loop μ-loop
-quiet-requires c κs = search needs
 
 returns-3 : tie.Need-returns-3 Inv-loop μ-loop
 returns-3 c =
@@ -96,20 +63,20 @@ walk-spec =
     Inv-loop
     μ-loop
     loop-holds
-    whole-requires
-    mul-p
-    add-p
-    add-p-2
-    sub-left
-    loop-less
+    (λ c κs. search needs)
+    (λ c. search needs)
+    (λ c. search needs)
+    (λ c. search needs)
+    (λ c. search needs)
+    (λ c. search needs)
     loop-again
-    fair-requires
+    (λ c κs. search needs)
     returns
     next-requires
-    sub-left-2
-    loop-less-2
+    (λ c. search needs)
+    (λ c. search needs)
     loop-again-2
     returns-2
-    sub-quiet
-    quiet-requires
+    (λ c. search needs)
+    (λ c κs. search needs)
     returns-3)

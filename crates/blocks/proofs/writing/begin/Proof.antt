@@ -6,27 +6,6 @@ use Rattle.blocks.proofs.writing.begin.Tie as tie
 returns : tie.Need-returns
 returns c = begun-before _ _ _ _ (c .if1 .taken)
 
-put-requires : tie.Need-put-requires
-put-requires c κs = search needs
-
-add-put : tie.Need-add-put
-add-put c = search needs
-
-put-requires-2 : tie.Need-put-requires-2
-put-requires-2 c κs = search needs
-
-add-zero : tie.Need-add-zero
-add-zero c = search needs
-
-sub-zero : tie.Need-sub-zero
-sub-zero c = search needs
-
-zero-requires : tie.Need-zero-requires
-zero-requires c κs = search needs
-
-same-length : tie.Need-same-length
-same-length c = search needs
-
 returns-2 : tie.Need-returns-2
 returns-2 c =
     let here : tie.After-put2 = search in let put2 = here .put2 in
@@ -39,11 +18,11 @@ begin-spec =
     tie.close
     (tie.spec
     returns
-    put-requires
-    add-put
-    put-requires-2
-    add-zero
-    sub-zero
-    zero-requires
-    same-length
+    (λ c κs. search needs)
+    (λ c. search needs)
+    (λ c κs. search needs)
+    (λ c. search needs)
+    (λ c. search needs)
+    (λ c κs. search needs)
+    (λ c. search needs)
     returns-2)

@@ -8,15 +8,9 @@ returns : tie.Need-returns
 unfolding pad
 returns c = simp (eq-eqb _ _ (c .if1 .taken))
 
-slice-write-room : tie.Need-slice-write-room
-slice-write-room c = search needs
-
-same-length : tie.Need-same-length
-same-length c = search needs
-
 returns-2 : tie.Need-returns-2
 unfolding pad
 returns-2 c = simp (ne-eqb _ _ (c .if1 .left))
 
 pub pad-record-spec : {M : Type 1} → statement M
-pad-record-spec = tie.close (tie.spec returns slice-write-room same-length returns-2)
+pad-record-spec = tie.close (tie.spec returns (λ c. search needs) (λ c. search needs) returns-2)

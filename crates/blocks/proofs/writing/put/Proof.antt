@@ -3,15 +3,6 @@ use borrow.Author.Needs.{needs}
 use Rattle.blocks.proofs.writing.put.Statement.{statement}
 use Rattle.blocks.proofs.writing.put.Tie as tie
 
-tail-requires : tie.Need-tail-requires
-tail-requires c κs = search needs
-
-block-span-requires : tie.Need-block-span-requires
-block-span-requires c κs = search needs
-
-begin-requires : tie.Need-begin-requires
-begin-requires c κs = search needs
-
 add-requires : tie.Need-add-requires
 add-requires c κs =
     let here : tie.After-block-span = search in let block-span = here .block-span in
@@ -21,12 +12,6 @@ add-requires c κs =
       tail-roomy _ _ _ _ _ _ (tail .ensures .0) (block-span .ensures .0)
           (c .before .before .before .begin .ensures) _ (start .pre .1 .roomy),
     )
-
-put-requires : tie.Need-put-requires
-put-requires c κs = search needs
-
-same-length : tie.Need-same-length
-same-length c = search needs
 
 returns : tie.Need-returns
 returns c =
@@ -42,10 +27,10 @@ pub put-spec : {M : Type 1} → statement M
 put-spec =
     tie.close
     (tie.spec
-    tail-requires
-    block-span-requires
-    begin-requires
+    (λ c κs. search needs)
+    (λ c κs. search needs)
+    (λ c κs. search needs)
     add-requires
-    put-requires
-    same-length
+    (λ c κs. search needs)
+    (λ c. search needs)
     returns)

@@ -4,21 +4,12 @@ use borrow.Author.Needs.{needs}
 use Rattle.board.proofs.outstanding.first_at.Statement.{statement}
 use Rattle.board.proofs.outstanding.first_at.Tie as tie
 
-get-requires : tie.Need-get-requires
-get-requires c κs = search needs
-
 returns : tie.Need-returns
 unfolding firstIn
 returns c =
     let got : tie.After-get = search in
     let one : tie.Then1 = search in
     rw (← got .get .ensures, le-ltb _ _ (one .if1 .taken))
-
-entry-place-requires : tie.Need-entry-place-requires
-entry-place-requires c κs = search needs
-
-cast-if2 : tie.Need-cast-if2
-cast-if2 c = search needs
 
 returns-2 : tie.Need-returns-2
 unfolding firstIn
@@ -40,4 +31,4 @@ returns-3 c =
 
 pub first-at-spec : {M : Type 1} → statement M
 first-at-spec =
-    tie.close (tie.spec get-requires returns entry-place-requires cast-if2 returns-2 returns-3)
+    tie.close (tie.spec (λ c κs. search needs) returns (λ c κs. search needs) (λ c. search needs) returns-2 returns-3)

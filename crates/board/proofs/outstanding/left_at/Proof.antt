@@ -4,15 +4,6 @@ use borrow.Author.Needs.{needs}
 use Rattle.board.proofs.outstanding.left_at.Statement.{statement}
 use Rattle.board.proofs.outstanding.left_at.Tie as tie
 
-cast-seek-place : tie.Need-cast-seek-place
-cast-seek-place c = search needs
-
-seek-place-requires : tie.Need-seek-place-requires
-seek-place-requires c κs = search needs
-
-get-requires : tie.Need-get-requires
-get-requires c κs = search needs
-
 returns : tie.Need-returns
 unfolding leftIn
 returns c =
@@ -20,9 +11,6 @@ returns c =
     let got : tie.After-get = search in
     let one : tie.Then1 = search in
     rw (← sought .seek-place .ensures .0, ← got .get .ensures, le-ltb _ _ (one .if1 .taken))
-
-entry-seconds-requires : tie.Need-entry-seconds-requires
-entry-seconds-requires c κs = search needs
 
 returns-2 : tie.Need-returns-2
 unfolding leftIn
@@ -37,9 +25,9 @@ pub left-at-spec : {M : Type 1} → statement M
 left-at-spec =
     tie.close
     (tie.spec
-    cast-seek-place
-    seek-place-requires
-    get-requires
+    (λ c. search needs)
+    (λ c κs. search needs)
+    (λ c κs. search needs)
     returns
-    entry-seconds-requires
+    (λ c κs. search needs)
     returns-2)

@@ -4,24 +4,6 @@ use borrow.Author.Needs.{needs}
 use Rattle.board.proofs.outstanding.request_at.Statement.{statement}
 use Rattle.board.proofs.outstanding.request_at.Tie as tie
 
-mul-place : tie.Need-mul-place
-mul-place c = search needs
-
-add-place : tie.Need-add-place
-add-place c = search needs
-
-add-get : tie.Need-add-get
-add-get c = search needs
-
-get-requires : tie.Need-get-requires
-get-requires c κs = search needs
-
-read-entry-requires : tie.Need-read-entry-requires
-read-entry-requires c κs = search needs
-
-completed-requires : tie.Need-completed-requires
-completed-requires c κs = search needs
-
 returns : tie.Need-returns
 unfolding requestAt
 returns c =
@@ -30,12 +12,6 @@ returns c =
     let read : tie.After-read-entry = search in
     let end : tie.After-completed = search in
     rw (← got .get .ensures, lt-ltb _ _ (one .if1 .taken), ← read .read-entry .ensures, ← end .completed .ensures)
-
-queue-of-requires : tie.Need-queue-of-requires
-queue-of-requires c κs = search needs
-
-waiting-requires : tie.Need-waiting-requires
-waiting-requires c κs = search needs
 
 returns-2 : tie.Need-returns-2
 unfolding requestAt
@@ -50,13 +26,13 @@ pub request-at-spec : {M : Type 1} → statement M
 request-at-spec =
     tie.close
     (tie.spec
-    mul-place
-    add-place
-    add-get
-    get-requires
-    read-entry-requires
-    completed-requires
+    (λ c. search needs)
+    (λ c. search needs)
+    (λ c. search needs)
+    (λ c κs. search needs)
+    (λ c κs. search needs)
+    (λ c κs. search needs)
     returns
-    queue-of-requires
-    waiting-requires
+    (λ c κs. search needs)
+    (λ c κs. search needs)
     returns-2)

@@ -4,15 +4,6 @@ use borrow.Author.Needs.{needs}
 use Rattle.board.proofs.outstanding.waiting.Statement.{statement}
 use Rattle.board.proofs.outstanding.waiting.Tie as tie
 
-cast-seek-place : tie.Need-cast-seek-place
-cast-seek-place c = search needs
-
-seek-place-requires : tie.Need-seek-place-requires
-seek-place-requires c κs = search needs
-
-get-requires : tie.Need-get-requires
-get-requires c κs = search needs
-
 returns : tie.Need-returns
 unfolding waitingIn
 returns c =
@@ -20,15 +11,6 @@ returns c =
     let got : tie.After-get = search in
     let one : tie.Then1 = search in
     rw (← sought .seek-place .ensures .0, ← got .get .ensures, le-ltb _ _ (one .if1 .taken))
-
-read-entry-requires : tie.Need-read-entry-requires
-read-entry-requires c κs = search needs
-
-left-at-requires : tie.Need-left-at-requires
-left-at-requires c κs = search needs
-
-first-at-requires : tie.Need-first-at-requires
-first-at-requires c κs = search needs
 
 returns-2 : tie.Need-returns-2
 unfolding waitingIn
@@ -58,12 +40,12 @@ pub waiting-spec : {M : Type 1} → statement M
 waiting-spec =
     tie.close
     (tie.spec
-    cast-seek-place
-    seek-place-requires
-    get-requires
+    (λ c. search needs)
+    (λ c κs. search needs)
+    (λ c κs. search needs)
     returns
-    read-entry-requires
-    left-at-requires
-    first-at-requires
+    (λ c κs. search needs)
+    (λ c κs. search needs)
+    (λ c κs. search needs)
     returns-2
     returns-3)

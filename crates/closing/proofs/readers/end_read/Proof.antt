@@ -6,14 +6,16 @@ use Rattle.closing.proofs.readers.end_read.Statement.{statement}
 use Rattle.closing.proofs.readers.end_read.Tie as tie
 
 complete-requires : tie.Need-complete-requires
-complete-requires c κs = search needs
-
-same-length : tie.Need-same-length
-same-length c = search needs
+complete-requires c κs =
+    let start : tie.Start = search in
+    let done : tie.After-completed-request = search in
+    (start .pre .0, (start .pre .1, rw (done .completed-request .ensures) (start .pre .2), start .pre .3))
 
 returns : tie.Need-returns
 unfolding entryWords endWords
-returns c = c .before .before .complete .ensures
+returns c =
+    let done : tie.After-completed-request = search in
+    rw (done .completed-request .ensures) at (c .before .before .complete .ensures)
 
 pub end-read-spec : {M : Type 1} → statement M
-end-read-spec = tie.close (tie.spec complete-requires same-length returns)
+end-read-spec = tie.close (tie.spec (λ c κs. search needs) complete-requires (λ c. search needs) returns)

@@ -44,9 +44,6 @@ pass-requires c κs =
     walked-stops _ _ _ _ _ (loop .inv .0) (start .pre) _ (c .before .before .get .ensures)
     (omega (arith, c .before .if1 .left))
 
-sub-left : tie.Need-sub-left Inv-loop μ-loop
-sub-left c = search needs
-
 loop-less : tie.Need-loop-less Inv-loop μ-loop
 loop-less c =
     let here : tie.In-loop Inv-loop μ-loop = search in let loop-test = here .loop-test in
@@ -78,7 +75,7 @@ end-readers-spec =
     same-length
     returns
     pass-requires
-    sub-left
+    (λ c. search needs)
     loop-less
     loop-again
     same-length-2

@@ -13,9 +13,6 @@ has-writer-requires c κs =
 end-readers-requires : tie.Need-end-readers-requires
 end-readers-requires c κs = let start : tie.Start = search in start .pre
 
-same-length : tie.Need-same-length
-same-length c = search needs
-
 returns : tie.Need-returns
 returns c =
     let here : tie.Then1 = search in let if1 = here .if1 in
@@ -24,13 +21,10 @@ returns c =
     last-ends M _ (has-writer .ensures) (not-true _ (if1 .taken)) _
     (c .before .before .end-readers .ensures n blocks buffers x o b M)
 
-same-length-2 : tie.Need-same-length-2
-same-length-2 c = search needs
-
 returns-2 : tie.Need-returns-2
 returns-2 c = λ n blocks buffers x o b M. last-not M _ (c .before .has-writer .ensures) (not-false _ (c .if1 .left))
 
 pub last-gone-spec : {M : Type 1} → statement M
 last-gone-spec =
     tie.close
-    (tie.spec has-writer-requires end-readers-requires same-length returns same-length-2 returns-2)
+    (tie.spec has-writer-requires end-readers-requires (λ c. search needs) returns (λ c. search needs) returns-2)

@@ -7,9 +7,6 @@ use Rattle.closing.proofs.readers.pass.Tie as tie
 entry-place-requires : tie.Need-entry-place-requires
 entry-place-requires c κs = (stop-size _ _ _ (c .before .before .pre) .0, c .before .before .pre .2)
 
-cast-read-place : tie.Need-cast-read-place
-cast-read-place c = search needs
-
 read-place-requires : tie.Need-read-place-requires
 read-place-requires c κs =
     let start : tie.Start = search in
@@ -17,9 +14,6 @@ read-place-requires c κs =
 
 link-at-requires : tie.Need-link-at-requires
 link-at-requires c κs = let start : tie.Start = search in start .pre .2
-
-same-length : tie.Need-same-length
-same-length c = search needs
 
 returns : tie.Need-returns
 returns c =
@@ -36,9 +30,6 @@ end-read-requires c κs =
     let size = stop-size _ _ _ (start .pre) in
     (size .0, size .1, stop-place _ _ _ _ (entry-place .ensures) (start .pre), rw (← start .pre .1) (start .pre .2))
 
-same-length-2 : tie.Need-same-length-2
-same-length-2 c = search needs
-
 returns-2 : tie.Need-returns-2
 returns-2 c =
     let here : tie.Else1 = search in let if1 = here .if1 in
@@ -54,11 +45,11 @@ pass-spec =
     tie.close
     (tie.spec
     entry-place-requires
-    cast-read-place
+    (λ c. search needs)
     read-place-requires
     link-at-requires
-    same-length
+    (λ c. search needs)
     returns
     end-read-requires
-    same-length-2
+    (λ c. search needs)
     returns-2)

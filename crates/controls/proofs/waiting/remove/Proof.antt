@@ -14,40 +14,10 @@ get2-queue c = get2-sought c .before
 abbrev get2-none : tie.After-get2 → tie.Else1
 get2-none c = get2-queue c .before .before
 
-mul-place : tie.Need-mul-place
-mul-place c = search needs
-
-add-place : tie.Need-add-place
-add-place c = search needs
-
-add-get : tie.Need-add-get
-add-get c = search needs
-
-get-requires : tie.Need-get-requires
-get-requires c κs = search needs
-
-same-length : tie.Need-same-length
-same-length c = search needs
-
 returns : tie.Need-returns
 returns c =
     let port : tie.After-get = search in
     completed-stays _ _ _ _ _ _ (port .get .ensures) (c .if1 .taken)
-
-queue-of-requires : tie.Need-queue-of-requires
-queue-of-requires c κs = search needs
-
-cast-seek-place : tie.Need-cast-seek-place
-cast-seek-place c = search needs
-
-seek-place-requires : tie.Need-seek-place-requires
-seek-place-requires c κs = search needs
-
-get-requires-2 : tie.Need-get-requires-2
-get-requires-2 c κs = search needs
-
-same-length-2 : tie.Need-same-length-2
-same-length-2 c = search needs
 
 returns-2 : tie.Need-returns-2
 returns-2 c =
@@ -57,15 +27,6 @@ returns-2 c =
     let sought : tie.After-seek-place = search in
     let there : tie.After-get2 = search in
     absent-stays _ _ _ _ _ _ (port .get .ensures) (none .if1 .left) _ _ _ (queue .queue-of .ensures .0) (sought .seek-place .ensures .0) (there .get2 .ensures) (c .if2 .taken)
-
-take-away-requires : tie.Need-take-away-requires
-take-away-requires c κs = search needs
-
-same-length-3 : tie.Need-same-length-3
-same-length-3 c = search needs
-
-same-length-4 : tie.Need-same-length-4
-same-length-4 c = search needs
 
 returns-3 : tie.Need-returns-3
 returns-3 c =
@@ -83,19 +44,19 @@ pub remove-spec : {M : Type 1} → statement M
 remove-spec =
     tie.close
     (tie.spec
-    mul-place
-    add-place
-    add-get
-    get-requires
-    same-length
+    (λ c. search needs)
+    (λ c. search needs)
+    (λ c. search needs)
+    (λ c κs. search needs)
+    (λ c. search needs)
     returns
-    queue-of-requires
-    cast-seek-place
-    seek-place-requires
-    get-requires-2
-    same-length-2
+    (λ c κs. search needs)
+    (λ c. search needs)
+    (λ c κs. search needs)
+    (λ c κs. search needs)
+    (λ c. search needs)
     returns-2
-    take-away-requires
-    same-length-3
-    same-length-4
+    (λ c κs. search needs)
+    (λ c. search needs)
+    (λ c. search needs)
     returns-3)

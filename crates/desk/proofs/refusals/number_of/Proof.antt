@@ -5,21 +5,6 @@ use borrow.Author.Needs.{needs}
 use Rattle.desk.proofs.refusals.number_of.Statement.{statement}
 use Rattle.desk.proofs.refusals.number_of.Tie as tie
 
-enum-known-said : tie.Need-enum-known-said
-enum-known-said c = search needs
-
-judge-requires : tie.Need-judge-requires
-judge-requires c κs = search needs
-
-enum-known-said-2 : tie.Need-enum-known-said-2
-enum-known-said-2 c = search needs
-
-judge-code-requires : tie.Need-judge-code-requires
-judge-code-requires c κs = search needs
-
-enum-told : tie.Need-enum-told
-enum-told c = search needs
-
 returns : tie.Need-returns
 returns c =
     let here : tie.After-judge = search in let judge = here .judge in
@@ -39,4 +24,4 @@ returns-3 c = rw (c .enum-told .given .1) (λ t. shape-number _)
 pub number-of-spec : {M : Type 1} → statement M
 number-of-spec =
     tie.close
-    (tie.spec enum-known-said judge-requires enum-known-said-2 judge-code-requires enum-told returns returns-2 returns-3)
+    (tie.spec (λ c. search needs) (λ c κs. search needs) (λ c. search needs) (λ c κs. search needs) (λ c. search needs) returns returns-2 returns-3)

@@ -4,15 +4,9 @@ use borrow.Author.Needs.{needs}
 use Rattle.desk.proofs.refusals.status.Statement.{statement}
 use Rattle.desk.proofs.refusals.status.Tie as tie
 
-encode-requires : tie.Need-encode-requires
-encode-requires c κs = search needs
-
-same-length : tie.Need-same-length
-same-length c = search needs
-
 returns : tie.Need-returns
 unfolding answerBytes
 returns c = record { bytes = c .before .before .encode .ensures .1 .0; size = c .before .before .encode .ensures .0 }
 
 pub status-spec : {M : Type 1} → statement M
-status-spec = tie.close (tie.spec encode-requires same-length returns)
+status-spec = tie.close (tie.spec (λ c κs. search needs) (λ c. search needs) returns)

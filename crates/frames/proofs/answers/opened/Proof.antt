@@ -12,12 +12,6 @@ use Rattle.frames.proofs.answers.opened.Lts as lts
 use Rattle.frames.proofs.answers.status.Reads as status-reads
 use Rattle.words.proofs.put.Reads as put-reads
 
-status-requires : tie.Need-status-requires
-status-requires c κs = search needs
-
-slice-write-out : tie.Need-slice-write-out
-slice-write-out c = search needs
-
 put-requires : tie.Need-put-requires
 put-requires c κs = simp length-set (omega arith)
 
@@ -37,4 +31,4 @@ returns : tie.Need-returns
 returns c = (refl, stored c)
 
 pub opened-spec : {M : Type 1} → statement M
-opened-spec = tie.close (tie.spec status-requires slice-write-out put-requires same-length returns)
+opened-spec = tie.close (tie.spec (λ c κs. search needs) (λ c. search needs) put-requires same-length returns)

@@ -4,21 +4,6 @@ use borrow.Author.Needs.{needs}
 use Rattle.frames.proofs.decoding.build_frame.Statement.{statement}
 use Rattle.frames.proofs.decoding.build_frame.Tie as tie
 
-shared-slice-read-t6 : tie.Need-shared-slice-read-t6
-shared-slice-read-t6 c = search needs
-
-get-requires : tie.Need-get-requires
-get-requires c κs = search needs
-
-shared-slice-read-t9 : tie.Need-shared-slice-read-t9
-shared-slice-read-t9 c = search needs
-
-get-requires-2 : tie.Need-get-requires-2
-get-requires-2 c κs = search needs
-
-shared-slice-read-t12 : tie.Need-shared-slice-read-t12
-shared-slice-read-t12 c = search needs
-
 returns : tie.Need-returns
 unfolding frameOf sized
 returns c =
@@ -34,10 +19,10 @@ pub build-frame-spec : {M : Type 1} → statement M
 build-frame-spec =
     tie.close
     (tie.spec
-    shared-slice-read-t6
-    get-requires
-    shared-slice-read-t9
-    get-requires-2
-    shared-slice-read-t12
+    (λ c. search needs)
+    (λ c κs. search needs)
+    (λ c. search needs)
+    (λ c κs. search needs)
+    (λ c. search needs)
     returns
     returns-2)

@@ -4,12 +4,6 @@ use borrow.Author.Needs.{needs}
 use Rattle.frames.proofs.decoding.close_frame.Statement.{statement}
 use Rattle.frames.proofs.decoding.close_frame.Tie as tie
 
-shared-slice-read-t6 : tie.Need-shared-slice-read-t6
-shared-slice-read-t6 c = search needs
-
-shared-slice-read-t8 : tie.Need-shared-slice-read-t8
-shared-slice-read-t8 c = search needs
-
 returns : tie.Need-returns
 unfolding frameOf sized
 returns c = rw (c .before .before .before .pre, eq-eqb _ 3 (c .before .before .if1 .taken))
@@ -19,4 +13,4 @@ unfolding frameOf sized
 returns-2 c = rw (c .before .pre, ne-eqb _ 3 (c .if1 .left))
 
 pub close-frame-spec : {M : Type 1} → statement M
-close-frame-spec = tie.close (tie.spec shared-slice-read-t6 shared-slice-read-t8 returns returns-2)
+close-frame-spec = tie.close (tie.spec (λ c. search needs) (λ c. search needs) returns returns-2)

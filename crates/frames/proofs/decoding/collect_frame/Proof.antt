@@ -4,12 +4,6 @@ use borrow.Author.Needs.{needs}
 use Rattle.frames.proofs.decoding.collect_frame.Statement.{statement}
 use Rattle.frames.proofs.decoding.collect_frame.Tie as tie
 
-shared-slice-read-t6 : tie.Need-shared-slice-read-t6
-shared-slice-read-t6 c = search needs
-
-shared-slice-read-t8 : tie.Need-shared-slice-read-t8
-shared-slice-read-t8 c = search needs
-
 returns : tie.Need-returns
 unfolding frameOf sized
 returns c = rw (c .before .before .before .pre, eq-eqb _ 3 (c .before .before .if1 .taken))
@@ -20,4 +14,4 @@ returns-2 c = rw (c .before .pre, ne-eqb _ 3 (c .if1 .left))
 
 pub collect-frame-spec : {M : Type 1} → statement M
 collect-frame-spec =
-    tie.close (tie.spec shared-slice-read-t6 shared-slice-read-t8 returns returns-2)
+    tie.close (tie.spec (λ c. search needs) (λ c. search needs) returns returns-2)

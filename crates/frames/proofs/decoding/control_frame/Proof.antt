@@ -4,21 +4,6 @@ use borrow.Author.Needs.{needs}
 use Rattle.frames.proofs.decoding.control_frame.Statement.{statement}
 use Rattle.frames.proofs.decoding.control_frame.Tie as tie
 
-shared-slice-read-control-code : tie.Need-shared-slice-read-control-code
-shared-slice-read-control-code c = search needs
-
-shared-slice-read-control-code-2 : tie.Need-shared-slice-read-control-code-2
-shared-slice-read-control-code-2 c = search needs
-
-shared-slice-read-control-code-3 : tie.Need-shared-slice-read-control-code-3
-shared-slice-read-control-code-3 c = search needs
-
-get-requires : tie.Need-get-requires
-get-requires c κs = search needs
-
-control-code-requires : tie.Need-control-code-requires
-control-code-requires c κs = search needs
-
 returns : tie.Need-returns
 unfolding frameOf sized
 returns c =
@@ -34,10 +19,10 @@ pub control-frame-spec : {M : Type 1} → statement M
 control-frame-spec =
     tie.close
     (tie.spec
-    shared-slice-read-control-code
-    shared-slice-read-control-code-2
-    shared-slice-read-control-code-3
-    get-requires
-    control-code-requires
+    (λ c. search needs)
+    (λ c. search needs)
+    (λ c. search needs)
+    (λ c κs. search needs)
+    (λ c κs. search needs)
     returns
     returns-2)

@@ -4,9 +4,6 @@ use borrow.Author.Needs.{needs}
 use Rattle.frames.proofs.decoding.counts_frame.Statement.{statement}
 use Rattle.frames.proofs.decoding.counts_frame.Tie as tie
 
-shared-slice-read-t6 : tie.Need-shared-slice-read-t6
-shared-slice-read-t6 c = search needs
-
 returns : tie.Need-returns
 unfolding frameOf sized
 returns c = rw (c .before .before .pre, eq-eqb _ 2 (c .before .if1 .taken))
@@ -16,4 +13,4 @@ unfolding frameOf sized
 returns-2 c = rw (c .before .pre, ne-eqb _ 2 (c .if1 .left))
 
 pub counts-frame-spec : {M : Type 1} → statement M
-counts-frame-spec = tie.close (tie.spec shared-slice-read-t6 returns returns-2)
+counts-frame-spec = tie.close (tie.spec (λ c. search needs) returns returns-2)

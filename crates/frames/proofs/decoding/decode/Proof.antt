@@ -9,9 +9,6 @@ returns : tie.Need-returns
 unfolding frameOf
 returns c = rw (first-none (c .before .before .args .frame .now) (c .if1 .taken))
 
-shared-slice-read-operation : tie.Need-shared-slice-read-operation
-shared-slice-read-operation c = search needs
-
 build-frame-requires : tie.Need-build-frame-requires
 build-frame-requires c κs = c .match .keys1
 
@@ -87,7 +84,7 @@ decode-spec =
     tie.close
     (tie.spec
     returns
-    shared-slice-read-operation
+    (λ c. search needs)
     build-frame-requires
     open-frame-requires
     read-frame-requires

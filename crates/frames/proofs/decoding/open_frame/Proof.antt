@@ -4,18 +4,6 @@ use borrow.Author.Needs.{needs}
 use Rattle.frames.proofs.decoding.open_frame.Statement.{statement}
 use Rattle.frames.proofs.decoding.open_frame.Tie as tie
 
-shared-slice-read-t6 : tie.Need-shared-slice-read-t6
-shared-slice-read-t6 c = search needs
-
-shared-slice-read-t8 : tie.Need-shared-slice-read-t8
-shared-slice-read-t8 c = search needs
-
-shared-slice-read-t10 : tie.Need-shared-slice-read-t10
-shared-slice-read-t10 c = search needs
-
-shared-slice-read-t12 : tie.Need-shared-slice-read-t12
-shared-slice-read-t12 c = search needs
-
 returns : tie.Need-returns
 unfolding frameOf sized
 returns c =
@@ -31,9 +19,9 @@ pub open-frame-spec : {M : Type 1} → statement M
 open-frame-spec =
     tie.close
     (tie.spec
-    shared-slice-read-t6
-    shared-slice-read-t8
-    shared-slice-read-t10
-    shared-slice-read-t12
+    (λ c. search needs)
+    (λ c. search needs)
+    (λ c. search needs)
+    (λ c. search needs)
     returns
     returns-2)

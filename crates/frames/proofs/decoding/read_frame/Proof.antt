@@ -4,15 +4,6 @@ use borrow.Author.Needs.{needs}
 use Rattle.frames.proofs.decoding.read_frame.Statement.{statement}
 use Rattle.frames.proofs.decoding.read_frame.Tie as tie
 
-shared-slice-read-t6 : tie.Need-shared-slice-read-t6
-shared-slice-read-t6 c = search needs
-
-shared-slice-read-t8 : tie.Need-shared-slice-read-t8
-shared-slice-read-t8 c = search needs
-
-get-requires : tie.Need-get-requires
-get-requires c κs = search needs
-
 returns : tie.Need-returns
 unfolding frameOf sized
 returns c =
@@ -25,4 +16,4 @@ returns-2 c = rw (c .before .before .pre, ne-eqb _ 5 (c .if1 .left))
 
 pub read-frame-spec : {M : Type 1} → statement M
 read-frame-spec =
-    tie.close (tie.spec shared-slice-read-t6 shared-slice-read-t8 get-requires returns returns-2)
+    tie.close (tie.spec (λ c. search needs) (λ c. search needs) (λ c κs. search needs) returns returns-2)

@@ -3,7 +3,7 @@ use mathlib.Core.Path.{_≡_, ap, sym, _∙_}
 use native.Mathlib.Omega.{arith}
 use lib.ListN.{length}
 use Rattle.words.specs.Word.{wordAt}
-use Rattle.rules.specs.Count.{countBytes}
+use Rattle.rules.specs.TransferCounts.{countBytes}
 use borrow.Author.Tests.{eq-eqb, ne-eqb}
 use Rattle.rules.specs.Frames.{sized, frameOf}
 use borrow.Author.Needs.{needs}
@@ -15,24 +15,6 @@ unfolding frameOf sized
 returns c =
     let fr = c .before .before .args .frame .now in
     rw (c .before .before .pre, ne-eqb (length fr) (5 + countBytes (wordAt fr 3)) (λ q. omega arith))
-
-get-requires : tie.Need-get-requires
-get-requires c κs = search needs
-
-count-bytes-requires : tie.Need-count-bytes-requires
-count-bytes-requires c κs = search needs
-
-cast-if2 : tie.Need-cast-if2
-cast-if2 c = search needs
-
-add-if2 : tie.Need-add-if2
-add-if2 c = search needs
-
-shared-slice-read-t10 : tie.Need-shared-slice-read-t10
-shared-slice-read-t10 c = search needs
-
-shared-slice-read-t12 : tie.Need-shared-slice-read-t12
-shared-slice-read-t12 c = search needs
 
 returns-2 : tie.Need-returns-2
 unfolding frameOf sized
@@ -62,11 +44,11 @@ write-frame-spec =
     tie.close
     (tie.spec
     returns
-    get-requires
-    count-bytes-requires
-    cast-if2
-    add-if2
-    shared-slice-read-t10
-    shared-slice-read-t12
+    (λ c κs. search needs)
+    (λ c κs. search needs)
+    (λ c. search needs)
+    (λ c. search needs)
+    (λ c. search needs)
+    (λ c. search needs)
     returns-2
     returns-3)

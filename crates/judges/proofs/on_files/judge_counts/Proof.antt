@@ -1,11 +1,11 @@
 -- `on_files::judge_counts` meets its contract: an answer to each need, in the order of the code.
-use Rattle.judges.proofs.Refused.{stood-size}
+use Rattle.judges.proofs.Refused.{sound-size}
 use Rattle.judges.proofs.Files.{counts-unbuilt, counts-built}
 use Rattle.judges.proofs.on_files.judge_counts.Statement.{statement}
 use Rattle.judges.proofs.on_files.judge_counts.Tie as tie
 
 words-of-requires : tie.Need-words-of-requires
-words-of-requires c κs = stood-size _ (c .before .pre)
+words-of-requires c κs = sound-size _ (c .before .pre)
 
 returns : tie.Need-returns
 returns c = counts-unbuilt _ _ _ (c .before .words-of .ensures) (c .if1 .taken)

@@ -3,17 +3,14 @@ use mathlib.Core.Path.{sym}
 use mathlib.Core.Bool.{and-false}
 use borrow.Author.Needs.{needs}
 use Rattle.accessors.specs.Sides.{purgesAt}
-use Rattle.judges.proofs.Refused.{stood-size}
+use Rattle.judges.proofs.Refused.{sound-size}
 use Rattle.accessors.proofs.Names.{words-low}
 use Rattle.judges.proofs.Files.{open-unbuilt, open-built}
 use Rattle.judges.proofs.on_files.judge_open.Statement.{statement}
 use Rattle.judges.proofs.on_files.judge_open.Tie as tie
 
 words-of-requires : tie.Need-words-of-requires
-words-of-requires c κs = stood-size _ (c .before .pre)
-
-plain-requires : tie.Need-plain-requires
-plain-requires c κs = search needs
+words-of-requires c κs = sound-size _ (c .before .pre)
 
 returns : tie.Need-returns
 returns c = (
@@ -22,7 +19,7 @@ returns c = (
 )
 
 open-refusal-requires : tie.Need-open-refusal-requires
-open-refusal-requires c κs = (stood-size _ (c .before .before .before .pre), words-low _ _ _ (c .before .words-of .ensures) (c .if1 .left))
+open-refusal-requires c κs = (sound-size _ (c .before .before .before .pre), words-low _ _ _ (c .before .words-of .ensures) (c .if1 .left))
 
 returns-2 : tie.Need-returns-2
 returns-2 c = (
@@ -31,4 +28,4 @@ returns-2 c = (
 )
 
 pub judge-open-spec : {M : Type 1} → statement M
-judge-open-spec = tie.close (tie.spec words-of-requires plain-requires returns open-refusal-requires returns-2)
+judge-open-spec = tie.close (tie.spec words-of-requires (λ c κs. search needs) returns open-refusal-requires returns-2)

@@ -10,11 +10,8 @@ returns : tie.Need-returns
 unfolding crowded
 returns c = λ b S. rw (le-ltb _ _ (c .if1 .taken))
 
-count-side-requires : tie.Need-count-side-requires
-count-side-requires c κs = search needs
-
 returns-2 : tie.Need-returns-2
 returns-2 c = λ b S. together.crowds-readers _ _ b S _ _ (c .before .if1 .left) (c .count-side .ensures .0)
 
 pub crowds-readers-spec : {M : Type 1} → statement M
-crowds-readers-spec = tie.close (tie.spec returns count-side-requires returns-2)
+crowds-readers-spec = tie.close (tie.spec returns (λ c κs. search needs) returns-2)

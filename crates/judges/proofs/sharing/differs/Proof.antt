@@ -5,9 +5,6 @@ use borrow.Author.Needs.{needs}
 use Rattle.judges.proofs.sharing.differs.Statement.{statement}
 use Rattle.judges.proofs.sharing.differs.Tie as tie
 
-read-place-requires : tie.Need-read-place-requires
-read-place-requires c κs = search needs
-
 returns : tie.Need-returns
 unfolding differs
 returns c = rw (← c .before .before .read-place .ensures, eq-eqb _ _ (c .if1 .taken))
@@ -17,4 +14,4 @@ unfolding differs
 returns-2 c = rw (← c .before .before .before .read-place .ensures, ne-eqb _ _ (c .before .if1 .left))
 
 pub differs-spec : {M : Type 1} → statement M
-differs-spec = tie.close (tie.spec read-place-requires returns returns-2)
+differs-spec = tie.close (tie.spec (λ c κs. search needs) returns returns-2)

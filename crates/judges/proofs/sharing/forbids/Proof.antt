@@ -7,20 +7,11 @@ use Rattle.judges.proofs.sharing.forbids.Tie as tie
 returns : tie.Need-returns
 returns c = λ b S. together.forbids-multi _ _ b S _ _ _ (c .if1 .taken)
 
-sharing-of-requires : tie.Need-sharing-of-requires
-sharing-of-requires c κs = search needs
-
-others-requires : tie.Need-others-requires
-others-requires c κs = search needs
-
 returns-2 : tie.Need-returns-2
 returns-2 c =
     λ b S.
     together.forbids-other _ _ b S _ _ _ _ (c .before .before .before .if1 .left)
     (c .before .before .sharing-of .ensures) _ (c .before .others .ensures) (c .if2 .taken)
-
-crowds-requires : tie.Need-crowds-requires
-crowds-requires c κs = search needs
 
 returns-3 : tie.Need-returns-3
 returns-3 c =
@@ -32,4 +23,4 @@ returns-3 c =
 pub forbids-spec : {M : Type 1} → statement M
 forbids-spec =
     tie.close
-    (tie.spec returns sharing-of-requires others-requires returns-2 crowds-requires returns-3)
+    (tie.spec returns (λ c κs. search needs) (λ c κs. search needs) returns-2 (λ c κs. search needs) returns-3)

@@ -9,24 +9,6 @@ use borrow.Author.Needs.{needs}
 use Rattle.judges.proofs.sharing.has_room.Statement.{statement}
 use Rattle.judges.proofs.sharing.has_room.Tie as tie
 
-used-after-requires : tie.Need-used-after-requires
-used-after-requires c κs = search needs
-
-read-file-requires : tie.Need-read-file-requires
-read-file-requires c κs = search needs
-
-add-result : tie.Need-add-result
-add-result c = search needs
-
-add-result-2 : tie.Need-add-result-2
-add-result-2 c = search needs
-
-cast-result : tie.Need-cast-result
-cast-result c = search needs
-
-cast-result-2 : tie.Need-cast-result-2
-cast-result-2 c = search needs
-
 mul-result : tie.Need-mul-result
 mul-result c =
     let k = product-most (c .before .before .read-file .result .factor)
@@ -48,11 +30,11 @@ pub has-room-spec : {M : Type 1} → statement M
 has-room-spec =
     tie.close
     (tie.spec
-    used-after-requires
-    read-file-requires
-    add-result
-    add-result-2
-    cast-result
-    cast-result-2
+    (λ c κs. search needs)
+    (λ c κs. search needs)
+    (λ c. search needs)
+    (λ c. search needs)
+    (λ c. search needs)
+    (λ c. search needs)
     mul-result
     returns)

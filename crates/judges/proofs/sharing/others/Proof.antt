@@ -17,14 +17,8 @@ Inv-loop segment f share i₀ left₀ i left =
 abbrev μ-loop : tie.MeasureT-loop
 μ-loop segment f share i₀ left₀ i left = left
 
-mul-i : tie.Need-mul-i Inv-loop μ-loop
-mul-i c = search needs
-
 loop-holds : tie.Need-loop-holds Inv-loop μ-loop
 loop-holds c = (refl, refl)
-
-differs-requires : tie.Need-differs-requires Inv-loop μ-loop
-differs-requires c κs = search needs
 
 returns : tie.Need-returns Inv-loop μ-loop
 returns c =
@@ -32,15 +26,6 @@ returns c =
     (c .before .before .before .loop .inv .0
     ∙ others-here _ _ _ _ (c .before .before .loop-test .taken)
     (sym (c .before .differs .ensures) ∙ c .if1 .taken))
-
-add-i : tie.Need-add-i Inv-loop μ-loop
-add-i c = search needs
-
-sub-left : tie.Need-sub-left Inv-loop μ-loop
-sub-left c = search needs
-
-loop-less : tie.Need-loop-less Inv-loop μ-loop
-loop-less c = search needs
 
 loop-again : tie.Need-loop-again Inv-loop μ-loop
 loop-again c = (
@@ -59,12 +44,12 @@ others-spec =
     (tie.spec
     Inv-loop
     μ-loop
-    mul-i
+    (λ c. search needs)
     loop-holds
-    differs-requires
+    (λ c κs. search needs)
     returns
-    add-i
-    sub-left
-    loop-less
+    (λ c. search needs)
+    (λ c. search needs)
+    (λ c. search needs)
     loop-again
     returns-2)

@@ -10,18 +10,6 @@ use Rattle.judges.proofs.sharing.used_after.Tie as tie
 returns : tie.Need-returns
 returns c = (λ b S access k. sym (together.used-purged _ _ b S access (sym k ∙ c .if1 .taken)), search needs)
 
-read-file-requires : tie.Need-read-file-requires
-read-file-requires c κs = search needs
-
-cast-result : tie.Need-cast-result
-cast-result c = search needs
-
-cast-result-2 : tie.Need-cast-result-2
-cast-result-2 c = search needs
-
-add-result : tie.Need-add-result
-add-result c = search needs
-
 returns-2 : tie.Need-returns-2
 returns-2 c = (
   λ b S access k.
@@ -35,8 +23,8 @@ used-after-spec =
     tie.close
     (tie.spec
     returns
-    read-file-requires
-    cast-result
-    cast-result-2
-    add-result
+    (λ c κs. search needs)
+    (λ c. search needs)
+    (λ c. search needs)
+    (λ c. search needs)
     returns-2)

@@ -7,12 +7,6 @@ use Rattle.looking.proofs.finding.find.Tie as tie
 accessor-of-requires : tie.Need-accessor-of-requires
 accessor-of-requires c κs = c .before .before .pre .1 .2 .stands .segment .size
 
-enum-known-named : tie.Need-enum-known-named
-enum-known-named c = search needs
-
-enum-known-named-2 : tie.Need-enum-known-named-2
-enum-known-named-2 c = search needs
-
 of-accessor-requires : tie.Need-of-accessor-requires
 of-accessor-requires c κs =
     let start : tie.Start = search in
@@ -30,8 +24,8 @@ find-spec =
     tie.close
     (tie.spec
     accessor-of-requires
-    enum-known-named
-    enum-known-named-2
+    (λ c. search needs)
+    (λ c. search needs)
     of-accessor-requires
     returns
     returns-2)

@@ -9,24 +9,15 @@ use Rattle.looking.proofs.finding.of_accessor.Tie as tie
 returns : tie.Need-returns
 returns c = writer-finds (c .before .before .before .pre) (c .if1 .taken)
 
-enum-told : tie.Need-enum-told
-enum-told c = search needs
-
 of-file-requires : tie.Need-of-file-requires
 of-file-requires c κs =
     let start : tie.Start = search in
     reader-file (start .pre) (c .before .before .if1 .left)
 
-enum-told-2 : tie.Need-enum-told-2
-enum-told-2 c = search needs
-
 of-file-requires-2 : tie.Need-of-file-requires-2
 of-file-requires-2 c κs =
     let start : tie.Start = search in
     reader-file (start .pre) (c .before .before .if1 .left)
-
-enum-told-3 : tie.Need-enum-told-3
-enum-told-3 c = search needs
 
 of-completed-requires : tie.Need-of-completed-requires
 of-completed-requires c κs =
@@ -53,11 +44,11 @@ of-accessor-spec =
     tie.close
     (tie.spec
     returns
-    enum-told
+    (λ c. search needs)
     of-file-requires
-    enum-told-2
+    (λ c. search needs)
     of-file-requires-2
-    enum-told-3
+    (λ c. search needs)
     of-completed-requires
     returns-2
     returns-3

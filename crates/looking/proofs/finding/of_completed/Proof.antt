@@ -54,9 +54,6 @@ mul-t8 c =
     let fit = reader-fit (start .pre .1) (start .pre .2) in
     record { fits = omega (arith, fit .file, fit .place) }
 
-cast-t10 : tie.Need-cast-t10
-cast-t10 c = search needs
-
 returns-2 : tie.Need-returns-2
 unfolding placeOf
 returns-2 c =
@@ -77,5 +74,5 @@ of-completed-spec =
     of-file-requires
     returns
     mul-t8
-    cast-t10
+    (λ c. search needs)
     returns-2)

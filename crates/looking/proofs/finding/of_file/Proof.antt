@@ -5,25 +5,13 @@ use borrow.Author.Needs.{needs}
 use Rattle.looking.proofs.finding.of_file.Statement.{statement}
 use Rattle.looking.proofs.finding.of_file.Tie as tie
 
-take-file-requires : tie.Need-take-file-requires
-take-file-requires c κs = search needs
-
-share-requires : tie.Need-share-requires
-share-requires c κs = search needs
-
 oldest-requires : tie.Need-oldest-requires
 oldest-requires c κs =
     let start : tie.Start = search in
     file-asks _ _ _ _ _ (c .before .take-file .ensures) (c .share .ensures) (start .pre)
 
-enum-known-found : tie.Need-enum-known-found
-enum-known-found c = search needs
-
 header-requires : tie.Need-header-requires
 header-requires c κs = c .before .before .before .oldest .ensures .1 _ (c .before .found .given .1)
-
-mul-t10 : tie.Need-mul-t10
-mul-t10 c = search needs
 
 add-t11 : tie.Need-add-t11
 add-t11 c =
@@ -55,12 +43,6 @@ add-t12 c =
       );
     }
 
-cast-t13 : tie.Need-cast-t13
-cast-t13 c = search needs
-
-enum-told : tie.Need-enum-told
-enum-told c = search needs
-
 returns : tie.Need-returns
 returns c =
     let here : tie.After-oldest = search in let oldest = here .oldest in
@@ -82,15 +64,15 @@ pub of-file-spec : {M : Type 1} → statement M
 of-file-spec =
     tie.close
     (tie.spec
-    take-file-requires
-    share-requires
+    (λ c κs. search needs)
+    (λ c κs. search needs)
     oldest-requires
-    enum-known-found
+    (λ c. search needs)
     header-requires
-    mul-t10
+    (λ c. search needs)
     add-t11
     add-t12
-    cast-t13
-    enum-told
+    (λ c. search needs)
+    (λ c. search needs)
     returns
     returns-2)

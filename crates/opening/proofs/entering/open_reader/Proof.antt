@@ -21,8 +21,8 @@ enter-requires c κs =
     let (hf, b, e, k) = start .pre .1 d s S in
     (each-sizes (start .pre) .0, hf, place-low S _ hf b e _ (c .before .before .before .free-place .ensures .0) k)
 
-rest-requires : tie.Need-rest-requires
-rest-requires c κs =
+conclude-requires : tie.Need-conclude-requires
+conclude-requires c κs =
     let here : tie.After-enter = search in let enter = here .enter in
     let here : tie.After-take-file = search in let take-file = here .take-file in
     let here : tie.After-free-place = search in let free-place = here .free-place in
@@ -31,18 +31,9 @@ rest-requires c κs =
     let (hf, b, e, k) = start .pre .1 d s S in
     (_, _, reader-in S _ hf b e _ _ _ _ k (free-place .ensures .0) (take-file .ensures) (enter .ensures))
 
-same-length : tie.Need-same-length
-same-length c = search needs
-
-same-length-2 : tie.Need-same-length-2
-same-length-2 c = search needs
-
-same-length-3 : tie.Need-same-length-3
-same-length-3 c = search needs
-
 returns : tie.Need-returns
 returns c =
-    let here : tie.After-rest = search in let rest = here .rest in
+    let here : tie.After-conclude = search in let conclude = here .conclude in
     let here : tie.After-enter = search in let enter = here .enter in
     let here : tie.After-take-file = search in let take-file = here .take-file in
     let here : tie.After-free-place = search in let free-place = here .free-place in
@@ -50,7 +41,7 @@ returns c =
     λ d s b S e.
     let (hf, k) = each-at (start .pre .1) d s b S e in
     reader-done S _ hf b e _ _ _ (free-place .ensures .0)
-    (rest .ensures _ _
+    (conclude .ensures _ _
     (reader-in S _ hf b e _ _ _ _ k (free-place .ensures .0) (take-file .ensures) (enter .ensures))
     (S .stands .bodies))
 
@@ -61,8 +52,8 @@ open-reader-spec =
     free-place-requires
     take-file-requires
     enter-requires
-    rest-requires
-    same-length
-    same-length-2
-    same-length-3
+    conclude-requires
+    (λ c. search needs)
+    (λ c. search needs)
+    (λ c. search needs)
     returns)

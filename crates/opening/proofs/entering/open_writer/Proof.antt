@@ -23,9 +23,6 @@ take-requires c κs =
     let (hf, b, e, k) = each d s S in
     (each-sizes ((d, s, S), each) .0, hf, row-ranged S _ hf b e)
 
-slice-aggregate-put : tie.Need-slice-aggregate-put
-slice-aggregate-put c = search needs
-
 put-requires : tie.Need-put-requires
 put-requires c κs =
     let start : tie.Start = search in
@@ -41,8 +38,8 @@ enter-requires c κs =
     let (hf, b, e, k) = each d s S in
     (each-sizes ((d, s, S), each) .0, hf, place-low S _ hf b e _ (free-place .ensures .0) (k .0))
 
-rest-requires : tie.Need-rest-requires
-rest-requires c κs =
+conclude-requires : tie.Need-conclude-requires
+conclude-requires c κs =
     let here : tie.After-enter = search in let enter = here .enter in
     let here : tie.After-put = search in let put = here .put in
     let here : tie.After-take = search in let take = here .take in
@@ -57,18 +54,9 @@ rest-requires c κs =
           (put .ensures .1 .1) (enter .ensures),
     )
 
-same-length : tie.Need-same-length
-same-length c = search needs
-
-same-length-2 : tie.Need-same-length-2
-same-length-2 c = search needs
-
-same-length-3 : tie.Need-same-length-3
-same-length-3 c = search needs
-
 returns : tie.Need-returns
 returns c =
-    let here : tie.After-rest = search in let rest = here .rest in
+    let here : tie.After-conclude = search in let conclude = here .conclude in
     let here : tie.After-enter = search in let enter = here .enter in
     let here : tie.After-put = search in let put = here .put in
     let here : tie.After-take = search in let take = here .take in
@@ -77,7 +65,7 @@ returns c =
     λ access (known, each) d s b S e.
     let (hf, k) = each-at each d s b S e in
     writer-done S _ hf b e access _ (take .ensures access known) _ _ _ _ (free-place .ensures .0) (free-id .ensures)
-    (rest .ensures _ _
+    (conclude .ensures _ _
     (writer-in S _ hf b e access _ (take .ensures access known) _ _ _ _ _ _ k (free-place .ensures .0) (free-id .ensures)
     (put .ensures .1 .1) (enter .ensures)) (S .stands .bodies))
 
@@ -88,11 +76,11 @@ open-writer-spec =
     free-place-requires
     free-id-requires
     take-requires
-    slice-aggregate-put
+    (λ c. search needs)
     put-requires
     enter-requires
-    rest-requires
-    same-length
-    same-length-2
-    same-length-3
+    conclude-requires
+    (λ c. search needs)
+    (λ c. search needs)
+    (λ c. search needs)
     returns)

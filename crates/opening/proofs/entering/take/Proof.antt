@@ -8,9 +8,6 @@ use borrow.Author.Needs.{needs}
 use Rattle.opening.proofs.entering.take.Statement.{statement}
 use Rattle.opening.proofs.entering.take.Tie as tie
 
-take-file-requires : tie.Need-take-file-requires
-take-file-requires c κs = search needs
-
 returns : tie.Need-returns
 returns c = λ access k. taken-plain _ _ access _ k _ (c .before .take-file .ensures) (not-true _ (c .if1 .taken))
 
@@ -28,4 +25,4 @@ returns-2 c =
     taken-purged _ _ access _ k _ (here .take-file .ensures) (not-false _ (else1 .if1 .left)) _ (c .purge .ensures .1)
 
 pub take-spec : {M : Type 1} → statement M
-take-spec = tie.close (tie.spec take-file-requires returns purge-requires returns-2)
+take-spec = tie.close (tie.spec (λ c κs. search needs) returns purge-requires returns-2)

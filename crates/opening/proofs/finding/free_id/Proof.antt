@@ -19,24 +19,12 @@ abbrev μ-loop : tie.MeasureT-loop
 loop-holds : tie.Need-loop-holds Inv-loop μ-loop
 loop-holds c = (refl, omega arith)
 
-id-held-requires : tie.Need-id-held-requires Inv-loop μ-loop
-id-held-requires c κs = search needs
-
 returns : tie.Need-returns Inv-loop μ-loop
 returns c =
     sym
     (c .before .before .before .loop .inv .0
     ∙ id-here _ _ _ _ (c .before .id-held .ensures) _ (c .before .before .loop-test .taken)
     (not-true _ (c .if1 .taken)))
-
-add-id : tie.Need-add-id Inv-loop μ-loop
-add-id c = search needs
-
-sub-left : tie.Need-sub-left Inv-loop μ-loop
-sub-left c = search needs
-
-loop-less : tie.Need-loop-less Inv-loop μ-loop
-loop-less c = search needs
 
 loop-again : tie.Need-loop-again Inv-loop μ-loop
 loop-again c = (
@@ -56,10 +44,10 @@ free-id-spec =
     Inv-loop
     μ-loop
     loop-holds
-    id-held-requires
+    (λ c κs. search needs)
     returns
-    add-id
-    sub-left
-    loop-less
+    (λ c. search needs)
+    (λ c. search needs)
+    (λ c. search needs)
     loop-again
     returns-2)

@@ -18,14 +18,8 @@ Inv-loop segment f place₀ i₀ left₀ place i left =
 abbrev μ-loop : tie.MeasureT-loop
 μ-loop segment f place₀ i₀ left₀ place i left = left
 
-mul-i : tie.Need-mul-i Inv-loop μ-loop
-mul-i c = search needs
-
 loop-holds : tie.Need-loop-holds Inv-loop μ-loop
 loop-holds c = (omega arith, omega arith, omega arith)
-
-place-side-requires : tie.Need-place-side-requires Inv-loop μ-loop
-place-side-requires c κs = search needs
 
 returns : tie.Need-returns Inv-loop μ-loop
 returns c = (
@@ -35,18 +29,6 @@ returns c = (
       (c .if1 .taken)),
   omega arith,
 )
-
-add-place : tie.Need-add-place Inv-loop μ-loop
-add-place c = search needs
-
-add-i : tie.Need-add-i Inv-loop μ-loop
-add-i c = search needs
-
-sub-left : tie.Need-sub-left Inv-loop μ-loop
-sub-left c = search needs
-
-loop-less : tie.Need-loop-less Inv-loop μ-loop
-loop-less c = search needs
 
 loop-again : tie.Need-loop-again Inv-loop μ-loop
 loop-again c = (
@@ -65,13 +47,13 @@ free-place-spec =
     (tie.spec
     Inv-loop
     μ-loop
-    mul-i
+    (λ c. search needs)
     loop-holds
-    place-side-requires
+    (λ c κs. search needs)
     returns
-    add-place
-    add-i
-    sub-left
-    loop-less
+    (λ c. search needs)
+    (λ c. search needs)
+    (λ c. search needs)
+    (λ c. search needs)
     loop-again
     returns-2)

@@ -15,17 +15,8 @@ Inv-loop segment f id i₀ left₀ i left = (idHeld segment f id ≡ heldFrom se
 abbrev μ-loop : tie.MeasureT-loop
 μ-loop segment f id i₀ left₀ i left = left
 
-mul-i : tie.Need-mul-i Inv-loop μ-loop
-mul-i c = search needs
-
 loop-holds : tie.Need-loop-holds Inv-loop μ-loop
 loop-holds c = (refl, omega arith)
-
-read-place-requires : tie.Need-read-place-requires Inv-loop μ-loop
-read-place-requires c κs = search needs
-
-row-holds-requires : tie.Need-row-holds-requires Inv-loop μ-loop
-row-holds-requires c κs = search needs
 
 returns : tie.Need-returns Inv-loop μ-loop
 returns c =
@@ -34,15 +25,6 @@ returns c =
     (loop .inv .0
     ∙ held-here _ _ _ _ _ (c .before .before .read-place .ensures) (c .before .row-holds .ensures) _
     (c .before .before .before .loop-test .taken) (c .if1 .taken))
-
-add-i : tie.Need-add-i Inv-loop μ-loop
-add-i c = search needs
-
-sub-left : tie.Need-sub-left Inv-loop μ-loop
-sub-left c = search needs
-
-loop-less : tie.Need-loop-less Inv-loop μ-loop
-loop-less c = search needs
 
 loop-again : tie.Need-loop-again Inv-loop μ-loop
 loop-again c =
@@ -62,13 +44,13 @@ id-held-spec =
     (tie.spec
     Inv-loop
     μ-loop
-    mul-i
+    (λ c. search needs)
     loop-holds
-    read-place-requires
-    row-holds-requires
+    (λ c κs. search needs)
+    (λ c κs. search needs)
     returns
-    add-i
-    sub-left
-    loop-less
+    (λ c. search needs)
+    (λ c. search needs)
+    (λ c. search needs)
     loop-again
     returns-2)

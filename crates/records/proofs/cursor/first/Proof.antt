@@ -21,18 +21,6 @@ full-requires c κs =
     let long = held-long _ _ _ (start .pre) in
     (search needs, long)
 
-mul-each : tie.Need-mul-each
-mul-each c = search needs
-
-add-each : tie.Need-add-each
-add-each c = search needs
-
-add-t8 : tie.Need-add-t8
-add-t8 c = search needs
-
-cast-t9 : tie.Need-cast-t9
-cast-t9 c = search needs
-
 mul-t10 : tie.Need-mul-t10
 mul-t10 c =
     let start : tie.Start = search in
@@ -52,9 +40,6 @@ returns c =
     let asked : tie.After-full = search in
     let then : tie.Then1 = search in
     (refl, stands-full _ _ _ (start .pre) _ (block .block-span .ensures .0) (eqb-true _ _ (sym (asked .full .ensures) ∙ then .if1 .taken)) _ refl)
-
-add-skip : tie.Need-add-skip
-add-skip c = search needs
 
 skip-requires : tie.Need-skip-requires
 skip-requires c κs =
@@ -77,13 +62,13 @@ first-spec =
     (tie.spec
     block-span-requires
     full-requires
-    mul-each
-    add-each
-    add-t8
-    cast-t9
+    (λ c. search needs)
+    (λ c. search needs)
+    (λ c. search needs)
+    (λ c. search needs)
     mul-t10
     add-t11
     returns
-    add-skip
+    (λ c. search needs)
     skip-requires
     returns-2)

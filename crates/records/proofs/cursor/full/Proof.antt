@@ -5,27 +5,6 @@ use borrow.Author.Needs.{needs}
 use Rattle.records.proofs.cursor.full.Statement.{statement}
 use Rattle.records.proofs.cursor.full.Tie as tie
 
-get-requires : tie.Need-get-requires
-get-requires c κs = search needs
-
-cast-count : tie.Need-cast-count
-cast-count c = search needs
-
-add-get : tie.Need-add-get
-add-get c = search needs
-
-get-requires-2 : tie.Need-get-requires-2
-get-requires-2 c κs = search needs
-
-cast-used : tie.Need-cast-used
-cast-used c = search needs
-
-cast-result : tie.Need-cast-result
-cast-result c = search needs
-
-add-result : tie.Need-add-result
-add-result c = search needs
-
 bound : (c : tie.After-get2) → c .before .get .result * (c .before .before .before .args .words + 3) ≤ 65535 * (c .before .before .before .args .words + 3)
 bound c = mul-le-mul-right (c .before .before .before .args .words + 3) (omega arith)
 
@@ -42,13 +21,13 @@ pub full-spec : {M : Type 1} → statement M
 full-spec =
     tie.close
     (tie.spec
-    get-requires
-    cast-count
-    add-get
-    get-requires-2
-    cast-used
-    cast-result
-    add-result
+    (λ c κs. search needs)
+    (λ c. search needs)
+    (λ c. search needs)
+    (λ c κs. search needs)
+    (λ c. search needs)
+    (λ c. search needs)
+    (λ c. search needs)
     mul-result
     add-result-2
     returns)

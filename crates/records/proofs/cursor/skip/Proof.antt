@@ -32,12 +32,6 @@ next-requires c κs =
     let e = start .pre .1 in
     omega (arith, under c (e .0) (e .2))
 
-sub-left : tie.Need-sub-left Inv-loop μ-loop
-sub-left c = search needs
-
-loop-less : tie.Need-loop-less Inv-loop μ-loop
-loop-less c = search needs
-
 loop-again : tie.Need-loop-again Inv-loop μ-loop
 loop-again c = let start : tie.Start Inv-loop μ-loop = search in (
   λ e h. c .before .before .loop .inv .0 e h ∙ skip-step _ _ _ _ _ (c .before .loop-test .taken) (under (c .before) e h) (c .next .ensures .0),
@@ -56,7 +50,7 @@ skip-spec =
     μ-loop
     loop-holds
     next-requires
-    sub-left
-    loop-less
+    (λ c. search needs)
+    (λ c. search needs)
     loop-again
     returns)

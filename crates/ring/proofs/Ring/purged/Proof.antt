@@ -3,23 +3,8 @@ use borrow.Author.Needs.{needs}
 use Rattle.ring.proofs.Ring.purged.Statement.{statement}
 use Rattle.ring.proofs.Ring.purged.Tie as tie
 
-tail-requires : tie.Need-tail-requires
-tail-requires c κs = search needs
-
-at-requires : tie.Need-at-requires
-at-requires c κs = search needs
-
 returns : tie.Need-returns
 returns c = purged-start _ _ _ (c .before .before .before .tail .ensures .0) (c .before .if1 .taken) (c .at .ensures)
-
-add-wrapped : tie.Need-add-wrapped
-add-wrapped c = search needs
-
-wrapped-requires : tie.Need-wrapped-requires
-wrapped-requires c κs = search needs
-
-at-requires-2 : tie.Need-at-requires-2
-at-requires-2 c κs = search needs
 
 returns-2 : tie.Need-returns-2
 returns-2 c =
@@ -31,10 +16,10 @@ pub purged-spec : {M : Type 1} → statement M
 purged-spec =
     tie.close
     (tie.spec
-    tail-requires
-    at-requires
+    (λ c κs. search needs)
+    (λ c κs. search needs)
     returns
-    add-wrapped
-    wrapped-requires
-    at-requires-2
+    (λ c. search needs)
+    (λ c κs. search needs)
+    (λ c κs. search needs)
     returns-2)

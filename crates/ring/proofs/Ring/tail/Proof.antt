@@ -4,15 +4,9 @@ use borrow.Author.Needs.{needs}
 use Rattle.ring.proofs.Ring.tail.Statement.{statement}
 use Rattle.ring.proofs.Ring.tail.Tie as tie
 
-used-requires : tie.Need-used-requires
-used-requires c κs = search needs
-
-place-requires : tie.Need-place-requires
-place-requires c κs = search needs
-
 returns : tie.Need-returns
 unfolding tail
 returns c = (c .place .ensures .0 ∙ ap (place _) (c .before .used .ensures), c .place .ensures .1)
 
 pub tail-spec : {M : Type 1} → statement M
-tail-spec = tie.close (tie.spec used-requires place-requires returns)
+tail-spec = tie.close (tie.spec (λ c κs. search needs) (λ c κs. search needs) returns)

@@ -3,12 +3,6 @@ use borrow.Author.Needs.{needs}
 use Rattle.saving.proofs.writing.write_sheet.Statement.{statement}
 use Rattle.saving.proofs.writing.write_sheet.Tie as tie
 
-head-frame-requires : tie.Need-head-frame-requires
-head-frame-requires c κs = search needs
-
-slice-aggregate-line : tie.Need-slice-aggregate-line
-slice-aggregate-line c = search needs
-
 line-requires : tie.Need-line-requires
 line-requires c κs =
     let start : tie.Start = search in
@@ -24,9 +18,6 @@ write-records-requires c κs =
           (c .before .before .before .line .ensures .0) (c .before .before .before .line .ensures .1),
     )
 
-same-length : tie.Need-same-length
-same-length c = search needs
-
 returns : tie.Need-returns
 returns c =
     let here : tie.After-line = search in let line = here .line in
@@ -39,9 +30,9 @@ pub write-sheet-spec : {M : Type 1} → statement M
 write-sheet-spec =
     tie.close
     (tie.spec
-    head-frame-requires
-    slice-aggregate-line
+    (λ c κs. search needs)
+    (λ c. search needs)
     line-requires
     write-records-requires
-    same-length
+    (λ c. search needs)
     returns)

@@ -6,33 +6,6 @@ use Rattle.serving.proofs.Keeps.{line-kept}
 use Rattle.serving.proofs.feeding.feed_byte.Statement.{statement}
 use Rattle.serving.proofs.feeding.feed_byte.Tie as tie
 
-sub-answer-line : tie.Need-sub-answer-line
-sub-answer-line c = search needs
-
-part-answer-line-start : tie.Need-part-answer-line-start
-part-answer-line-start c = search needs
-
-part-answer-line-end : tie.Need-part-answer-line-end
-part-answer-line-end c = search needs
-
-answer-line-requires : tie.Need-answer-line-requires
-answer-line-requires c κs = search needs
-
-same-length : tie.Need-same-length
-same-length c = search needs
-
-same-length-2 : tie.Need-same-length-2
-same-length-2 c = search needs
-
-same-length-3 : tie.Need-same-length-3
-same-length-3 c = search needs
-
-same-length-4 : tie.Need-same-length-4
-same-length-4 c = search needs
-
-same-length-5 : tie.Need-same-length-5
-same-length-5 c = search needs
-
 returns : tie.Need-returns
 returns c =
     let here : tie.After-answer-line = search in let answer-line = here .answer-line in
@@ -49,12 +22,6 @@ returns c =
       ),
     )
 
-keep-requires : tie.Need-keep-requires
-keep-requires c κs = search needs
-
-same-length-6 : tie.Need-same-length-6
-same-length-6 c = search needs
-
 returns-2 : tie.Need-returns-2
 returns-2 c =
     let here : tie.Else1 = search in let if1 = here .if1 in
@@ -70,16 +37,16 @@ pub feed-byte-spec : {M : Type 1} → statement M
 feed-byte-spec =
     tie.close
     (tie.spec
-    sub-answer-line
-    part-answer-line-start
-    part-answer-line-end
-    answer-line-requires
-    same-length
-    same-length-2
-    same-length-3
-    same-length-4
-    same-length-5
+    (λ c. search needs)
+    (λ c. search needs)
+    (λ c. search needs)
+    (λ c κs. search needs)
+    (λ c. search needs)
+    (λ c. search needs)
+    (λ c. search needs)
+    (λ c. search needs)
+    (λ c. search needs)
     returns
-    keep-requires
-    same-length-6
+    (λ c κs. search needs)
+    (λ c. search needs)
     returns-2)

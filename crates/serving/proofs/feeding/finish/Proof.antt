@@ -16,30 +16,6 @@ returns c =
       ),
     )
 
-sub-answer-line : tie.Need-sub-answer-line
-sub-answer-line c = search needs
-
-part-answer-line-start : tie.Need-part-answer-line-start
-part-answer-line-start c = search needs
-
-part-answer-line-end : tie.Need-part-answer-line-end
-part-answer-line-end c = search needs
-
-answer-line-requires : tie.Need-answer-line-requires
-answer-line-requires c κs = search needs
-
-same-length : tie.Need-same-length
-same-length c = search needs
-
-same-length-2 : tie.Need-same-length-2
-same-length-2 c = search needs
-
-same-length-3 : tie.Need-same-length-3
-same-length-3 c = search needs
-
-same-length-4 : tie.Need-same-length-4
-same-length-4 c = search needs
-
 returns-2 : tie.Need-returns-2
 returns-2 c =
     let here : tie.After-answer-line = search in let answer-line = here .answer-line in
@@ -60,12 +36,12 @@ finish-spec =
     tie.close
     (tie.spec
     returns
-    sub-answer-line
-    part-answer-line-start
-    part-answer-line-end
-    answer-line-requires
-    same-length
-    same-length-2
-    same-length-3
-    same-length-4
+    (λ c. search needs)
+    (λ c. search needs)
+    (λ c. search needs)
+    (λ c κs. search needs)
+    (λ c. search needs)
+    (λ c. search needs)
+    (λ c. search needs)
+    (λ c. search needs)
     returns-2)

@@ -4,15 +4,6 @@ use borrow.Author.Needs.{needs}
 use Rattle.serving.proofs.held.keep.Statement.{statement}
 use Rattle.serving.proofs.held.keep.Tie as tie
 
-slice-write-line : tie.Need-slice-write-line
-slice-write-line c = search needs
-
-add-result : tie.Need-add-result
-add-result c = search needs
-
-same-length : tie.Need-same-length
-same-length c = search needs
-
 returns : tie.Need-returns
 returns c = (held-more _ _ _ _ (c .before .pre .0) (c .if1 .taken), omega arith)
 
@@ -20,4 +11,4 @@ returns-2 : tie.Need-returns-2
 returns-2 c = (held-most _ _ _ _ (c .before .pre .0) (c .before .pre .1) (c .if1 .left), omega arith)
 
 pub keep-spec : {M : Type 1} → statement M
-keep-spec = tie.close (tie.spec slice-write-line add-result same-length returns returns-2)
+keep-spec = tie.close (tie.spec (λ c. search needs) (λ c. search needs) (λ c. search needs) returns returns-2)

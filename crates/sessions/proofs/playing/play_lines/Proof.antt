@@ -1,5 +1,4 @@
 use borrow.Author.Needs.{needs}
-use mathlib.Core.Path.{_≡_}
 use native.Mathlib.Omega.{arith}
 use Prim.Native.Nat.{_≤_, _-_}
 use lib.ListN.{length}
@@ -7,14 +6,11 @@ use Rattle.sessions.proofs.playing.play_lines.Statement.{statement}
 use Rattle.sessions.proofs.playing.play_lines.Tie as tie
 
 abbrev Inv-loop : tie.InvT-loop
-Inv-loop segment₀ blocks₀ buffers₀ table at₀ from₀ segment blocks buffers at from =
-    (from ≤ length table)
-    × (length segment ≡ length segment₀)
-    × (length blocks ≡ length blocks₀)
-    × (length buffers ≡ length buffers₀)
+Inv-loop segment₀ blocks₀ buffers₀ forms lines at₀ from₀ segment blocks buffers at from =
+    from ≤ length lines
 
 abbrev μ-loop : tie.MeasureT-loop
-μ-loop segment₀ blocks₀ buffers₀ table at₀ from₀ segment blocks buffers at from = length table - from
+μ-loop segment₀ blocks₀ buffers₀ forms lines at₀ from₀ segment blocks buffers at from = length lines - from
 
 loop-holds : tie.Need-loop-holds Inv-loop μ-loop
 loop-holds c = search needs
@@ -34,30 +30,21 @@ part-play-line-end c = search needs
 play-line-requires : tie.Need-play-line-requires Inv-loop μ-loop
 play-line-requires c κs = search needs
 
-behind-requires : tie.Need-behind-requires Inv-loop μ-loop
-behind-requires c κs = search needs
+after-requires : tie.Need-after-requires Inv-loop μ-loop
+after-requires c κs = search needs
 
 loop-less : tie.Need-loop-less Inv-loop μ-loop
 loop-less c =
     let here : tie.After-find Inv-loop μ-loop = search in let find = here .find in
     let here : tie.In-loop Inv-loop μ-loop = search in let loop-test = here .loop-test in
     let here : tie.At-loop Inv-loop μ-loop = search in let loop = here .loop in
-    omega (arith, c .behind .ensures .1 (loop .from) (find .ensures .0) (loop-test .taken), loop-test .taken)
+    omega (arith, c .after .ensures .1 (loop .from) (find .ensures .0) (loop-test .taken), loop-test .taken)
 
 loop-again : tie.Need-loop-again Inv-loop μ-loop
 loop-again c = search needs
 
 end-requires : tie.Need-end-requires Inv-loop μ-loop
 end-requires c κs = search needs
-
-same-length : tie.Need-same-length Inv-loop μ-loop
-same-length c = search needs
-
-same-length-2 : tie.Need-same-length-2 Inv-loop μ-loop
-same-length-2 c = search needs
-
-same-length-3 : tie.Need-same-length-3 Inv-loop μ-loop
-same-length-3 c = search needs
 
 returns : tie.Need-returns Inv-loop μ-loop
 returns c = search needs
@@ -74,11 +61,8 @@ play-lines-spec =
     part-play-line-start
     part-play-line-end
     play-line-requires
-    behind-requires
+    after-requires
     loop-less
     loop-again
     end-requires
-    same-length
-    same-length-2
-    same-length-3
     returns)

@@ -7,19 +7,22 @@ use Rattle.sessions.proofs.spelling.fill.Statement.{statement}
 use Rattle.sessions.proofs.spelling.fill.Tie as tie
 
 abbrev Inv-loop : tie.InvT-loop
-Inv-loop form line out₀ at₀ i₀ out at i = (i ≤ length form) × (length out ≡ length out₀)
+Inv-loop form words out₀ at end₀ from₀ i₀ out end from i = (from ≤ length words) × (i ≤ length form) × (length out ≡ length out₀)
 
 abbrev μ-loop : tie.MeasureT-loop
-μ-loop form line out₀ at₀ i₀ out at i = length form - i
+μ-loop form words out₀ at end₀ from₀ i₀ out end from i = length form - i
 
 loop-holds : tie.Need-loop-holds Inv-loop μ-loop
 loop-holds c = search needs
 
-shared-slice-read-put-part : tie.Need-shared-slice-read-put-part Inv-loop μ-loop
-shared-slice-read-put-part c = search needs
+shared-slice-read-part : tie.Need-shared-slice-read-part Inv-loop μ-loop
+shared-slice-read-part c = search needs
 
 put-part-requires : tie.Need-put-part-requires Inv-loop μ-loop
 put-part-requires c κs = search needs
+
+pass-requires : tie.Need-pass-requires Inv-loop μ-loop
+pass-requires c κs = search needs
 
 add-i : tie.Need-add-i Inv-loop μ-loop
 add-i c = search needs
@@ -43,8 +46,9 @@ fill-spec =
     Inv-loop
     μ-loop
     loop-holds
-    shared-slice-read-put-part
+    shared-slice-read-part
     put-part-requires
+    pass-requires
     add-i
     loop-less
     loop-again

@@ -30,8 +30,8 @@ part-same-end c = search needs
 same-requires : tie.Need-same-requires Inv-loop μ-loop
 same-requires c κs = search needs
 
-behind-requires : tie.Need-behind-requires Inv-loop μ-loop
-behind-requires c κs = search needs
+after-requires : tie.Need-after-requires Inv-loop μ-loop
+after-requires c κs = search needs
 
 returns : tie.Need-returns Inv-loop μ-loop
 returns c = search needs
@@ -39,8 +39,8 @@ returns c = search needs
 find-requires-2 : tie.Need-find-requires-2 Inv-loop μ-loop
 find-requires-2 c κs = search needs
 
-behind-requires-2 : tie.Need-behind-requires-2 Inv-loop μ-loop
-behind-requires-2 c κs = search needs
+after-requires-2 : tie.Need-after-requires-2 Inv-loop μ-loop
+after-requires-2 c κs = search needs
 
 loop-less : tie.Need-loop-less Inv-loop μ-loop
 loop-less c =
@@ -48,7 +48,7 @@ loop-less c =
     let here : tie.At-loop Inv-loop μ-loop = search in let loop = here .loop in
     let here : tie.After-find Inv-loop μ-loop = search in let find = here .find in
     let here : tie.After-find2 Inv-loop μ-loop = search in let find2 = here .find2 in
-    omega (arith, c .behind2 .ensures .1 (loop .from) (omega (arith, find .ensures .0, find2 .ensures .0)) (loop-test .taken), loop-test .taken)
+    omega (arith, c .after2 .ensures .1 (loop .from) (omega (arith, find .ensures .0, find2 .ensures .0)) (loop-test .taken), loop-test .taken)
 
 loop-again : tie.Need-loop-again Inv-loop μ-loop
 loop-again c = search needs
@@ -68,10 +68,10 @@ form-at-spec =
     part-same-start
     part-same-end
     same-requires
-    behind-requires
+    after-requires
     returns
     find-requires-2
-    behind-requires-2
+    after-requires-2
     loop-less
     loop-again
     returns-2)

@@ -57,9 +57,6 @@ get-requires c κs =
     let start : tie.Start = search in
     (mid-lengths (start .pre .2), omega (arith, start .pre .2 .file))
 
-same-length : tie.Need-same-length
-same-length c = refl
-
 returns : tie.Need-returns
 returns c = λ o b M. turn-nobody M _ (c .before .get .ensures) (c .if1 .taken)
 
@@ -67,9 +64,6 @@ read-entry-requires : tie.Need-read-entry-requires
 read-entry-requires c κs =
     let start : tie.Start = search in
     (mid-lengths (start .pre .2), c .before .if1 .left)
-
-cast-read-place : tie.Need-cast-read-place
-cast-read-place c = search needs
 
 read-place-requires : tie.Need-read-place-requires
 read-place-requires c κs =
@@ -85,9 +79,6 @@ fetch-requires : tie.Need-fetch-requires
 fetch-requires c κs =
     let start : tie.Start = search in
     hand-held (start .pre .2) (fine-stored (start .pre .2 .good))
-
-same-length-2 : tie.Need-same-length-2
-same-length-2 c = refl
 
 returns-2 : tie.Need-returns-2
 returns-2 c =
@@ -124,12 +115,6 @@ hand-over-requires c κs =
       ),
     )
 
-same-length-3 : tie.Need-same-length-3
-same-length-3 c = search needs
-
-same-length-4 : tie.Need-same-length-4
-same-length-4 c = search needs
-
 returns-3 : tie.Need-returns-3
 returns-3 c =
     let over : tie.After-hand-over = search in
@@ -147,17 +132,17 @@ serve-reader-spec =
     (tie.spec
     add-get
     get-requires
-    same-length
+    (λ c. refl)
     returns
     read-entry-requires
-    cast-read-place
+    (λ c. search needs)
     read-place-requires
     fetch-requires
-    same-length-2
+    (λ c. refl)
     returns-2
     share-requires
     handed-requires
     hand-over-requires
-    same-length-3
-    same-length-4
+    (λ c. search needs)
+    (λ c. search needs)
     returns-3)

@@ -29,9 +29,6 @@ get-requires c κs =
     let start : tie.Start = search in
     (mid-lengths (start .pre .0 .2), omega (arith, start .pre .0 .2 .file))
 
-same-length : tie.Need-same-length
-same-length c = refl
-
 returns : tie.Need-returns
 returns c = λ o b M. turn-nobody M _ (c .before .get .ensures) (c .if1 .taken)
 
@@ -40,9 +37,6 @@ fits-requires c κs =
     let start : tie.Start = search in
     let M = start .pre .0 .2 in
     (hand-ranged M (fine-stored (M .good)), omega (arith, counted c, count-most (start .args .segment .now) (start .args .f) 2))
-
-same-length-2 : tie.Need-same-length-2
-same-length-2 c = refl
 
 returns-2 : tie.Need-returns-2
 returns-2 c =
@@ -57,9 +51,6 @@ read-entry-requires c κs =
     let here : tie.Else1 = search in let if1 = here .if1 in
     let start : tie.Start = search in
     (mid-lengths (start .pre .0 .2), if1 .left)
-
-cast-read-place : tie.Need-cast-read-place
-cast-read-place c = search needs
 
 read-place-requires : tie.Need-read-place-requires
 read-place-requires c κs =
@@ -91,15 +82,6 @@ take-requires c κs =
       ),
     )
 
-same-length-3 : tie.Need-same-length-3
-same-length-3 c = search needs
-
-same-length-4 : tie.Need-same-length-4
-same-length-4 c = search needs
-
-same-length-5 : tie.Need-same-length-5
-same-length-5 c = search needs
-
 returns-3 : tie.Need-returns-3
 returns-3 c =
     let here : tie.After-take = search in let take = here .take in
@@ -120,16 +102,16 @@ serve-writer-spec =
     (tie.spec
     add-get
     get-requires
-    same-length
+    (λ c. refl)
     returns
     fits-requires
-    same-length-2
+    (λ c. refl)
     returns-2
     read-entry-requires
-    cast-read-place
+    (λ c. search needs)
     read-place-requires
     take-requires
-    same-length-3
-    same-length-4
-    same-length-5
+    (λ c. search needs)
+    (λ c. search needs)
+    (λ c. search needs)
     returns-3)

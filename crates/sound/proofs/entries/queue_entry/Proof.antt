@@ -4,17 +4,11 @@ use borrow.Author.Needs.{needs}
 use Rattle.sound.proofs.entries.queue_entry.Statement.{statement}
 use Rattle.sound.proofs.entries.queue_entry.Tie as tie
 
-read-entry-requires : tie.Need-read-entry-requires
-read-entry-requires c κs = search needs
-
 returns : tie.Need-returns
 returns c = rw (eq-eqb _ _ (c .before .if1 .taken)) (c .read-entry .ensures)
-
-write-entry-requires : tie.Need-write-entry-requires
-write-entry-requires c κs = search needs
 
 returns-2 : tie.Need-returns-2
 returns-2 c = rw (ne-eqb _ _ (c .before .if1 .left)) (c .write-entry .ensures)
 
 pub queue-entry-spec : {M : Type 1} → statement M
-queue-entry-spec = tie.close (tie.spec read-entry-requires returns write-entry-requires returns-2)
+queue-entry-spec = tie.close (tie.spec (λ c κs. search needs) returns (λ c κs. search needs) returns-2)

@@ -1,6 +1,7 @@
--- `entries::read_entry` meets its contract: an answer to each need, in the order of the code.
-use borrow.Author.Tests.{le-leb, lt-leb}
+-- `entries::read_entry` meets its contract. A way out is named after what it refuses, and cites only the test that failed.
+use mathlib.Core.Bool.{and-false}
 use native.Mathlib.Omega.{arith}
+use borrow.Author.Tests.{le-leb, lt-leb}
 use Rattle.sound.specs.Walks.{entryWord, placeIn, readEntry}
 use Rattle.sound.specs.Parts.{owned}
 use Rattle.sound.proofs.Steps.{held, failed, owned-place}
@@ -8,138 +9,49 @@ use borrow.Author.Needs.{needs}
 use Rattle.sound.proofs.entries.read_entry.Statement.{statement}
 use Rattle.sound.proofs.entries.read_entry.Tie as tie
 
-owned-requires : tie.Need-owned-requires
-owned-requires c κs = search needs
+not-owned : tie.Need-returns
+unfolding readEntry owned
+not-owned c = rw (failed (c .before .owned .ensures) (c .if1 .taken))
 
-returns : tie.Need-returns
-unfolding readEntry owned placeIn entryWord
-returns c = rw (failed (c .before .owned .ensures) (c .if1 .taken))
+unit-above-one : tie.Need-returns-2
+unfolding readEntry entryWord
+unit-above-one c = rw (← c .before .get .ensures, lt-leb _ _ (c .if2 .taken), and-false)
 
-mul-at : tie.Need-mul-at
-mul-at c = search needs
+limit-too-large : tie.Need-returns-3
+unfolding readEntry entryWord
+limit-too-large c = rw (← c .before .get2 .ensures, lt-leb _ _ (c .if3 .taken), and-false)
 
-add-at : tie.Need-add-at
-add-at c = search needs
+keep-above-one : tie.Need-returns-4
+unfolding readEntry entryWord
+keep-above-one c = rw (← c .before .get3 .ensures, lt-leb _ _ (c .if4 .taken), and-false)
 
-add-get : tie.Need-add-get
-add-get c = search needs
-
-get-requires : tie.Need-get-requires
-get-requires c κs = search needs
-
-returns-2 : tie.Need-returns-2
-unfolding readEntry owned placeIn entryWord
-returns-2 c =
-    rw (
-      held (c .before .before .before .owned .ensures) (c .before .before .if1 .left),
-      ← c .before .get .ensures,
-      lt-leb _ _ (c .if2 .taken),
-    )
-
-add-get-2 : tie.Need-add-get-2
-add-get-2 c = search needs
-
-get-requires-2 : tie.Need-get-requires-2
-get-requires-2 c κs = search needs
-
-returns-3 : tie.Need-returns-3
-unfolding readEntry owned placeIn entryWord
-returns-3 c =
-    let here : tie.Else1 = search in let if1 = here .if1 in
-    let here : tie.After-owned = search in let owned′ = here .owned in
-    rw (
-      held (owned′ .ensures) (if1 .left),
-      ← c .before .before .before .get .ensures,
-      le-leb _ _ (c .before .before .if2 .left),
-      ← c .before .get2 .ensures,
-      lt-leb _ _ (c .if3 .taken),
-    )
-
-add-get-3 : tie.Need-add-get-3
-add-get-3 c = search needs
-
-get-requires-3 : tie.Need-get-requires-3
-get-requires-3 c κs = search needs
-
-returns-4 : tie.Need-returns-4
-unfolding readEntry owned placeIn entryWord
-returns-4 c =
-    let here : tie.Else2 = search in let if2 = here .if2 in
-    let here : tie.After-get = search in let get = here .get in
-    let here : tie.Else1 = search in let if1 = here .if1 in
-    let here : tie.After-owned = search in let owned′ = here .owned in
-    rw (
-      held (owned′ .ensures) (if1 .left),
-      ← get .ensures,
-      le-leb _ _ (if2 .left),
-      ← c .before .before .before .get2 .ensures,
-      le-leb _ _ (c .before .before .if3 .left),
-      ← c .before .get3 .ensures,
-      lt-leb _ _ (c .if4 .taken),
-    )
-
-add-zero-words : tie.Need-add-zero-words
-add-zero-words c = search needs
-
-zero-words-requires : tie.Need-zero-words-requires
-zero-words-requires c κs = search needs
-
-returns-5 : tie.Need-returns-5
-unfolding readEntry owned placeIn entryWord
-returns-5 c =
-    let here : tie.Else3 = search in let if3 = here .if3 in
-    let here : tie.After-get2 = search in let get2 = here .get2 in
-    let here : tie.Else2 = search in let if2 = here .if2 in
-    let here : tie.After-get = search in let get = here .get in
-    let here : tie.Else1 = search in let if1 = here .if1 in
-    let here : tie.After-owned = search in let owned′ = here .owned in
-    rw (
-      held (owned′ .ensures) (if1 .left),
-      ← get .ensures,
-      le-leb _ _ (if2 .left),
-      ← get2 .ensures,
-      le-leb _ _ (if3 .left),
-      ← c .before .before .before .get3 .ensures,
-      le-leb _ _ (c .before .before .if4 .left),
-      failed (c .before .zero-words .ensures) (c .if5 .taken),
-    )
-
-add-get-4 : tie.Need-add-get-4
-add-get-4 c = search needs
-
-get-requires-4 : tie.Need-get-requires-4
-get-requires-4 c κs = search needs
-
-cast-i : tie.Need-cast-i
-cast-i c = search needs
+words-after : tie.Need-returns-5
+unfolding readEntry
+words-after c = rw (failed (c .before .zero-words .ensures) (c .if5 .taken), and-false)
 
 rest-zero-requires : tie.Need-rest-zero-requires
 rest-zero-requires c κs =
-    let here : tie.Else1 = search in let if1 = here .if1 in
-    let here : tie.After-owned = search in let owned′ = here .owned in
-    let h = owned-place _ _ _ _ _ _ (c .get4 .ensures) (held (owned′ .ensures) (if1 .left)) in
+    let own : tie.Else1 = search in
+    let h = owned-place _ _ _ _ _ _ (c .get4 .ensures) (held (own .before .owned .ensures) (own .if1 .left)) in
     omega arith
 
-returns-6 : tie.Need-returns-6
+all-but-buffer : tie.Need-returns-6
 unfolding readEntry owned placeIn entryWord
-returns-6 c =
-    let here : tie.Else4 = search in let if4 = here .if4 in
-    let here : tie.After-get3 = search in let get3 = here .get3 in
-    let here : tie.Else3 = search in let if3 = here .if3 in
-    let here : tie.After-get2 = search in let get2 = here .get2 in
-    let here : tie.Else2 = search in let if2 = here .if2 in
-    let here : tie.After-get = search in let get = here .get in
-    let here : tie.Else1 = search in let if1 = here .if1 in
-    let here : tie.After-owned = search in let owned′ = here .owned in
+all-but-buffer c =
+    let own : tie.Else1 = search in
+    let unit : tie.Else2 = search in
+    let limit : tie.Else3 = search in
+    let keep : tie.Else4 = search in
+    let zeros : tie.Else5 = search in
     rw (
-      held (owned′ .ensures) (if1 .left),
-      ← get .ensures,
-      le-leb _ _ (if2 .left),
-      ← get2 .ensures,
-      le-leb _ _ (if3 .left),
-      ← get3 .ensures,
-      le-leb _ _ (if4 .left),
-      held (c .before .before .before .zero-words .ensures) (c .before .before .if5 .left),
+      held (own .before .owned .ensures) (own .if1 .left),
+      ← unit .before .get .ensures,
+      le-leb _ _ (unit .if2 .left),
+      ← limit .before .get2 .ensures,
+      le-leb _ _ (limit .if3 .left),
+      ← keep .before .get3 .ensures,
+      le-leb _ _ (keep .if4 .left),
+      held (zeros .before .zero-words .ensures) (zeros .if5 .left),
       ← c .before .get4 .ensures,
     ) (c .rest-zero .ensures)
 
@@ -147,24 +59,24 @@ pub read-entry-spec : {M : Type 1} → statement M
 read-entry-spec =
     tie.close
     (tie.spec
-    owned-requires
-    returns
-    mul-at
-    add-at
-    add-get
-    get-requires
-    returns-2
-    add-get-2
-    get-requires-2
-    returns-3
-    add-get-3
-    get-requires-3
-    returns-4
-    add-zero-words
-    zero-words-requires
-    returns-5
-    add-get-4
-    get-requires-4
-    cast-i
+    (λ c κs. search needs)
+    not-owned
+    (λ c. search needs)
+    (λ c. search needs)
+    (λ c. search needs)
+    (λ c κs. search needs)
+    unit-above-one
+    (λ c. search needs)
+    (λ c κs. search needs)
+    limit-too-large
+    (λ c. search needs)
+    (λ c κs. search needs)
+    keep-above-one
+    (λ c. search needs)
+    (λ c κs. search needs)
+    words-after
+    (λ c. search needs)
+    (λ c κs. search needs)
+    (λ c. search needs)
     rest-zero-requires
-    returns-6)
+    all-but-buffer)

@@ -9,18 +9,9 @@ use Rattle.sound.proofs.entries.rest_zero.Tie as tie
 returns : tie.Need-returns
 returns c = sym (rest-none _ _ _ (c .if1 .taken))
 
-mul-quiet : tie.Need-mul-quiet
-mul-quiet c = search needs
-
-add-quiet : tie.Need-add-quiet
-add-quiet c = search needs
-
-quiet-requires : tie.Need-quiet-requires
-quiet-requires c κs = search needs
-
 returns-2 : tie.Need-returns-2
 unfolding restZero
 returns-2 c = c .quiet .ensures
 
 pub rest-zero-spec : {M : Type 1} → statement M
-rest-zero-spec = tie.close (tie.spec returns mul-quiet add-quiet quiet-requires returns-2)
+rest-zero-spec = tie.close (tie.spec returns (λ c. search needs) (λ c. search needs) (λ c κs. search needs) returns-2)

@@ -6,9 +6,6 @@ use borrow.Author.Needs.{needs}
 use Rattle.sound.proofs.files.built_ok.Statement.{statement}
 use Rattle.sound.proofs.files.built_ok.Tie as tie
 
-rows-ok-requires : tie.Need-rows-ok-requires
-rows-ok-requires c κs = search needs
-
 returns : tie.Need-returns
 unfolding builtOk
 returns c = let h = failed (c .before .rows-ok .ensures) (c .if1 .taken) in rw h
@@ -50,4 +47,4 @@ returns-3 c =
 pub built-ok-spec : {M : Type 1} → statement M
 built-ok-spec =
     tie.close
-    (tie.spec rows-ok-requires returns room-ok-requires returns-2 held-ok-requires returns-3)
+    (tie.spec (λ c κs. search needs) returns room-ok-requires returns-2 held-ok-requires returns-3)

@@ -2,33 +2,11 @@
 use mathlib.Core.Path.{ap, _∙_}
 use lib.ListN.{length}
 use Rattle.words.proofs.Parts.{length-part}
-use Rattle.memory.specs.Stands.{shareAt}
 use Rattle.sound.specs.Rows.{geoAt}
 use Rattle.sound.proofs.Geometries.{fitted}
 use borrow.Author.Needs.{needs}
 use Rattle.sound.proofs.files.held_ok.Statement.{statement}
 use Rattle.sound.proofs.files.held_ok.Tie as tie
-
-file-word-requires : tie.Need-file-word-requires
-file-word-requires c κs = search needs
-
-file-word-requires-2 : tie.Need-file-word-requires-2
-file-word-requires-2 c κs = search needs
-
-file-word-requires-3 : tie.Need-file-word-requires-3
-file-word-requires-3 c κs = search needs
-
-file-word-requires-4 : tie.Need-file-word-requires-4
-file-word-requires-4 c κs = search needs
-
-file-word-requires-5 : tie.Need-file-word-requires-5
-file-word-requires-5 c κs = search needs
-
-file-word-requires-6 : tie.Need-file-word-requires-6
-file-word-requires-6 c κs = search needs
-
-share-requires : tie.Need-share-requires
-share-requires c κs = search needs
 
 sound-requires : tie.Need-sound-requires
 unfolding geoAt
@@ -42,7 +20,7 @@ sound-requires c κs =
     )
 
 returns : tie.Need-returns
-unfolding geoAt shareAt
+unfolding geoAt
 returns c =
     let here : tie.After-file-word4 = search in let file-word4 = here .file-word4 in
     let here : tie.After-file-word3 = search in let file-word3 = here .file-word3 in
@@ -62,12 +40,12 @@ pub held-ok-spec : {M : Type 1} → statement M
 held-ok-spec =
     tie.close
     (tie.spec
-    file-word-requires
-    file-word-requires-2
-    file-word-requires-3
-    file-word-requires-4
-    file-word-requires-5
-    file-word-requires-6
-    share-requires
+    (λ c κs. search needs)
+    (λ c κs. search needs)
+    (λ c κs. search needs)
+    (λ c κs. search needs)
+    (λ c κs. search needs)
+    (λ c κs. search needs)
+    (λ c κs. search needs)
     sound-requires
     returns)

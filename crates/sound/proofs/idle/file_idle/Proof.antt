@@ -5,18 +5,9 @@ use borrow.Author.Needs.{needs}
 use Rattle.sound.proofs.idle.file_idle.Statement.{statement}
 use Rattle.sound.proofs.idle.file_idle.Tie as tie
 
-file-word-requires : tie.Need-file-word-requires
-file-word-requires c κs = search needs
-
 returns : tie.Need-returns
 unfolding builtAt
 returns c = rw (← c .before .file-word .ensures, lt-leb _ _ (c .if1 .taken))
-
-mul-places-idle : tie.Need-mul-places-idle
-mul-places-idle c = search needs
-
-places-idle-requires : tie.Need-places-idle-requires
-places-idle-requires c κs = search needs
 
 returns-2 : tie.Need-returns-2
 unfolding builtAt
@@ -24,4 +15,4 @@ returns-2 c = rw (← c .before .before .file-word .ensures, le-leb _ _ (c .befo
 
 pub file-idle-spec : {M : Type 1} → statement M
 file-idle-spec =
-    tie.close (tie.spec file-word-requires returns mul-places-idle places-idle-requires returns-2)
+    tie.close (tie.spec (λ c κs. search needs) returns (λ c. search needs) (λ c κs. search needs) returns-2)

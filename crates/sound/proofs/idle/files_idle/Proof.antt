@@ -19,24 +19,12 @@ abbrev μ-loop : tie.MeasureT-loop
 loop-holds : tie.Need-loop-holds Inv-loop μ-loop
 loop-holds c = (refl, refl)
 
-file-idle-requires : tie.Need-file-idle-requires Inv-loop μ-loop
-file-idle-requires c κs = search needs
-
 returns : tie.Need-returns Inv-loop μ-loop
 returns c =
     sym
     (c .before .before .before .loop .inv .0
     ∙ file-bad _ _ _ _ _ (c .before .before .loop-test .taken)
     (failed (c .before .file-idle .ensures) (c .if1 .taken)))
-
-add-f : tie.Need-add-f Inv-loop μ-loop
-add-f c = search needs
-
-sub-left : tie.Need-sub-left Inv-loop μ-loop
-sub-left c = search needs
-
-loop-less : tie.Need-loop-less Inv-loop μ-loop
-loop-less c = search needs
 
 loop-again : tie.Need-loop-again Inv-loop μ-loop
 loop-again c = (
@@ -57,10 +45,10 @@ files-idle-spec =
     Inv-loop
     μ-loop
     loop-holds
-    file-idle-requires
+    (λ c κs. search needs)
     returns
-    add-f
-    sub-left
-    loop-less
+    (λ c. search needs)
+    (λ c. search needs)
+    (λ c. search needs)
     loop-again
     returns-2)

@@ -4,17 +4,11 @@ use borrow.Author.Needs.{needs}
 use Rattle.sound.proofs.idle.place_idle.Statement.{statement}
 use Rattle.sound.proofs.idle.place_idle.Tie as tie
 
-element-copy-out-if1 : tie.Need-element-copy-out-if1
-element-copy-out-if1 c = search needs
-
 returns : tie.Need-returns
 returns c = rw (ne-eqb _ _ (c .if1 .taken))
-
-rest-zero-requires : tie.Need-rest-zero-requires
-rest-zero-requires c κs = search needs
 
 returns-2 : tie.Need-returns-2
 returns-2 c = rw (eq-eqb _ _ (c .before .if1 .left)) (c .rest-zero .ensures)
 
 pub place-idle-spec : {M : Type 1} → statement M
-place-idle-spec = tie.close (tie.spec element-copy-out-if1 returns rest-zero-requires returns-2)
+place-idle-spec = tie.close (tie.spec (λ c. search needs) returns (λ c κs. search needs) returns-2)

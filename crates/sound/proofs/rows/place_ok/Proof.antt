@@ -6,24 +6,9 @@ use borrow.Author.Needs.{needs}
 use Rattle.sound.proofs.rows.place_ok.Statement.{statement}
 use Rattle.sound.proofs.rows.place_ok.Tie as tie
 
-mul-at : tie.Need-mul-at
-mul-at c = search needs
-
-add-at : tie.Need-add-at
-add-at c = search needs
-
-place-word-requires : tie.Need-place-word-requires
-place-word-requires c κs = search needs
-
-zero-words-requires : tie.Need-zero-words-requires
-zero-words-requires c κs = search needs
-
 returns : tie.Need-returns
 unfolding placeOk sideAt
 returns c = rw (← c .before .before .place-word .ensures, eq-eqb _ _ (c .before .if1 .taken), placeOk) (c .zero-words .ensures)
-
-good-place-requires : tie.Need-good-place-requires
-good-place-requires c κs = search needs
 
 returns-2 : tie.Need-returns-2
 unfolding placeOk sideAt
@@ -31,12 +16,6 @@ returns-2 c =
     let here : tie.After-place-word = search in let place-word = here .place-word in
     let here : tie.Else1 = search in let if1 = here .if1 in
     rw (← place-word .ensures, ne-eqb _ _ (if1 .left), placeOk, failed (c .before .good-place .ensures) (c .if2 .taken))
-
-add-zero-words : tie.Need-add-zero-words
-add-zero-words c = search needs
-
-zero-words-requires-2 : tie.Need-zero-words-requires-2
-zero-words-requires-2 c κs = search needs
 
 returns-3 : tie.Need-returns-3
 unfolding placeOk sideAt
@@ -49,13 +28,13 @@ pub place-ok-spec : {M : Type 1} → statement M
 place-ok-spec =
     tie.close
     (tie.spec
-    mul-at
-    add-at
-    place-word-requires
-    zero-words-requires
+    (λ c. search needs)
+    (λ c. search needs)
+    (λ c κs. search needs)
+    (λ c κs. search needs)
     returns
-    good-place-requires
+    (λ c κs. search needs)
     returns-2
-    add-zero-words
-    zero-words-requires-2
+    (λ c. search needs)
+    (λ c κs. search needs)
     returns-3)

@@ -24,15 +24,6 @@ abbrev μ-loop : tie.MeasureT-loop
 loop-holds : tie.Need-loop-holds Inv-loop μ-loop
 loop-holds c = (omega arith, omega arith, omega arith, λ b. refl)
 
-mul-if1 : tie.Need-mul-if1 Inv-loop μ-loop
-mul-if1 c = search needs
-
-shared-slice-read-if1 : tie.Need-shared-slice-read-if1 Inv-loop μ-loop
-shared-slice-read-if1 c = search needs
-
-get-requires : tie.Need-get-requires Inv-loop μ-loop
-get-requires c κs = search needs
-
 returns : tie.Need-returns Inv-loop μ-loop
 returns c =
     let here : tie.At-loop Inv-loop μ-loop = search in let loop = here .loop in
@@ -41,18 +32,6 @@ returns c =
     (loop .inv .3 b
     ∙ free-end _ _ _ b _ (c .get .ensures) _ (c .before .before .before .loop-test .taken)
     (high-byte _ _ _ (c .get .ensures) (c .before .if1 .taken)))
-
-mul-number : tie.Need-mul-number Inv-loop μ-loop
-mul-number c = search needs
-
-add-number : tie.Need-add-number Inv-loop μ-loop
-add-number c = search needs
-
-shared-slice-read-number : tie.Need-shared-slice-read-number Inv-loop μ-loop
-shared-slice-read-number c = search needs
-
-number-requires : tie.Need-number-requires Inv-loop μ-loop
-number-requires c κs = search needs
 
 returns-2 : tie.Need-returns-2 Inv-loop μ-loop
 returns-2 c =
@@ -63,21 +42,6 @@ returns-2 c =
     (loop .inv .3 b
     ∙ end-low _ _ b _ _ _ (c .before .number .ensures .0) (c .before .before .before .if1 .left)
     (loop-test .taken) (c .if2 .taken) (c .before .number .ensures .1))
-
-sub-left : tie.Need-sub-left Inv-loop μ-loop
-sub-left c = search needs
-
-in-order-requires : tie.Need-in-order-requires Inv-loop μ-loop
-in-order-requires c κs = search needs
-
-sub-left-2 : tie.Need-sub-left-2 Inv-loop μ-loop
-sub-left-2 c = search needs
-
-sub-left-3 : tie.Need-sub-left-3 Inv-loop μ-loop
-sub-left-3 c = search needs
-
-element-copy-out-if3 : tie.Need-element-copy-out-if3 Inv-loop μ-loop
-element-copy-out-if3 c = search needs
 
 returns-3 : tie.Need-returns-3 Inv-loop μ-loop
 returns-3 c =
@@ -92,9 +56,6 @@ returns-3 c =
     ∙ slot-holds _ _ b _ _ _ (low-byte _ _ _ (number .ensures .0) (if1 .left)) (loop-test .taken) (if2 .left)
     ∙ c .before .before .in-order .ensures .3 b
     ∙ from-bad _ _ b _ _ (met-before _ (c .if3 .taken)))
-
-free-entry-requires : tie.Need-free-entry-requires Inv-loop μ-loop
-free-entry-requires c κs = search needs
 
 returns-4 : tie.Need-returns-4 Inv-loop μ-loop
 returns-4 c =
@@ -111,18 +72,6 @@ returns-4 c =
     ∙ in-order .ensures .3 b
     ∙ from-bad _ _ b _ _
     (unfit (c .before .before .if3 .left) (failed (c .before .free-entry .ensures) (c .if4 .taken))))
-
-element-write-seen : tie.Need-element-write-seen Inv-loop μ-loop
-element-write-seen c = search needs
-
-mul-p : tie.Need-mul-p Inv-loop μ-loop
-mul-p c = search needs
-
-add-p : tie.Need-add-p Inv-loop μ-loop
-add-p c = search needs
-
-loop-less : tie.Need-loop-less Inv-loop μ-loop
-loop-less c = search needs
 
 loop-again : tie.Need-loop-again Inv-loop μ-loop
 loop-again c =
@@ -154,26 +103,26 @@ free-walk-spec =
     Inv-loop
     μ-loop
     loop-holds
-    mul-if1
-    shared-slice-read-if1
-    get-requires
+    (λ c. search needs)
+    (λ c. search needs)
+    (λ c κs. search needs)
     returns
-    mul-number
-    add-number
-    shared-slice-read-number
-    number-requires
+    (λ c. search needs)
+    (λ c. search needs)
+    (λ c. search needs)
+    (λ c κs. search needs)
     returns-2
-    sub-left
-    in-order-requires
-    sub-left-2
-    sub-left-3
-    element-copy-out-if3
+    (λ c. search needs)
+    (λ c κs. search needs)
+    (λ c. search needs)
+    (λ c. search needs)
+    (λ c. search needs)
     returns-3
-    free-entry-requires
+    (λ c κs. search needs)
     returns-4
-    element-write-seen
-    mul-p
-    add-p
-    loop-less
+    (λ c. search needs)
+    (λ c. search needs)
+    (λ c. search needs)
+    (λ c. search needs)
     loop-again
     returns-5)

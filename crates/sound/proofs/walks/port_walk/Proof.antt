@@ -6,29 +6,14 @@ use borrow.Author.Needs.{needs}
 use Rattle.sound.proofs.walks.port_walk.Statement.{statement}
 use Rattle.sound.proofs.walks.port_walk.Tie as tie
 
-add-get : tie.Need-add-get
-add-get c = search needs
-
-get-requires : tie.Need-get-requires
-get-requires c κs = search needs
-
 returns : tie.Need-returns
 returns c = sym (port-end _ _ _ _ _ _ (c .before .get .ensures) (c .if1 .taken))
-
-cast-e : tie.Need-cast-e
-cast-e c = search needs
-
-element-copy-out-if2 : tie.Need-element-copy-out-if2
-element-copy-out-if2 c = search needs
 
 returns-2 : tie.Need-returns-2
 returns-2 c =
     sym
     (port-bad _ _ _ _ _ _ (c .before .before .before .get .ensures) (c .before .before .if1 .left)
     (rw (ne-eqb _ _ (c .if2 .taken))))
-
-port-entry-requires : tie.Need-port-entry-requires
-port-entry-requires c κs = search needs
 
 returns-3 : tie.Need-returns-3
 returns-3 c =
@@ -40,15 +25,6 @@ returns-3 c =
       eq-eqb _ _ (c .before .before .before .if2 .left),
       failed (c .before .port-entry .ensures) (c .if3 .taken),
     )))
-
-mul-get : tie.Need-mul-get
-mul-get c = search needs
-
-add-get-2 : tie.Need-add-get-2
-add-get-2 c = search needs
-
-get-requires-2 : tie.Need-get-requires-2
-get-requires-2 c κs = search needs
 
 returns-4 : tie.Need-returns-4
 returns-4 c =
@@ -63,12 +39,6 @@ returns-4 c =
       ← c .before .get2 .ensures,
       ne-eqb _ _ (c .if4 .taken),
     )))
-
-element-write-seen : tie.Need-element-write-seen
-element-write-seen c = search needs
-
-element-write-busy : tie.Need-element-write-busy
-element-write-busy c = search needs
 
 returns-5 : tie.Need-returns-5
 returns-5 c =
@@ -88,18 +58,18 @@ pub port-walk-spec : {M : Type 1} → statement M
 port-walk-spec =
     tie.close
     (tie.spec
-    add-get
-    get-requires
+    (λ c. search needs)
+    (λ c κs. search needs)
     returns
-    cast-e
-    element-copy-out-if2
+    (λ c. search needs)
+    (λ c. search needs)
     returns-2
-    port-entry-requires
+    (λ c κs. search needs)
     returns-3
-    mul-get
-    add-get-2
-    get-requires-2
+    (λ c. search needs)
+    (λ c. search needs)
+    (λ c κs. search needs)
     returns-4
-    element-write-seen
-    element-write-busy
+    (λ c. search needs)
+    (λ c. search needs)
     returns-5)

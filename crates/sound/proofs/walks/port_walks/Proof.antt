@@ -20,21 +20,12 @@ abbrev μ-loop : tie.MeasureT-loop
 loop-holds : tie.Need-loop-holds Inv-loop μ-loop
 loop-holds c = (omega arith, refl)
 
-port-walk-requires : tie.Need-port-walk-requires Inv-loop μ-loop
-port-walk-requires c κs = search needs
-
 returns : tie.Need-returns Inv-loop μ-loop
 returns c =
     let here : tie.At-loop Inv-loop μ-loop = search in let loop = here .loop in
     sym
     (loop .inv .1
     ∙ ports-bad _ _ _ _ _ _ _ _ (omega arith) (ill _ _ _ (c .before .port-walk .ensures) (c .if1 .taken)))
-
-add-i : tie.Need-add-i Inv-loop μ-loop
-add-i c = search needs
-
-loop-less : tie.Need-loop-less Inv-loop μ-loop
-loop-less c = omega arith
 
 loop-again : tie.Need-loop-again Inv-loop μ-loop
 loop-again c =
@@ -57,9 +48,9 @@ port-walks-spec =
     Inv-loop
     μ-loop
     loop-holds
-    port-walk-requires
+    (λ c κs. search needs)
     returns
-    add-i
-    loop-less
+    (λ c. search needs)
+    (λ c. omega arith)
     loop-again
     returns-2)

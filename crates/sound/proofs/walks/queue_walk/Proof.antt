@@ -21,21 +21,12 @@ abbrev μ-loop : tie.MeasureT-loop
 loop-holds : tie.Need-loop-holds Inv-loop μ-loop
 loop-holds c = (omega arith, refl)
 
-get-requires : tie.Need-get-requires Inv-loop μ-loop
-get-requires c κs = search needs
-
 returns : tie.Need-returns Inv-loop μ-loop
 returns c =
     sym
     (c .before .before .before .loop .inv .1
     ∙ queue-end _ _ _ _ _ _ _ _ (c .before .get .ensures) _ (c .before .before .loop-test .taken)
     (c .if1 .taken))
-
-cast-e : tie.Need-cast-e Inv-loop μ-loop
-cast-e c = search needs
-
-element-copy-out-if2 : tie.Need-element-copy-out-if2 Inv-loop μ-loop
-element-copy-out-if2 c = search needs
 
 returns-2 : tie.Need-returns-2 Inv-loop μ-loop
 returns-2 c =
@@ -45,9 +36,6 @@ returns-2 c =
     (loop .inv .1
     ∙ queue-bad _ _ _ _ _ _ _ _ (c .before .before .before .get .ensures) _ (loop-test .taken)
     (c .before .before .if1 .left) (met-before _ (c .if2 .taken)))
-
-queue-entry-requires : tie.Need-queue-entry-requires Inv-loop μ-loop
-queue-entry-requires c κs = search needs
 
 returns-3 : tie.Need-returns-3 Inv-loop μ-loop
 returns-3 c =
@@ -60,24 +48,6 @@ returns-3 c =
     ∙ queue-bad _ _ _ _ _ _ _ _ (get .ensures) _ (loop-test .taken) (if1 .left)
     (unfit (c .before .before .before .if2 .left) (failed (c .before .queue-entry .ensures) (c .if3 .taken))))
 
-mul-at : tie.Need-mul-at Inv-loop μ-loop
-mul-at c = search needs
-
-add-at : tie.Need-add-at Inv-loop μ-loop
-add-at c = search needs
-
-add-get : tie.Need-add-get Inv-loop μ-loop
-add-get c = search needs
-
-get-requires-2 : tie.Need-get-requires-2 Inv-loop μ-loop
-get-requires-2 c κs = search needs
-
-cast-i : tie.Need-cast-i Inv-loop μ-loop
-cast-i c = search needs
-
-element-write-seen : tie.Need-element-write-seen Inv-loop μ-loop
-element-write-seen c = search needs
-
 element-write-busy : tie.Need-element-write-busy Inv-loop μ-loop
 element-write-busy c =
     let here : tie.After-get Inv-loop μ-loop = search in let get = here .get in
@@ -87,18 +57,6 @@ element-write-busy c =
     (start .args .f) (get .result) _ (c .get2 .ensures)
     (held (c .before .before .queue-entry .ensures) (c .before .if3 .left)) in
     omega arith
-
-mul-p : tie.Need-mul-p Inv-loop μ-loop
-mul-p c = search needs
-
-add-p : tie.Need-add-p Inv-loop μ-loop
-add-p c = search needs
-
-sub-left : tie.Need-sub-left Inv-loop μ-loop
-sub-left c = search needs
-
-loop-less : tie.Need-loop-less Inv-loop μ-loop
-loop-less c = search needs
 
 loop-again : tie.Need-loop-again Inv-loop μ-loop
 unfolding placeIn entryWord
@@ -126,23 +84,23 @@ queue-walk-spec =
     Inv-loop
     μ-loop
     loop-holds
-    get-requires
+    (λ c κs. search needs)
     returns
-    cast-e
-    element-copy-out-if2
+    (λ c. search needs)
+    (λ c. search needs)
     returns-2
-    queue-entry-requires
+    (λ c κs. search needs)
     returns-3
-    mul-at
-    add-at
-    add-get
-    get-requires-2
-    cast-i
-    element-write-seen
+    (λ c. search needs)
+    (λ c. search needs)
+    (λ c. search needs)
+    (λ c κs. search needs)
+    (λ c. search needs)
+    (λ c. search needs)
     element-write-busy
-    mul-p
-    add-p
-    sub-left
-    loop-less
+    (λ c. search needs)
+    (λ c. search needs)
+    (λ c. search needs)
+    (λ c. search needs)
     loop-again
     returns-4)

@@ -18,12 +18,6 @@ abbrev μ-loop : tie.MeasureT-loop
 loop-holds : tie.Need-loop-holds Inv-loop μ-loop
 loop-holds c = (omega arith, refl)
 
-queue-of-requires : tie.Need-queue-of-requires Inv-loop μ-loop
-queue-of-requires c κs = search needs
-
-queue-walk-requires : tie.Need-queue-walk-requires Inv-loop μ-loop
-queue-walk-requires c κs = search needs
-
 returns : tie.Need-returns Inv-loop μ-loop
 returns c =
     let here : tie.After-queue-of Inv-loop μ-loop = search in let queue-of = here .queue-of in
@@ -32,12 +26,6 @@ returns c =
     (loop .inv .1
     ∙ queues-bad _ _ _ _ _ (queue-of .ensures .0) _ _ _ _ _ (omega arith)
     (ill _ _ _ (c .before .queue-walk .ensures) (c .if1 .taken)))
-
-add-f : tie.Need-add-f Inv-loop μ-loop
-add-f c = search needs
-
-loop-less : tie.Need-loop-less Inv-loop μ-loop
-loop-less c = omega arith
 
 loop-again : tie.Need-loop-again Inv-loop μ-loop
 loop-again c =
@@ -62,10 +50,10 @@ queue-walks-spec =
     Inv-loop
     μ-loop
     loop-holds
-    queue-of-requires
-    queue-walk-requires
+    (λ c κs. search needs)
+    (λ c κs. search needs)
     returns
-    add-f
-    loop-less
+    (λ c. search needs)
+    (λ c. omega arith)
     loop-again
     returns-2)

@@ -20,20 +20,11 @@ abbrev μ-loop : tie.MeasureT-loop
 loop-holds : tie.Need-loop-holds Inv-loop μ-loop
 loop-holds c = (omega arith, refl)
 
-get-requires : tie.Need-get-requires Inv-loop μ-loop
-get-requires c κs = search needs
-
 returns : tie.Need-returns Inv-loop μ-loop
 returns c =
     sym
     (c .before .before .before .loop .inv .1
     ∙ timer-end _ _ _ _ _ _ (c .before .get .ensures) _ (c .before .before .loop-test .taken) (c .if1 .taken))
-
-cast-e : tie.Need-cast-e Inv-loop μ-loop
-cast-e c = search needs
-
-element-copy-out-if2 : tie.Need-element-copy-out-if2 Inv-loop μ-loop
-element-copy-out-if2 c = search needs
 
 returns-2 : tie.Need-returns-2 Inv-loop μ-loop
 returns-2 c =
@@ -43,9 +34,6 @@ returns-2 c =
     (loop .inv .1
     ∙ timer-bad _ _ _ _ _ _ (c .before .before .before .get .ensures) _ (loop-test .taken)
     (c .before .before .if1 .left) (met-before _ (c .if2 .taken)))
-
-timer-entry-requires : tie.Need-timer-entry-requires Inv-loop μ-loop
-timer-entry-requires c κs = search needs
 
 returns-3 : tie.Need-returns-3 Inv-loop μ-loop
 returns-3 c =
@@ -58,30 +46,6 @@ returns-3 c =
     ∙ timer-bad _ _ _ _ _ _ (get .ensures) _ (loop-test .taken) (if1 .left)
     (unfit (c .before .before .before .if2 .left) (failed (c .before .timer-entry .ensures) (c .if3 .taken))))
 
-mul-at : tie.Need-mul-at Inv-loop μ-loop
-mul-at c = search needs
-
-add-at : tie.Need-add-at Inv-loop μ-loop
-add-at c = search needs
-
-add-get : tie.Need-add-get Inv-loop μ-loop
-add-get c = search needs
-
-get-requires-2 : tie.Need-get-requires-2 Inv-loop μ-loop
-get-requires-2 c κs = search needs
-
-cast-i : tie.Need-cast-i Inv-loop μ-loop
-cast-i c = search needs
-
-add-get-2 : tie.Need-add-get-2 Inv-loop μ-loop
-add-get-2 c = search needs
-
-get-requires-3 : tie.Need-get-requires-3 Inv-loop μ-loop
-get-requires-3 c κs = search needs
-
-element-write-seen : tie.Need-element-write-seen Inv-loop μ-loop
-element-write-seen c = search needs
-
 element-write-busy : tie.Need-element-write-busy Inv-loop μ-loop
 element-write-busy c =
     let here : tie.After-get Inv-loop μ-loop = search in let get = here .get in
@@ -90,18 +54,6 @@ element-write-busy c =
     let h = timer-place (start .args .s .now) (loop .busy) (loop .low) (get .result) _ (c .before .get2 .ensures)
     (held (c .before .before .before .timer-entry .ensures) (c .before .before .if3 .left)) in
     omega arith
-
-mul-p : tie.Need-mul-p Inv-loop μ-loop
-mul-p c = search needs
-
-add-p : tie.Need-add-p Inv-loop μ-loop
-add-p c = search needs
-
-sub-left : tie.Need-sub-left Inv-loop μ-loop
-sub-left c = search needs
-
-loop-less : tie.Need-loop-less Inv-loop μ-loop
-loop-less c = search needs
 
 loop-again : tie.Need-loop-again Inv-loop μ-loop
 unfolding placeIn entryWord
@@ -130,25 +82,25 @@ timer-walk-spec =
     Inv-loop
     μ-loop
     loop-holds
-    get-requires
+    (λ c κs. search needs)
     returns
-    cast-e
-    element-copy-out-if2
+    (λ c. search needs)
+    (λ c. search needs)
     returns-2
-    timer-entry-requires
+    (λ c κs. search needs)
     returns-3
-    mul-at
-    add-at
-    add-get
-    get-requires-2
-    cast-i
-    add-get-2
-    get-requires-3
-    element-write-seen
+    (λ c. search needs)
+    (λ c. search needs)
+    (λ c. search needs)
+    (λ c κs. search needs)
+    (λ c. search needs)
+    (λ c. search needs)
+    (λ c κs. search needs)
+    (λ c. search needs)
     element-write-busy
-    mul-p
-    add-p
-    sub-left
-    loop-less
+    (λ c. search needs)
+    (λ c. search needs)
+    (λ c. search needs)
+    (λ c. search needs)
     loop-again
     returns-4)

@@ -9,23 +9,17 @@ use borrow.Author.Needs.{needs}
 use Rattle.transfers.proofs.reading.give.Statement.{statement}
 use Rattle.transfers.proofs.reading.give.Tie as tie
 
-handed-requires : tie.Need-handed-requires
-handed-requires c κs = search needs
-
 copy-requires : tie.Need-copy-requires
 copy-requires c κs =
     let start : tie.Start = search in
     let given : tie.After-handed = search in
-    has-room _ _ _ (given .handed .ensures) (start .pre .1) (start .pre .0 .1)
+    has-room (given .handed .ensures) (start .pre .1) (start .pre .0 .1)
 
 cast-result : tie.Need-cast-result
 cast-result c =
     let start : tie.Start = search in
     let given : tie.After-handed = search in
-    record { fits = omega (arith, few _ _ (given .handed .ensures) (start .pre .1)) }
-
-same-length : tie.Need-same-length
-same-length c = search needs
+    record { fits = omega (arith, few (given .handed .ensures) (start .pre .1)) }
 
 returns : tie.Need-returns
 returns c =
@@ -33,4 +27,4 @@ returns c =
     (ap length (given .handed .ensures), c .before .before .copy .ensures ∙ ap (sets _ answerHead) (given .handed .ensures))
 
 pub give-spec : {M : Type 1} → statement M
-give-spec = tie.close (tie.spec handed-requires copy-requires cast-result same-length returns)
+give-spec = tie.close (tie.spec (λ c κs. search needs) copy-requires cast-result (λ c. search needs) returns)

@@ -1,71 +1,38 @@
 -- `reading::read` meets its contract: an answer to each need, in the order of the code.
-use Rattle.transfers.proofs.Fits.{Fit}
-use Rattle.transfers.proofs.Rests.{gave-of}
-use Rattle.transfers.proofs.Handing.{Seen, read-fit, read-held, read-side, read-rowed, read-short, read-gives, read-free, read-waits, read-ends, read-counts}
-use Rattle.rules.specs.Allocation.{placeOf}
-use Rattle.segment.specs.declared.PlaceRow.{PlaceRow}
-use Rattle.segment.specs.Fields.{placeAt}
-use Rattle.transfers.specs.Rows.{mayWaitRow}
-use Rattle.memory.specs.Memories.{memories}
 use mathlib.Core.Bool.{Bool}
-use mathlib.Core.Path.{_≡_, refl, sym, ap, subst, _∙_}
+use mathlib.Core.List.{List}
+use mathlib.Core.Path.{_≡_, refl, sym, ap, _∙_}
+use Prim.Native.Nat.{ℕ}
 use native.Mathlib.Omega.{arith}
 use borrow.Author.Needs.{needs}
+use lib.Dec.{ltb}
+use Rattle.rules.specs.Desk.{Desk}
+use Rattle.rules.specs.Allocation.{Alloc, placeOf}
+use Rattle.segment.specs.declared.PlaceRow.{PlaceRow}
+use Rattle.segment.specs.Fields.{placeAt}
+use Rattle.accessors.specs.Sides.{countSide}
+use Rattle.memory.specs.Memories.{Memories, memories}
+use Rattle.memory.specs.Fine.{StandsFor}
+use Rattle.transfers.specs.Rows.{begunSegment, mayWaitRow}
+use Rattle.transfers.proofs.Fits.{Fit}
+use Rattle.transfers.proofs.Rests.{gave-of}
+use Rattle.transfers.proofs.Handing.{Reading, Fetches, Served, Unserved, read-fit, read-held, read-side, read-rowed, read-short, read-gives, read-free, read-waits, read-ends, read-counts}
 use Rattle.transfers.proofs.reading.read.Statement.{statement}
 use Rattle.transfers.proofs.reading.read.Tie as tie
 
--- back from a place to one before it, and to the start
-abbrev fetch-start : tie.After-fetch → tie.Start
-fetch-start c = search
+-- the memories as they are lent
+abbrev lent : tie.Start → Memories
+lent c = memories (c .args .segment .now) (c .args .blocks .now) (c .args .buffers .now)
 
-abbrev fetch-file : tie.After-fetch → tie.After-take-file
-fetch-file c = search
+-- the read on each desk that they stand for, which does not refuse it; and on the desk that is known
+reads : (c : tie.Start) {d : Desk} {s : Alloc} → StandsFor (lent c) d s → Reading (lent c) (c .args .f) (c .args .acc) (c .args .count) d s
+reads c S = record { stands = S; accepted = c .pre .0 .1 _ _ S }
 
-abbrev fetch-typed : tie.After-fetch → tie.After-place-typed
-fetch-typed c = search
+known : (c : tie.Start) → Reading (lent c) (c .args .f) (c .args .acc) (c .args .count) (c .pre .0 .0 .0) (c .pre .0 .0 .1)
+known c = reads c (c .pre .0 .0 .2)
 
-abbrev fetch-keep : tie.After-fetch → tie.After-place-keep
-fetch-keep c = c .before .before
-
-abbrev bytes-fetch : tie.After-count-bytes → tie.After-fetch
-bytes-fetch c = c .before .before
-
-abbrev bytes-words : tie.After-count-bytes → tie.After-in-words
-bytes-words c = c .before
-
-abbrev gave-bytes : tie.After-give → tie.After-count-bytes
-gave-bytes c = search
-
-abbrev gave-then : tie.After-give → tie.Then1
-gave-then c = search
-
-abbrev gave-share : tie.After-give → tie.After-share
-gave-share c = c .before .before
-
-abbrev began-gave : tie.After-begin-read → tie.After-give
-began-gave c = search
-
--- what is asked of numbers and lengths
-fit : (c : tie.Start) → Fit (memories (c .args .segment .now) (c .args .blocks .now) (c .args .buffers .now)) (c .args .f) (c .args .acc)
-fit c = let S = c .pre .0 .0 .2 in read-fit S _ _ _ (c .pre .0 .1 _ _ S)
-
--- what the code has seen when it has fetched
-seen : (c : tie.After-fetch) → let s = fetch-start c .args in
-    Seen (s .f) (s .acc) (s .segment .now) (s .blocks .now) (fetch-file c .take-file .result) (placeAt (s .segment .now) (placeOf (s .f) (s .acc))) (c .fetch .result)
-unfolding placeOf
-seen c = record {
-  file = fetch-file c .take-file .ensures;
-  place = refl;
-  keeps = rw (← fetch-typed c .place-typed .ensures, ← fetch-keep c .place-keep .ensures) (c .fetch .ensures .1 .1 .0);
-  gets = rw (← fetch-typed c .place-typed .ensures, ← fetch-keep c .place-keep .ensures) (c .fetch .ensures .1 .1 .1);
-}
-
--- and its accessor's row
-seen-row : (c : tie.After-fetch) (row : PlaceRow) → let s = fetch-start c .args in row ≡ placeAt (s .segment .now) (placeOf (s .f) (s .acc))
-    → Seen (s .f) (s .acc) (s .segment .now) (s .blocks .now) (fetch-file c .take-file .result) row (c .fetch .result)
-seen-row c row e =
-    let s = fetch-start c .args in
-    subst (λ (r : PlaceRow). Seen (s .f) (s .acc) (s .segment .now) (s .blocks .now) (fetch-file c .take-file .result) r (c .fetch .result)) (sym e) (seen c)
+fit : (c : tie.Start) → Fit (lent c) (c .args .f) (c .args .acc)
+fit c = read-fit (known c)
 
 mul-place : tie.Need-mul-place
 mul-place c = let start : tie.Start = search in record { fits = omega (arith, fit start .file) }
@@ -86,245 +53,206 @@ fetch-requires : tie.Need-fetch-requires
 fetch-requires c κs =
     let start : tie.Start = search in
     let file : tie.After-take-file = search in
-    let S = start .pre .0 .0 .2 in
-    read-held S _ _ _ (start .pre .0 .1 _ _ S) _ (file .take-file .ensures)
+    read-held (known start) (file .take-file .ensures)
 
-in-words-requires : tie.Need-in-words-requires
-in-words-requires c κs = search needs
+-- what the code has seen when it has fetched: the row is the accessor's, and in the segment xs the accessor has begun
+module _ (c : tie.After-fetch) where
+  abbrev fetch-start : tie.Start
+  fetch-start = search
 
-count-bytes-requires : tie.Need-count-bytes-requires
-count-bytes-requires c κs = search needs
+  abbrev fetch-file : tie.After-take-file
+  fetch-file = search
 
-cast-limit : tie.Need-cast-limit
-cast-limit c = search needs
+  abbrev fetch-typed : tie.After-place-typed
+  fetch-typed = search
 
--- It is served.
+  abbrev fetch-keep : tie.After-place-keep
+  fetch-keep = c .before .before
+
+  abbrev fetch-place : ℕ
+  fetch-place = placeOf (fetch-start .args .f) (fetch-start .args .acc)
+
+  fetches : {row : PlaceRow} {xs : List ℕ} → row ≡ placeAt (fetch-start .args .segment .now) fetch-place → xs ≡ begunSegment (fetch-start .args .segment .now) fetch-place
+      → Fetches (lent fetch-start) (fetch-start .args .f) (fetch-start .args .acc) (fetch-file .take-file .result) row xs (c .fetch .result)
+  unfolding placeOf
+  fetches place began = record {
+    seen = record { file = fetch-file .take-file .ensures; place = place; began = began };
+    keeps = rw (place, ← fetch-typed .place-typed .ensures, ← fetch-keep .place-keep .ensures) (c .fetch .ensures .1 .1 .0);
+    gets = rw (place, ← fetch-typed .place-typed .ensures, ← fetch-keep .place-keep .ensures) (c .fetch .ensures .1 .1 .1);
+  }
+
+-- The read is served.
 
 share-requires : tie.Need-share-requires
-share-requires c κs =
-    let bytes : tie.After-count-bytes = search in
-    let F = fit (fetch-start (bytes-fetch bytes)) in
-    (F .blocks-size, F .file)
+share-requires c κs = let fetch : tie.After-fetch = search in (fit (fetch-start fetch) .blocks-size, fit (fetch-start fetch) .file)
+
+-- what the code has seen when it has the file's share
+module _ (c : tie.After-share) where
+  abbrev share-then : tie.Then1
+  share-then = search
+
+  abbrev share-bytes : tie.After-count-bytes
+  share-bytes = search
+
+  abbrev share-fetch : tie.After-fetch
+  share-fetch = share-bytes .before .before
+
+  abbrev share-start : tie.Start
+  share-start = fetch-start share-fetch
+
+  served : {xs : List ℕ} → xs ≡ begunSegment (share-start .args .segment .now) (fetch-place share-fetch)
+      → Served (lent share-start) (share-start .args .f) (share-start .args .acc) (share-start .args .count) (fetch-file share-fetch .take-file .result)
+      (placeAt (share-start .args .segment .now) (fetch-place share-fetch)) xs (share-fetch .fetch .result) (c .share .result .now) (fetch-typed share-fetch .place-typed .result) (share-bytes .count-bytes .result)
+  unfolding placeOf
+  served began = record {
+    fetches = fetches share-fetch refl began;
+    got = share-then .if1 .taken;
+    share = c .share .ensures;
+    typed = fetch-typed share-fetch .place-typed .ensures;
+    counted = share-bytes .count-bytes .ensures .0;
+  }
 
 give-requires : tie.Need-give-requires
-unfolding placeOf
 give-requires c κs =
-    let own : tie.After-share = search in
-    let then : tie.Then1 = search in
-    let bytes : tie.After-count-bytes = search in
-    let k = bytes-fetch bytes in
-    let start = fetch-start k in
-    let S = start .pre .0 .0 .2 in
-    let typed = fetch-typed k .place-typed .ensures in
-    let short = read-short S _ _ _ (start .pre .0 .1 _ _ S) (seen k) _ refl (then .if1 .taken) _ (own .share .ensures) _ typed _ (bytes .count-bytes .ensures .0) in
-    ((rw (own .share .ensures) (k .fetch .ensures .1 .0 (then .if1 .taken)), start .pre .1), short)
+    let share : tie.After-share = search in
+    let start = share-start share in
+    let readable = share-fetch share .fetch .ensures .1 .0 (share-then share .if1 .taken) in
+    ((rw (share .share .ensures) readable, start .pre .1), read-short (known start) (served share refl))
 
 begin-read-requires : tie.Need-begin-read-requires
 unfolding placeOf
 begin-read-requires c κs =
     let gave : tie.After-give = search in
-    let start = fetch-start (bytes-fetch (gave-bytes gave)) in
-    let S = start .pre .0 .0 .2 in
-    (fit start .segment, omega (arith, fit start .file, fit start .place), read-side S _ _ _ (start .pre .0 .1 _ _ S))
+    let start = share-start (gave .before .before) in
+    (fit start .segment, omega (arith, fit start .file, fit start .place), read-side (known start))
 
-quick-rest-requires : tie.Need-quick-rest-requires
+quick-conclude-requires : tie.Need-quick-conclude-requires
 unfolding placeOf
-quick-rest-requires c κs =
-    let began : tie.After-begin-read = search in
-    let gave = began-gave began in
-    let bytes = gave-bytes gave in
-    let k = bytes-fetch bytes in
-    let start = fetch-start k in
-    let typed = fetch-typed k .place-typed .ensures in
-    let S = start .pre .0 .0 .2 in
-    let A = start .pre .0 .1 _ _ S in (
-      (
-        _,
-        _,
-        read-gives S _ _ _ A (seen k) _ (began .begin-read .ensures) (gave-then gave .if1 .taken) _ (gave-share gave .share .ensures) _ typed _ (bytes .count-bytes .ensures .0) _ _ _ _ _
-            (gave .give .ensures .0) (gave .give .ensures .1) refl refl .acts .mid,
-      ),
-      read-rowed S _ _ _ A (seen k) _ (began .begin-read .ensures),
-    )
-
-log-of-requires : tie.Need-log-of-requires
-log-of-requires c κs = search needs
-
-same-length : tie.Need-same-length
-same-length c = search needs
-
-same-length-2 : tie.Need-same-length-2
-same-length-2 c = search needs
-
-same-length-3 : tie.Need-same-length-3
-same-length-3 c = search needs
-
-same-length-4 : tie.Need-same-length-4
-same-length-4 c = search needs
+quick-conclude-requires c κs =
+    let begin : tie.After-begin-read = search in
+    let gave : tie.After-give = search in
+    let share = gave .before .before in
+    let R = known (share-start share) in
+    let w = served share (begin .begin-read .ensures) in
+    ((_, _, read-gives R w (gave .give .ensures .0) (gave .give .ensures .1) refl refl .acts .mid), read-rowed R (w .fetches))
 
 returns : tie.Need-returns
 unfolding placeOf
 returns c =
     let log : tie.After-log-of = search in
-    let settled : tie.After-quick-rest = search in
-    let began : tie.After-begin-read = search in
-    let gave = began-gave began in
-    let bytes = gave-bytes gave in
-    let k = bytes-fetch bytes in
-    let start = fetch-start k in
-    let typed = fetch-typed k .place-typed .ensures in
+    let settled : tie.After-quick-conclude = search in
+    let begin : tie.After-begin-read = search in
+    let gave : tie.After-give = search in
+    let share = gave .before .before in
     λ d s S.
-    gave-of (settled .quick-rest .ensures) (S .stands .bodies)
-    (read-gives S _ _ _ (start .pre .0 .1 d s S) (seen k) _ (began .begin-read .ensures) (gave-then gave .if1 .taken) _ (gave-share gave .share .ensures) _ typed _ (bytes .count-bytes .ensures .0) _ _ _ _ _
-    (gave .give .ensures .0) (gave .give .ensures .1) (log .log-of .ensures) (bytes-words bytes .in-words .ensures))
+    gave-of (settled .quick-conclude .ensures) (S .stands .bodies)
+    (read-gives (reads (share-start share) S) (served share (begin .begin-read .ensures)) (gave .give .ensures .0) (gave .give .ensures .1) (log .log-of .ensures) (share-bytes share .before .in-words .ensures))
 
--- It is not.
+-- The read is not served.
 
 read-place-requires : tie.Need-read-place-requires
-read-place-requires c κs =
-    let bytes : tie.After-count-bytes = search in
-    let F = fit (fetch-start (bytes-fetch bytes)) in
-    (F .segment, omega (arith, F .file, F .place))
+read-place-requires c κs = let fetch : tie.After-fetch = search in let F = fit (fetch-start fetch) in (F .segment, omega (arith, F .file, F .place))
 
 begin-read-requires-2 : tie.Need-begin-read-requires-2
 unfolding placeOf
 begin-read-requires-2 c κs =
-    let bytes : tie.After-count-bytes = search in
-    let start = fetch-start (bytes-fetch bytes) in
-    let S = start .pre .0 .0 .2 in
-    (fit start .segment, omega (arith, fit start .file, fit start .place), read-side S _ _ _ (start .pre .0 .1 _ _ S))
+    let fetch : tie.After-fetch = search in
+    let start = fetch-start fetch in
+    (fit start .segment, omega (arith, fit start .file, fit start .place), read-side (known start))
+
+-- what the code has seen when the accessor has begun
+module _ (c : tie.After-begin-read2) where
+  abbrev began-row : tie.After-read-place
+  began-row = search
+
+  abbrev began-bytes : tie.After-count-bytes
+  began-bytes = search
+
+  abbrev began-fetch : tie.After-fetch
+  began-fetch = began-bytes .before .before
+
+  abbrev began-start : tie.Start
+  began-start = fetch-start began-fetch
+
+  unserved : Unserved (lent began-start) (began-start .args .f) (began-start .args .acc) (began-start .args .count) (fetch-file began-fetch .take-file .result)
+      (began-row .read-place .result) (c .begin-read2 .last .0) (began-fetch .fetch .result) (began-bytes .before .in-words .result) (began-bytes .count-bytes .result)
+  unfolding placeOf
+  unserved =
+      let else : tie.Else1 = search in
+      record {
+        fetches = fetches began-fetch (began-row .read-place .ensures) (c .begin-read2 .ensures);
+        empty = else .if1 .left;
+        words = began-bytes .before .in-words .ensures;
+        counted = began-bytes .count-bytes .ensures .0;
+      }
 
 has-writer-requires : tie.Need-has-writer-requires
-unfolding placeOf
 has-writer-requires c κs =
     let began : tie.After-begin-read2 = search in
-    let else : tie.Else1 = search in
-    let bytes : tie.After-count-bytes = search in
-    let k = bytes-fetch bytes in
-    let start = fetch-start k in
-    let S = start .pre .0 .0 .2 in
-    let A = start .pre .0 .1 _ _ S in (
-      read-free S _ _ _ A (seen k) _ (began .begin-read2 .ensures) (else .if1 .left) _ _ refl (bytes .count-bytes .ensures .0) .0,
-      fit start .file,
-      read-counts S _ _ _ A (seen k) _ (began .begin-read2 .ensures),
-    )
+    let R = known (began-start began) in
+    (read-free R (unserved began) .0, fit (began-start began) .file, read-counts R (unserved began .fetches))
 
-may-wait-requires : tie.Need-may-wait-requires
-may-wait-requires c κs = search needs
+-- whether the read may wait
+module _ (c : tie.After-may-wait) where
+  abbrev may-began : tie.After-begin-read2
+  may-began = search
+
+  may-wait : {t : Bool} → c .may-wait .result ≡ t
+      → t ≡ mayWaitRow (ltb 0 (countSide (may-began .begin-read2 .last .0) (began-start may-began .args .f) 2)) (began-row may-began .read-place .result)
+  may-wait e =
+      let asked : tie.After-has-writer = search in
+      sym e ∙ c .may-wait .ensures ∙ ap (λ (t : Bool). mayWaitRow t (began-row may-began .read-place .result)) (asked .has-writer .ensures)
 
 wait-read-requires : tie.Need-wait-read-requires
 unfolding placeOf
 wait-read-requires c κs =
     let may : tie.After-may-wait = search in
-    let row : tie.After-read-place = search in
-    let began : tie.After-begin-read2 = search in
-    let else : tie.Else1 = search in
-    let bytes : tie.After-count-bytes = search in
-    let start = fetch-start (bytes-fetch bytes) in
-    let S = start .pre .0 .0 .2 in
-    let F = fit start in
-    let free = read-free S _ _ _ (start .pre .0 .1 _ _ S) (seen-row (bytes-fetch bytes) _ (row .read-place .ensures)) _ (began .begin-read2 .ensures) (else .if1 .left) _ _ (bytes-words bytes .in-words .ensures) (bytes .count-bytes .ensures .0) in
+    let began = may-began may in
+    let F = fit (began-start began) in
+    let free = read-free (known (began-start began)) (unserved began) in
     ((free .0, F .file, omega (arith, F .file, F .place), free .1), free .2)
 
-rest-requires : tie.Need-rest-requires
+conclude-requires : tie.Need-conclude-requires
 unfolding placeOf
-rest-requires c κs =
-    let waits : tie.After-wait-read = search in
-    let may : tie.After-may-wait = search in
-    let row : tie.After-read-place = search in
-    let began : tie.After-begin-read2 = search in
-    let else : tie.Else1 = search in
-    let asked : tie.After-has-writer = search in
+conclude-requires c κs =
+    let wait : tie.After-wait-read = search in
     let then : tie.Then2 = search in
-    let bytes : tie.After-count-bytes = search in
-    let start = fetch-start (bytes-fetch bytes) in
-    let S = start .pre .0 .0 .2 in (
-      _,
-      _,
-      read-waits S _ _ _ (start .pre .0 .1 _ _ S) (seen-row (bytes-fetch bytes) _ (row .read-place .ensures)) _ (began .begin-read2 .ensures) (else .if1 .left) _ _ (bytes-words bytes .in-words .ensures)
-          (bytes .count-bytes .ensures .0) (sym (then .if2 .taken) ∙ may .may-wait .ensures ∙ ap (λ (t : Bool). mayWaitRow t (row .read-place .result)) (asked .has-writer .ensures)) (start .args .answer .now) _ (waits .wait-read .ensures) .acts .mid,
-    )
-
-unserved-requires : tie.Need-unserved-requires
-unserved-requires c κs = search needs
-
-same-length-5 : tie.Need-same-length-5
-same-length-5 c = search needs
-
-same-length-6 : tie.Need-same-length-6
-same-length-6 c = search needs
-
-same-length-7 : tie.Need-same-length-7
-same-length-7 c = search needs
+    let may : tie.After-may-wait = search in
+    let began = may-began may in
+    let start = began-start began in
+    (_, _, read-waits (known start) (unserved began) {memory = start .args .answer .now} (may-wait may (then .if2 .taken)) (wait .wait-read .ensures) .acts .mid)
 
 returns-2 : tie.Need-returns-2
 unfolding placeOf
 returns-2 c =
     let told : tie.After-unserved = search in
-    let settled : tie.After-rest = search in
-    let waits : tie.After-wait-read = search in
-    let may : tie.After-may-wait = search in
-    let row : tie.After-read-place = search in
-    let began : tie.After-begin-read2 = search in
-    let else : tie.Else1 = search in
-    let asked : tie.After-has-writer = search in
+    let settled : tie.After-conclude = search in
+    let wait : tie.After-wait-read = search in
     let then : tie.Then2 = search in
-    let bytes : tie.After-count-bytes = search in
-    let start = fetch-start (bytes-fetch bytes) in
+    let may : tie.After-may-wait = search in
+    let began = may-began may in
     λ d s S.
     rw (told .unserved .ensures)
-    (gave-of (settled .rest .ensures) (S .stands .bodies)
-    (read-waits S _ _ _ (start .pre .0 .1 d s S) (seen-row (bytes-fetch bytes) _ (row .read-place .ensures)) _ (began .begin-read2 .ensures) (else .if1 .left) _ _ (bytes-words bytes .in-words .ensures)
-    (bytes .count-bytes .ensures .0) (sym (then .if2 .taken) ∙ may .may-wait .ensures ∙ ap (λ (t : Bool). mayWaitRow t (row .read-place .result)) (asked .has-writer .ensures)) _ _ (waits .wait-read .ensures)))
+    (gave-of (settled .conclude .ensures) (S .stands .bodies) (read-waits (reads (began-start began) S) (unserved began) (may-wait may (then .if2 .taken)) (wait .wait-read .ensures)))
 
-rest-requires-2 : tie.Need-rest-requires-2
-unfolding placeOf
-rest-requires-2 c κs =
-    let ends : tie.Else2 = search in
+conclude-requires-2 : tie.Need-conclude-requires-2
+conclude-requires-2 c κs =
+    let end : tie.Else2 = search in
     let may : tie.After-may-wait = search in
-    let row : tie.After-read-place = search in
-    let began : tie.After-begin-read2 = search in
-    let else : tie.Else1 = search in
-    let asked : tie.After-has-writer = search in
-    let bytes : tie.After-count-bytes = search in
-    let start = fetch-start (bytes-fetch bytes) in
-    let S = start .pre .0 .0 .2 in (
-      _,
-      _,
-      read-ends S _ _ _ (start .pre .0 .1 _ _ S) (seen-row (bytes-fetch bytes) _ (row .read-place .ensures)) _ (began .begin-read2 .ensures) (else .if1 .left)
-          (sym (ends .if2 .left) ∙ may .may-wait .ensures ∙ ap (λ (t : Bool). mayWaitRow t (row .read-place .result)) (asked .has-writer .ensures)) (start .args .answer .now) .acts .mid,
-    )
-
-unserved-requires-2 : tie.Need-unserved-requires-2
-unserved-requires-2 c κs = search needs
-
-same-length-8 : tie.Need-same-length-8
-same-length-8 c = search needs
-
-same-length-9 : tie.Need-same-length-9
-same-length-9 c = search needs
-
-same-length-10 : tie.Need-same-length-10
-same-length-10 c = search needs
+    let began = may-began may in
+    let start = began-start began in
+    (_, _, read-ends (known start) (unserved began) {memory = start .args .answer .now} (may-wait may (end .if2 .left)) .acts .mid)
 
 returns-3 : tie.Need-returns-3
-unfolding placeOf
 returns-3 c =
     let told : tie.After-unserved2 = search in
-    let settled : tie.After-rest2 = search in
-    let ends : tie.Else2 = search in
+    let settled : tie.After-conclude2 = search in
+    let end : tie.Else2 = search in
     let may : tie.After-may-wait = search in
-    let row : tie.After-read-place = search in
-    let began : tie.After-begin-read2 = search in
-    let else : tie.Else1 = search in
-    let asked : tie.After-has-writer = search in
-    let bytes : tie.After-count-bytes = search in
-    let start = fetch-start (bytes-fetch bytes) in
+    let began = may-began may in
     λ d s S.
     rw (told .unserved2 .ensures)
-    (gave-of (settled .rest2 .ensures) (S .stands .bodies)
-    (read-ends S _ _ _ (start .pre .0 .1 d s S) (seen-row (bytes-fetch bytes) _ (row .read-place .ensures)) _ (began .begin-read2 .ensures) (else .if1 .left)
-    (sym (ends .if2 .left) ∙ may .may-wait .ensures ∙ ap (λ (t : Bool). mayWaitRow t (row .read-place .result)) (asked .has-writer .ensures)) _))
+    (gave-of (settled .conclude2 .ensures) (S .stands .bodies) (read-ends (reads (began-start began) S) (unserved began) (may-wait may (end .if2 .left))))
 
 pub read-spec : {M : Type 1} → statement M
 read-spec =
@@ -336,33 +264,33 @@ read-spec =
     place-typed-requires
     place-keep-requires
     fetch-requires
-    in-words-requires
-    count-bytes-requires
-    cast-limit
+    (λ c κs. search needs)
+    (λ c κs. search needs)
+    (λ c. search needs)
     share-requires
     give-requires
     begin-read-requires
-    quick-rest-requires
-    log-of-requires
-    same-length
-    same-length-2
-    same-length-3
-    same-length-4
+    quick-conclude-requires
+    (λ c κs. search needs)
+    (λ c. search needs)
+    (λ c. search needs)
+    (λ c. search needs)
+    (λ c. search needs)
     returns
     read-place-requires
     begin-read-requires-2
     has-writer-requires
-    may-wait-requires
+    (λ c κs. search needs)
     wait-read-requires
-    rest-requires
-    unserved-requires
-    same-length-5
-    same-length-6
-    same-length-7
+    conclude-requires
+    (λ c κs. search needs)
+    (λ c. search needs)
+    (λ c. search needs)
+    (λ c. search needs)
     returns-2
-    rest-requires-2
-    unserved-requires-2
-    same-length-8
-    same-length-9
-    same-length-10
+    conclude-requires-2
+    (λ c κs. search needs)
+    (λ c. search needs)
+    (λ c. search needs)
+    (λ c. search needs)
     returns-3)

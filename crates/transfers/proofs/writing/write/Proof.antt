@@ -1,46 +1,36 @@
 -- `writing::write` meets its contract: an answer to each need, in the order of the code.
-use Rattle.transfers.proofs.Fits.{Fit}
-use Rattle.transfers.proofs.Rests.{done-of}
-use Rattle.transfers.proofs.Writes.{write-fit, write-ranged, write-ready, write-side, write-bytes, write-put, write-rowed, write-free, write-waits, write-ends, write-beside, waits-beside}
-use Rattle.rules.specs.Allocation.{placeOf}
-use Rattle.transfers.specs.Rows.{mayWaitRow}
-use Rattle.memory.specs.Memories.{memories}
 use Prim.Native.Nat.{ℕ}
-use lib.Dec.{ltb}
-use mathlib.Core.Path.{refl, sym, ap, _∙_}
+use mathlib.Core.Bool.{Bool}
+use mathlib.Core.Path.{_≡_, refl, sym, ap, _∙_}
 use native.Mathlib.Omega.{arith}
 use borrow.Author.Needs.{needs}
+use lib.Dec.{ltb}
+use Rattle.rules.specs.Desk.{Desk}
+use Rattle.rules.specs.Allocation.{Alloc, placeOf}
+use Rattle.segment.specs.Fields.{placeAt}
+use Rattle.accessors.specs.Sides.{countSide}
+use Rattle.memory.specs.Memories.{Memories, memories}
+use Rattle.memory.specs.Fine.{StandsFor}
+use Rattle.transfers.specs.Rows.{mayWaitRow}
+use Rattle.transfers.proofs.Fits.{Fit}
+use Rattle.transfers.proofs.Rests.{done-of}
+use Rattle.transfers.proofs.Writes.{Writing, Admitted, Untaken, write-fit, write-ranged, write-ready, write-side, write-bytes, write-put, write-rowed, write-free, write-waits, write-ends, write-beside, waits-beside}
 use Rattle.transfers.proofs.writing.write.Statement.{statement}
 use Rattle.transfers.proofs.writing.write.Tie as tie
 
--- back from a place to one before it, and to the start
-abbrev asked-start : tie.After-taken-now → tie.Start
-asked-start c = search
+-- the memories as they are lent
+abbrev lent : tie.Start → Memories
+lent c = memories (c .args .segment .now) (c .args .blocks .now) (c .args .buffers .now)
 
-abbrev asked-file : tie.After-taken-now → tie.After-take-file
-asked-file c = c .before .before .before
+-- the write on each desk that they stand for, which does not refuse it; and on the desk that is known
+writes : (c : tie.Start) {d : Desk} {s : Alloc} → StandsFor (lent c) d s → Writing (lent c) (c .args .f) (c .args .acc) (c .args .count) (c .args .«data» .now) d s
+writes c S = record { stands = S; accepted = c .pre .0 .1 _ _ S; size = c .pre .1 }
 
-abbrev asked-words : tie.After-taken-now → tie.After-in-words
-asked-words c = c .before .before
+known : (c : tie.Start) → Writing (lent c) (c .args .f) (c .args .acc) (c .args .count) (c .args .«data» .now) (c .pre .0 .0 .0) (c .pre .0 .0 .1)
+known c = writes c (c .pre .0 .0 .2)
 
-abbrev may-asked : tie.After-may-wait → tie.After-taken-now
-may-asked c = search
-
-abbrev may-else : tie.After-may-wait → tie.Else1
-may-else c = search
-
-abbrev may-row : tie.After-may-wait → tie.After-read-place
-may-row c = search
-
-abbrev may-began : tie.After-may-wait → tie.After-begin-write2
-may-began c = search
-
-abbrev may-counted : tie.After-may-wait → tie.After-count-side
-may-counted c = search
-
--- what is asked of numbers and lengths
-fit : (c : tie.Start) → Fit (memories (c .args .segment .now) (c .args .blocks .now) (c .args .buffers .now)) (c .args .f) (c .args .acc)
-fit c = let S = c .pre .0 .0 .2 in write-fit S _ _ _ _ (c .pre .0 .1 _ _ S) (c .pre .1)
+fit : (c : tie.Start) → Fit (lent c) (c .args .f) (c .args .acc)
+fit c = write-fit (known c)
 
 mul-place : tie.Need-mul-place
 mul-place c = let start : tie.Start = search in record { fits = omega (arith, fit start .file) }
@@ -51,17 +41,13 @@ add-place c = let start : tie.Start = search in record { fits = omega (arith, fi
 take-file-requires : tie.Need-take-file-requires
 take-file-requires c κs = let start : tie.Start = search in (fit start .segment, fit start .file)
 
-in-words-requires : tie.Need-in-words-requires
-in-words-requires c κs = search needs
-
 taken-now-requires : tie.Need-taken-now-requires
 taken-now-requires c κs =
     let start : tie.Start = search in
     let file : tie.After-take-file = search in
-    let S = start .pre .0 .0 .2 in
-    (fit start .segment, fit start .file, write-ranged S _ _ _ _ (start .pre .0 .1 _ _ S) (start .pre .1) _ (file .take-file .ensures))
+    (fit start .segment, fit start .file, write-ranged (known start) (file .take-file .ensures))
 
--- It is taken.
+-- The write is taken.
 
 place-id-requires : tie.Need-place-id-requires
 place-id-requires c κs = let start : tie.Start = search in (fit start .segment, omega (arith, fit start .file, fit start .place))
@@ -70,77 +56,65 @@ begin-write-requires : tie.Need-begin-write-requires
 unfolding placeOf
 begin-write-requires c κs =
     let start : tie.Start = search in
-    let file : tie.After-take-file = search in
-    let S = start .pre .0 .0 .2 in
-    (fit start .segment, omega (arith, fit start .file, fit start .place), write-side S _ _ _ _ (start .pre .0 .1 _ _ S) (start .pre .1) _ (file .take-file .ensures))
+    (fit start .segment, omega (arith, fit start .file, fit start .place), write-side (known start))
 
 put-requires : tie.Need-put-requires
 put-requires c κs =
     let start : tie.Start = search in
     let file : tie.After-take-file = search in
-    let S = start .pre .0 .0 .2 in
-    write-ready S _ _ _ _ (start .pre .0 .1 _ _ S) (start .pre .1) _ (file .take-file .ensures)
+    write-ready (known start) (file .take-file .ensures)
 
-quick-rest-requires : tie.Need-quick-rest-requires
+-- what the code has seen when the record is put
+module _ (c : tie.After-put) where
+  abbrev put-start : tie.Start
+  put-start = search
+
+  abbrev put-file : tie.After-take-file
+  put-file = search
+
+  abbrev put-words : tie.After-in-words
+  put-words = search
+
+  abbrev put-began : tie.After-begin-write
+  put-began = search
+
+  admitted : Admitted (lent put-start) (put-start .args .f) (put-start .args .acc) (put-file .take-file .result)
+      (placeAt (put-start .args .segment .now) (placeOf (put-start .args .f) (put-start .args .acc))) (put-began .begin-write .last .0)
+  unfolding placeOf
+  admitted =
+      let then : tie.Then1 = search in
+      let asked : tie.After-taken-now = search in
+      record {
+        seen = record { file = put-file .take-file .ensures; place = refl; began = put-began .begin-write .ensures };
+        fits = sym (then .if1 .taken) ∙ asked .taken-now .ensures .0;
+      }
+
+quick-conclude-requires : tie.Need-quick-conclude-requires
 unfolding placeOf
-quick-rest-requires c κs =
+quick-conclude-requires c κs =
     let put : tie.After-put = search in
-    let then : tie.Then1 = search in
     let id : tie.After-place-id = search in
-    let began : tie.After-begin-write = search in
-    let asked : tie.After-taken-now = search in
-    let file = asked-file asked in
-    let start = asked-start asked in
-    let S = start .pre .0 .0 .2 in
-    let A = start .pre .0 .1 _ _ S in
-    let now = sym (then .if1 .taken) ∙ asked .taken-now .ensures .0 in (
-      (_, _, write-put S _ _ _ _ A (start .pre .1) _ (file .take-file .ensures) _ refl _ (began .begin-write .ensures) now _ _ _ _ _ (id .place-id .ensures) (put .put .ensures .1 .1) refl refl .mid),
-      write-rowed S _ _ _ _ A (start .pre .1) _ (file .take-file .ensures) _ refl _ (began .begin-write .ensures) now _ (put .put .ensures .0),
+    let W = known (put-start put) in (
+      (_, _, write-put W (admitted put) (id .place-id .ensures) (put .put .ensures .1 .1) refl refl .mid),
+      write-rowed W (admitted put) (put .put .ensures .0),
     )
 
 cast-log-of : tie.Need-cast-log-of
-cast-log-of c =
-    let put : tie.After-put = search in
-    let then : tie.Then1 = search in
-    let id : tie.After-place-id = search in
-    let began : tie.After-begin-write = search in
-    let asked : tie.After-taken-now = search in
-    let file = asked-file asked in
-    let start = asked-start asked in
-    let S = start .pre .0 .0 .2 in
-    record { fits = omega (arith, write-bytes S _ _ _ _ (start .pre .0 .1 _ _ S) (start .pre .1) _ (file .take-file .ensures)) }
-
-log-of-requires : tie.Need-log-of-requires
-log-of-requires c κs = search needs
-
-same-length : tie.Need-same-length
-same-length c = search needs
-
-same-length-2 : tie.Need-same-length-2
-same-length-2 c = search needs
-
-same-length-3 : tie.Need-same-length-3
-same-length-3 c = search needs
+cast-log-of c = let put : tie.After-put = search in record { fits = omega (arith, write-bytes (known (put-start put))) }
 
 returns : tie.Need-returns
 unfolding placeOf
 returns c =
-    let settled : tie.After-quick-rest = search in
+    let settled : tie.After-quick-conclude = search in
     let log : tie.After-log-of = search in
     let put : tie.After-put = search in
-    let then : tie.Then1 = search in
     let id : tie.After-place-id = search in
-    let began : tie.After-begin-write = search in
-    let asked : tie.After-taken-now = search in
-    let file = asked-file asked in
-    let start = asked-start asked in
-    let words = asked-words asked in
+    let words = put-words put in
     λ d s S.
-    done-of (settled .quick-rest .ensures) (S .stands .bodies)
-    (write-put S _ _ _ _ (start .pre .0 .1 d s S) (start .pre .1) _ (file .take-file .ensures) _ refl _ (began .begin-write .ensures)
-    (sym (then .if1 .taken) ∙ asked .taken-now .ensures .0) _ _ _ _ _ (id .place-id .ensures) (put .put .ensures .1 .1) (log .log-of .ensures) (words .in-words .ensures))
+    done-of (settled .quick-conclude .ensures) (S .stands .bodies)
+    (write-put (writes (put-start put) S) (admitted put) (id .place-id .ensures) (put .put .ensures .1 .1) (log .log-of .ensures) (words .in-words .ensures))
 
--- It is not.
+-- The write is not taken.
 
 read-place-requires : tie.Need-read-place-requires
 read-place-requires c κs = let start : tie.Start = search in (fit start .segment, omega (arith, fit start .file, fit start .place))
@@ -149,168 +123,115 @@ begin-write-requires-2 : tie.Need-begin-write-requires-2
 unfolding placeOf
 begin-write-requires-2 c κs =
     let start : tie.Start = search in
-    let file : tie.After-take-file = search in
-    let S = start .pre .0 .0 .2 in
-    (fit start .segment, omega (arith, fit start .file, fit start .place), write-side S _ _ _ _ (start .pre .0 .1 _ _ S) (start .pre .1) _ (file .take-file .ensures))
+    (fit start .segment, omega (arith, fit start .file, fit start .place), write-side (known start))
+
+-- what the code has seen when the accessor has begun
+module _ (c : tie.After-begin-write2) where
+  abbrev began-start : tie.Start
+  began-start = search
+
+  abbrev began-file : tie.After-take-file
+  began-file = search
+
+  abbrev began-words : tie.After-in-words
+  began-words = search
+
+  abbrev began-asked : tie.After-taken-now
+  began-asked = search
+
+  abbrev began-else : tie.Else1
+  began-else = search
+
+  abbrev began-row : tie.After-read-place
+  began-row = search
+
+  untaken : Untaken (lent began-start) (began-start .args .f) (began-start .args .acc) (began-start .args .count) (began-file .take-file .result)
+      (began-row .read-place .result) (c .begin-write2 .last .0) (began-words .in-words .result)
+  unfolding placeOf
+  untaken = record {
+    seen = record { file = began-file .take-file .ensures; place = began-row .read-place .ensures; began = c .begin-write2 .ensures };
+    full = sym (began-else .if1 .left) ∙ began-asked .taken-now .ensures .0;
+    words = began-words .in-words .ensures;
+  }
+
+  writers : began-asked .taken-now .result .writers ≡ countSide (began-start .args .segment .now) (began-start .args .f) 2
+  writers = began-asked .taken-now .ensures .1 (began-else .if1 .left)
 
 count-side-requires : tie.Need-count-side-requires
-unfolding placeOf
 count-side-requires c κs =
-    let start : tie.Start = search in
-    let file : tie.After-take-file = search in
-    let asked : tie.After-taken-now = search in
-    let else : tie.Else1 = search in
-    let row : tie.After-read-place = search in
     let began : tie.After-begin-write2 = search in
-    let S = start .pre .0 .0 .2 in (
-      write-free S _ _ _ _ (start .pre .0 .1 _ _ S) (start .pre .1) _ (file .take-file .ensures) _ (row .read-place .ensures) _ (began .begin-write2 .ensures)
-          (sym (else .if1 .left) ∙ asked .taken-now .ensures .0) _ refl .0,
-      fit start .file,
-    )
+    let start = began-start began in
+    (write-free (known start) (untaken began) .0, fit start .file)
 
-may-wait-requires : tie.Need-may-wait-requires
-may-wait-requires c κs = search needs
+-- whether the write may wait
+module _ (c : tie.After-may-wait) where
+  abbrev may-began : tie.After-begin-write2
+  may-began = search
+
+  may-wait : {t : Bool} → c .may-wait .result ≡ t
+      → t ≡ mayWaitRow (ltb 0 (countSide (may-began .begin-write2 .last .0) (began-start may-began .args .f) 1)) (began-row may-began .read-place .result)
+  may-wait e =
+      let counted : tie.After-count-side = search in
+      sym e ∙ c .may-wait .ensures ∙ ap (λ (j : ℕ). mayWaitRow (ltb 0 j) (began-row may-began .read-place .result)) (counted .count-side .ensures .0)
 
 wait-write-requires : tie.Need-wait-write-requires
 unfolding placeOf
 wait-write-requires c κs =
     let may : tie.After-may-wait = search in
-    let else : tie.Else1 = search in
-    let row : tie.After-read-place = search in
-    let began : tie.After-begin-write2 = search in
-    let counted : tie.After-count-side = search in
-    let asked : tie.After-taken-now = search in
-    let file = asked-file asked in
-    let words = asked-words asked in
-    let start = asked-start asked in
-    let S = start .pre .0 .0 .2 in
-    let A = start .pre .0 .1 _ _ S in
+    let began = may-began may in
+    let start = began-start began in
     let F = fit start in
-    let free = write-free S _ _ _ _ A (start .pre .1) _ (file .take-file .ensures) _ (row .read-place .ensures) _ (began .begin-write2 .ensures)
-    (sym (else .if1 .left) ∙ asked .taken-now .ensures .0) _ (words .in-words .ensures) in
-    let short = write-bytes S _ _ _ _ A (start .pre .1) _ (file .take-file .ensures) in
-    ((free .0, F .buffers-size, F .file, omega (arith, F .file, F .place), short, free .1), free .2)
+    let free = write-free (known start) (untaken began) in
+    ((free .0, F .buffers-size, F .file, omega (arith, F .file, F .place), write-bytes (known start), free .1), free .2)
 
 settle-back-requires : tie.Need-settle-back-requires
 unfolding placeOf
 settle-back-requires c κs =
-    let waits : tie.After-wait-write = search in
+    let wait : tie.After-wait-write = search in
     let then : tie.Then2 = search in
     let may : tie.After-may-wait = search in
-    let else : tie.Else1 = search in
-    let row : tie.After-read-place = search in
-    let began : tie.After-begin-write2 = search in
-    let counted : tie.After-count-side = search in
-    let asked : tie.After-taken-now = search in
-    let file = asked-file asked in
-    let words = asked-words asked in
-    let start = asked-start asked in
-    let S = start .pre .0 .0 .2 in
-    let A = start .pre .0 .1 _ _ S in
-    let full = sym (else .if1 .left) ∙ asked .taken-now .ensures .0 in
-    let may-wait = sym (then .if2 .taken) ∙ may .may-wait .ensures ∙ ap (λ (j : ℕ). mayWaitRow (ltb 0 j) (row .read-place .result)) (counted .count-side .ensures .0) in (
-      (
-        _,
-        _,
-        write-waits S _ _ _ _ A (start .pre .1) _ (file .take-file .ensures) _ (row .read-place .ensures) _ (began .begin-write2 .ensures) full may-wait _ _ _ (words .in-words .ensures)
-            (waits .wait-write .ensures .0) (waits .wait-write .ensures .1) .mid,
-      ),
-      λ _.
-          waits-beside S _ _ _ _ A (start .pre .1) _ (file .take-file .ensures) _ (row .read-place .ensures) _ (began .begin-write2 .ensures) full may-wait _ _ _ (words .in-words .ensures)
-          (waits .wait-write .ensures .0) (waits .wait-write .ensures .1) _ (asked .taken-now .ensures .1 (else .if1 .left)),
+    let began = may-began may in
+    let W = known (began-start began) in
+    let so = may-wait may (then .if2 .taken) in (
+      (_, _, write-waits W (untaken began) so (wait .wait-write .ensures .0) (wait .wait-write .ensures .1) .mid),
+      λ _. waits-beside W (untaken began) so (wait .wait-write .ensures .0) (wait .wait-write .ensures .1) (writers began),
     )
-
-untaken-requires : tie.Need-untaken-requires
-untaken-requires c κs = search needs
-
-same-length-4 : tie.Need-same-length-4
-same-length-4 c = search needs
-
-same-length-5 : tie.Need-same-length-5
-same-length-5 c = search needs
-
-same-length-6 : tie.Need-same-length-6
-same-length-6 c = search needs
 
 returns-2 : tie.Need-returns-2
 unfolding placeOf
 returns-2 c =
     let settled : tie.After-settle-back = search in
     let told : tie.After-untaken = search in
-    let waits : tie.After-wait-write = search in
+    let wait : tie.After-wait-write = search in
     let then : tie.Then2 = search in
     let may : tie.After-may-wait = search in
-    let else = may-else may in
-    let row = may-row may in
     let began = may-began may in
-    let counted = may-counted may in
-    let asked = may-asked may in
-    let file = asked-file asked in
-    let words = asked-words asked in
-    let start = asked-start asked in
     λ d s S.
     rw (told .untaken .ensures)
     (done-of (settled .settle-back .ensures) (S .stands .bodies)
-    (write-waits S _ _ _ _ (start .pre .0 .1 d s S) (start .pre .1) _ (file .take-file .ensures) _ (row .read-place .ensures) _ (began .begin-write2 .ensures)
-    (sym (else .if1 .left) ∙ asked .taken-now .ensures .0) (sym (then .if2 .taken) ∙ may .may-wait .ensures ∙ ap (λ (j : ℕ). mayWaitRow (ltb 0 j) (row .read-place .result)) (counted .count-side .ensures .0)) _ _ _ (words .in-words .ensures)
-    (waits .wait-write .ensures .0) (waits .wait-write .ensures .1)))
+    (write-waits (writes (began-start began) S) (untaken began) (may-wait may (then .if2 .taken)) (wait .wait-write .ensures .0) (wait .wait-write .ensures .1)))
 
 settle-back-requires-2 : tie.Need-settle-back-requires-2
-unfolding placeOf
 settle-back-requires-2 c κs =
-    let ends : tie.Else2 = search in
+    let end : tie.Else2 = search in
     let may : tie.After-may-wait = search in
-    let else = may-else may in
-    let row = may-row may in
     let began = may-began may in
-    let counted = may-counted may in
-    let asked = may-asked may in
-    let file = asked-file asked in
-    let start = asked-start asked in
-    let S = start .pre .0 .0 .2 in
-    let A = start .pre .0 .1 _ _ S in (
-      (
-        _,
-        _,
-        write-ends S _ _ _ _ A (start .pre .1) _ (file .take-file .ensures) _ (row .read-place .ensures) _ (began .begin-write2 .ensures)
-            (sym (else .if1 .left) ∙ asked .taken-now .ensures .0)
-            (sym (ends .if2 .left) ∙ may .may-wait .ensures ∙ ap (λ (j : ℕ). mayWaitRow (ltb 0 j) (row .read-place .result)) (counted .count-side .ensures .0)) .mid,
-      ),
-      λ _.
-          write-beside S _ _ _ _ A (start .pre .1) _ (file .take-file .ensures) _ (row .read-place .ensures) _ (began .begin-write2 .ensures) _ (asked .taken-now .ensures .1 (else .if1 .left)),
+    let W = known (began-start began) in (
+      (_, _, write-ends W (untaken began) (may-wait may (end .if2 .left)) .mid),
+      λ _. write-beside W (untaken began .seen) (writers began),
     )
 
-untaken-requires-2 : tie.Need-untaken-requires-2
-untaken-requires-2 c κs = search needs
-
-same-length-7 : tie.Need-same-length-7
-same-length-7 c = search needs
-
-same-length-8 : tie.Need-same-length-8
-same-length-8 c = search needs
-
-same-length-9 : tie.Need-same-length-9
-same-length-9 c = search needs
-
 returns-3 : tie.Need-returns-3
-unfolding placeOf
 returns-3 c =
     let settled : tie.After-settle-back2 = search in
     let told : tie.After-untaken2 = search in
-    let ends : tie.Else2 = search in
+    let end : tie.Else2 = search in
     let may : tie.After-may-wait = search in
-    let else = may-else may in
-    let row = may-row may in
     let began = may-began may in
-    let counted = may-counted may in
-    let asked = may-asked may in
-    let file = asked-file asked in
-    let start = asked-start asked in
     λ d s S.
     rw (told .untaken2 .ensures)
     (done-of (settled .settle-back2 .ensures) (S .stands .bodies)
-    (write-ends S _ _ _ _ (start .pre .0 .1 d s S) (start .pre .1) _ (file .take-file .ensures) _ (row .read-place .ensures) _ (began .begin-write2 .ensures)
-    (sym (else .if1 .left) ∙ asked .taken-now .ensures .0) (sym (ends .if2 .left) ∙ may .may-wait .ensures ∙ ap (λ (j : ℕ). mayWaitRow (ltb 0 j) (row .read-place .result)) (counted .count-side .ensures .0))))
+    (write-ends (writes (began-start began) S) (untaken began) (may-wait may (end .if2 .left))))
 
 pub write-spec : {M : Type 1} → statement M
 write-spec =
@@ -319,32 +240,32 @@ write-spec =
     mul-place
     add-place
     take-file-requires
-    in-words-requires
+    (λ c κs. search needs)
     taken-now-requires
     place-id-requires
     begin-write-requires
     put-requires
-    quick-rest-requires
+    quick-conclude-requires
     cast-log-of
-    log-of-requires
-    same-length
-    same-length-2
-    same-length-3
+    (λ c κs. search needs)
+    (λ c. search needs)
+    (λ c. search needs)
+    (λ c. search needs)
     returns
     read-place-requires
     begin-write-requires-2
     count-side-requires
-    may-wait-requires
+    (λ c κs. search needs)
     wait-write-requires
     settle-back-requires
-    untaken-requires
-    same-length-4
-    same-length-5
-    same-length-6
+    (λ c κs. search needs)
+    (λ c. search needs)
+    (λ c. search needs)
+    (λ c. search needs)
     returns-2
     settle-back-requires-2
-    untaken-requires-2
-    same-length-7
-    same-length-8
-    same-length-9
+    (λ c κs. search needs)
+    (λ c. search needs)
+    (λ c. search needs)
+    (λ c. search needs)
     returns-3)

@@ -14,9 +14,6 @@ block-span-requires c κs =
     let h = stands-held _ _ _ (b3 .before .pre .0) (b3 .before .pre .1) _ (c .before .before .advanced .ensures) in
     (h .fitted, held-ranged _ _ _ h .block)
 
-add-t7 : tie.Need-add-t7
-add-t7 c = search needs
-
 returns : tie.Need-returns
 returns c =
     let b3 = c .before .before .before in
@@ -42,4 +39,4 @@ returns-2 c =
 pub next-spec : {M : Type 1} → statement M
 next-spec =
     tie.close
-    (tie.spec advanced-requires block-span-requires add-t7 returns next-requires returns-2)
+    (tie.spec advanced-requires block-span-requires (λ c. search needs) returns next-requires returns-2)

@@ -8,29 +8,8 @@ use borrow.Author.Needs.{needs}
 use Rattle.sound.proofs.quick.idle.quiet_buffers.Statement.{statement}
 use Rattle.sound.proofs.quick.idle.quiet_buffers.Tie as tie
 
-mul-quiet-runs : tie.Need-mul-quiet-runs
-mul-quiet-runs c = search needs
-
-quiet-runs-requires : tie.Need-quiet-runs-requires
-quiet-runs-requires c κs = search needs
-
 returns : tie.Need-returns
 returns c = λ h. absurd (true≢false (sym h))
-
-mul-quiet : tie.Need-mul-quiet
-mul-quiet c = search needs
-
-mul-quiet-2 : tie.Need-mul-quiet-2
-mul-quiet-2 c = search needs
-
-add-quiet : tie.Need-add-quiet
-add-quiet c = search needs
-
-mul-quiet-3 : tie.Need-mul-quiet-3
-mul-quiet-3 c = search needs
-
-quiet-requires : tie.Need-quiet-requires
-quiet-requires c κs = search needs
 
 returns-2 : tie.Need-returns-2
 returns-2 c =
@@ -41,4 +20,4 @@ returns-2 c =
 pub quiet-buffers-spec : {M : Type 1} → statement M
 quiet-buffers-spec =
     tie.close
-    (tie.spec mul-quiet-runs quiet-runs-requires returns mul-quiet mul-quiet-2 add-quiet mul-quiet-3 quiet-requires returns-2)
+    (tie.spec (λ c. search needs) (λ c κs. search needs) returns (λ c. search needs) (λ c. search needs) (λ c. search needs) (λ c. search needs) (λ c κs. search needs) returns-2)

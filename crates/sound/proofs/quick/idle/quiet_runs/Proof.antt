@@ -16,51 +16,6 @@ abbrev μ-loop : tie.MeasureT-loop
 loop-holds : tie.Need-loop-holds Inv-loop μ-loop
 loop-holds c = (refl, λ h f. f)
 
-shared-slice-read-all : tie.Need-shared-slice-read-all Inv-loop μ-loop
-shared-slice-read-all c = search needs
-
-add-all : tie.Need-add-all Inv-loop μ-loop
-add-all c = search needs
-
-shared-slice-read-all-2 : tie.Need-shared-slice-read-all-2 Inv-loop μ-loop
-shared-slice-read-all-2 c = search needs
-
-mul-all : tie.Need-mul-all Inv-loop μ-loop
-mul-all c = search needs
-
-add-all-2 : tie.Need-add-all-2 Inv-loop μ-loop
-add-all-2 c = search needs
-
-shared-slice-read-all-3 : tie.Need-shared-slice-read-all-3 Inv-loop μ-loop
-shared-slice-read-all-3 c = search needs
-
-mul-all-2 : tie.Need-mul-all-2 Inv-loop μ-loop
-mul-all-2 c = search needs
-
-add-all-3 : tie.Need-add-all-3 Inv-loop μ-loop
-add-all-3 c = search needs
-
-shared-slice-read-all-4 : tie.Need-shared-slice-read-all-4 Inv-loop μ-loop
-shared-slice-read-all-4 c = search needs
-
-mul-all-3 : tie.Need-mul-all-3 Inv-loop μ-loop
-mul-all-3 c = search needs
-
-add-all-4 : tie.Need-add-all-4 Inv-loop μ-loop
-add-all-4 c = search needs
-
-shared-slice-read-all-5 : tie.Need-shared-slice-read-all-5 Inv-loop μ-loop
-shared-slice-read-all-5 c = search needs
-
-add-p : tie.Need-add-p Inv-loop μ-loop
-add-p c = search needs
-
-sub-left : tie.Need-sub-left Inv-loop μ-loop
-sub-left c = search needs
-
-loop-less : tie.Need-loop-less Inv-loop μ-loop
-loop-less c = search needs
-
 loop-again : tie.Need-loop-again Inv-loop μ-loop
 loop-again c =
     let here : tie.In-loop Inv-loop μ-loop = search in let loop-test = here .loop-test in
@@ -78,20 +33,20 @@ quiet-runs-spec =
     Inv-loop
     μ-loop
     loop-holds
-    shared-slice-read-all
-    add-all
-    shared-slice-read-all-2
-    mul-all
-    add-all-2
-    shared-slice-read-all-3
-    mul-all-2
-    add-all-3
-    shared-slice-read-all-4
-    mul-all-3
-    add-all-4
-    shared-slice-read-all-5
-    add-p
-    sub-left
-    loop-less
+    (λ c. search needs)
+    (λ c. search needs)
+    (λ c. search needs)
+    (λ c. search needs)
+    (λ c. search needs)
+    (λ c. search needs)
+    (λ c. search needs)
+    (λ c. search needs)
+    (λ c. search needs)
+    (λ c. search needs)
+    (λ c. search needs)
+    (λ c. search needs)
+    (λ c. search needs)
+    (λ c. search needs)
+    (λ c. search needs)
     loop-again
     returns)

@@ -11,35 +11,11 @@ returns c = (omega arith, omega arith, omega arith, λ b. stays _ _ b _ _)
 returns-2 : tie.Need-returns-2
 returns-2 c = (omega arith, omega arith, omega arith, λ b. stays _ _ b _ _)
 
-element-copy-out-if3 : tie.Need-element-copy-out-if3
-element-copy-out-if3 c = search needs
-
 returns-3 : tie.Need-returns-3
 returns-3 c = (omega arith, omega arith, omega arith, λ b. stays _ _ b _ _)
 
-mul-linked : tie.Need-mul-linked
-mul-linked c = search needs
-
-add-linked : tie.Need-add-linked
-add-linked c = search needs
-
-mul-linked-2 : tie.Need-mul-linked-2
-mul-linked-2 c = search needs
-
-add-linked-2 : tie.Need-add-linked-2
-add-linked-2 c = search needs
-
-linked-requires : tie.Need-linked-requires
-linked-requires c κs = search needs
-
 returns-4 : tie.Need-returns-4
 returns-4 c = (omega arith, omega arith, omega arith, λ b. stays _ _ b _ _)
-
-element-write-seen : tie.Need-element-write-seen
-element-write-seen c = search needs
-
-add-result : tie.Need-add-result
-add-result c = search needs
 
 returns-5 : tie.Need-returns-5
 returns-5 c = (
@@ -58,14 +34,14 @@ by-one-spec =
     (tie.spec
     returns
     returns-2
-    element-copy-out-if3
+    (λ c. search needs)
     returns-3
-    mul-linked
-    add-linked
-    mul-linked-2
-    add-linked-2
-    linked-requires
+    (λ c. search needs)
+    (λ c. search needs)
+    (λ c. search needs)
+    (λ c. search needs)
+    (λ c κs. search needs)
     returns-4
-    element-write-seen
-    add-result
+    (λ c. search needs)
+    (λ c. search needs)
     returns-5)

@@ -3,45 +3,6 @@ use borrow.Author.Needs.{needs}
 use Rattle.sound.proofs.quick.order.four_linked.Statement.{statement}
 use Rattle.sound.proofs.quick.order.four_linked.Tie as tie
 
-add-linked : tie.Need-add-linked
-add-linked c = search needs
-
-linked-requires : tie.Need-linked-requires
-linked-requires c κs = search needs
-
-add-linked-2 : tie.Need-add-linked-2
-add-linked-2 c = search needs
-
-add-linked-3 : tie.Need-add-linked-3
-add-linked-3 c = search needs
-
-linked-requires-2 : tie.Need-linked-requires-2
-linked-requires-2 c κs = search needs
-
-mul-linked : tie.Need-mul-linked
-mul-linked c = search needs
-
-add-linked-4 : tie.Need-add-linked-4
-add-linked-4 c = search needs
-
-add-linked-5 : tie.Need-add-linked-5
-add-linked-5 c = search needs
-
-linked-requires-3 : tie.Need-linked-requires-3
-linked-requires-3 c κs = search needs
-
-mul-linked-2 : tie.Need-mul-linked-2
-mul-linked-2 c = search needs
-
-add-linked-6 : tie.Need-add-linked-6
-add-linked-6 c = search needs
-
-add-linked-7 : tie.Need-add-linked-7
-add-linked-7 c = search needs
-
-linked-requires-4 : tie.Need-linked-requires-4
-linked-requires-4 c κs = search needs
-
 returns : tie.Need-returns
 returns c =
     λ h.
@@ -57,17 +18,17 @@ pub four-linked-spec : {M : Type 1} → statement M
 four-linked-spec =
     tie.close
     (tie.spec
-    add-linked
-    linked-requires
-    add-linked-2
-    add-linked-3
-    linked-requires-2
-    mul-linked
-    add-linked-4
-    add-linked-5
-    linked-requires-3
-    mul-linked-2
-    add-linked-6
-    add-linked-7
-    linked-requires-4
+    (λ c. search needs)
+    (λ c κs. search needs)
+    (λ c. search needs)
+    (λ c. search needs)
+    (λ c κs. search needs)
+    (λ c. search needs)
+    (λ c. search needs)
+    (λ c. search needs)
+    (λ c κs. search needs)
+    (λ c. search needs)
+    (λ c. search needs)
+    (λ c. search needs)
+    (λ c κs. search needs)
     returns)

@@ -3,24 +3,6 @@ use borrow.Author.Needs.{needs}
 use Rattle.sound.proofs.quick.order.linked.Statement.{statement}
 use Rattle.sound.proofs.quick.order.linked.Tie as tie
 
-eight-requires : tie.Need-eight-requires
-eight-requires c κs = search needs
-
-mul-result : tie.Need-mul-result
-mul-result c = search needs
-
-add-eight : tie.Need-add-eight
-add-eight c = search needs
-
-eight-requires-2 : tie.Need-eight-requires-2
-eight-requires-2 c κs = search needs
-
-add-four : tie.Need-add-four
-add-four c = search needs
-
-four-requires : tie.Need-four-requires
-four-requires c κs = search needs
-
 returns : tie.Need-returns
 returns c =
     let start : tie.Start = search in
@@ -31,4 +13,4 @@ returns c =
 pub linked-spec : {M : Type 1} → statement M
 linked-spec =
     tie.close
-    (tie.spec eight-requires mul-result add-eight eight-requires-2 add-four four-requires returns)
+    (tie.spec (λ c κs. search needs) (λ c. search needs) (λ c. search needs) (λ c κs. search needs) (λ c. search needs) (λ c κs. search needs) returns)
