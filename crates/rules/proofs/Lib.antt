@@ -18,3 +18,4 @@ pub mod SessionsFrames
 pub mod SessionsLines
 pub mod SessionsBytes
 pub mod SessionsEntries
+pub mod SessionsManual
