@@ -7,3 +7,5 @@ pub mod OneFile
 pub mod Stays
 pub mod isolation
 pub mod Condition3
+pub mod OneDesk
+pub mod Examples
