@@ -26,7 +26,7 @@ Linked s at n = Led s at n (2 * dataWords)
 unfoldable pub freeFrom : List ℕ → ℕ → List ℕ → List ℕ → ℕ → Walked
 freeFrom s e seen busy n = elim (eqb (getD seen e 0) 0 && freeEntry s e) [ false ↦ walked false seen busy | true ↦ freeWalk s (linkAt e) (set seen e 1) busy n ]
 
--- the walk from e comes to r, at most `most` entries further: with the marks changed from seen to seen′, what is left of it is the walk from r
+-- the walk from e reaches r, at most `most` entries further: with the marks changed from seen to seen′, the walk from r is what is left of it
 abbrev pub Onward : List ℕ → ℕ → ℕ → List ℕ → ℕ → List ℕ → Type 0
 Onward s e most seen r seen′ =
     (e ≤ r) × (r < entries) × (r ≤ e + most) × ((busy : List ℕ) → freeFrom s e seen busy most ≡ freeFrom s r seen′ busy (most - (r - e)))
