@@ -7,9 +7,10 @@
 uint8_t segment[TENDRILHOOK_SEGMENT_BYTES], blocks[TENDRILHOOK_BLOCKS_BYTES], buffers[TENDRILHOOK_BUFFERS_BYTES];
 uint8_t answer[TENDRILHOOK_ANSWER_BYTES];
 
-const char *const state_names[STATES] = { "one file", "crowded", "holding", "full" };
+const char *const state_names[STATES] = { "one file", "crowded", "holding", "full", "wide", "scattered" };
 
-enum { BUILD = 1, OPEN, READ, WRITE, CONTROL, DONE = 0, WAITING = 1, TIMEOUT = 4, ABORT = 43, READS = 0, APPENDS = 3, SHARED = 3 };
+enum { BUILD = 1, OPEN, READ, WRITE, CONTROL, DONE = 0, WAITING = 1, TIMEOUT = 4, ABORT = 43, EXTENDED = 45, READS = 0, APPENDS = 3, SHARED = 3 };
+enum { PLACES = 64, ENTRIES = 128 };
 
 size_t ask(const uint8_t *frame, size_t length)
 {
@@ -97,14 +98,82 @@ static void fill(void)
         }
 }
 
-void bring(enum state state)
+/* Makes the desk fresh and builds file 0. */
+static void bring_fresh(void)
 {
     tendrilhook_fresh(segment, sizeof segment, blocks, sizeof blocks, buffers, sizeof buffers);
-    if (state != ONE_FILE) open_all(state == FULL ? 1 : 4);
+    build(0, 128, 1, 13);
+}
+
+/* Builds the other seven files, of one block of 16 records of 200 bytes, and opens a writer of each: the block holds its open record. */
+static void widen(void)
+{
+    for (uint8_t file = 1; file < 8; file++) {
+        build(file, 100, 16, 14);
+        open_place(file, APPENDS);
+    }
+}
+
+/* Reads word n of the segment (docs/SEGMENT.md). */
+static unsigned word(unsigned n) { return (unsigned)segment[2 * n] << 8 | segment[2 * n + 1]; }
+
+/* Says whether an entry on the free list links to the entry before it or after it in the segment. */
+static int neighbours(void)
+{
+    unsigned entry = word(0), next;
+    for (; entry < ENTRIES; entry = next) {
+        next = word(82 + 10 * entry);
+        if (next == entry + 1 || next + 1 == entry) return 1;
+    }
+    return 0;
+}
+
+/* Makes all 64 places wait, and aborts them in a pseudo-random order. All have a timer, but the first place only if `timed`: without it, the two entries that another
+   place gets were not one place's before. */
+static void wait_and_abort(int timed, unsigned *random)
+{
+    uint8_t order[PLACES];
+    control(0, 0, TIMEOUT, (uint8_t)timed);
+    for (uint8_t n = 0; n < PLACES; n++) {
+        read_words(n / 8, n % 8, WAITING, 1);
+        order[n] = n;
+    }
+    for (unsigned left = PLACES; left > 0; left--) {
+        *random = *random * 1103515245u + 12345u;
+        const unsigned n = (*random >> 16) % left;
+        control(order[n] / 8, order[n] % 8, ABORT, 0);
+        order[n] = order[left - 1];
+    }
+}
+
+/* Puts the free list in no order: readers at all 64 places of the desk wait and are aborted until no entry links to a neighbour. All eight files are needed, since 64
+   waits with timers take all 128 entries. The links are then written into a desk that has file 0 alone: no run leads to it, since a file that is built stays. */
+static void scatter(void)
+{
+    static uint8_t scattered[sizeof segment];
+    unsigned random = 1;
+    for (uint8_t file = 1; file < 8; file++) build(file, 1, 1, 1);
+    for (uint8_t n = 0; n < PLACES; n++) {
+        open_place(n / 8, READS);
+        control(n / 8, n % 8, EXTENDED, 1);
+        control(n / 8, n % 8, TIMEOUT, 1);
+    }
+    for (int round = 0; neighbours(); round++) wait_and_abort(round % 2 == 0, &random);
+    memcpy(scattered, segment, sizeof segment);
+    bring_fresh();
+    memcpy(segment, scattered, 2);
+    for (size_t n = 0; n < ENTRIES; n++) memcpy(segment + 2 * (82 + 10 * n), scattered + 2 * (82 + 10 * n), 2);
+}
+
+void bring(enum state state)
+{
+    bring_fresh();
+    if (state == CROWDED || state == HOLDING || state == FULL) open_all(state == FULL ? 1 : 4);
     if (state == CROWDED || state == HOLDING) shuffle();
     if (state == HOLDING) hold(11);
     if (state == FULL) fill();
-    build(0, 128, 1, 13);
+    if (state == WIDE) widen();
+    if (state == SCATTERED) scatter();
     open_place(0, APPENDS);
     open_place(0, READS);
     /* the first read discards the open record at the head */

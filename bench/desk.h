@@ -5,7 +5,7 @@
 #include "tendrilhook.h"
 
 /* What the other files are like while file 0 passes records. */
-enum state { ONE_FILE, CROWDED, HOLDING, FULL, STATES };
+enum state { ONE_FILE, CROWDED, HOLDING, FULL, WIDE, SCATTERED, STATES };
 
 extern const char *const state_names[STATES];
 

@@ -388,8 +388,8 @@ static void save_all(void)
     }
 }
 
-/* Asks the library about such memories. Here the write's request is gone and its data are not, which no desk has, so the status is 29. It need not be: a
-   call that was stopped earlier can leave a desk, but not one that the calls so far lead to. */
+/* Asks the library about such memories. Here the write's request is gone, and its data still lie in a buffer that no call reads: a desk, so the status is 0,
+   but not one that the calls so far lead to. Only the host knows that a call was stopped. */
 static void ask_library(void)
 {
     static uint8_t sheet[TENDRILHOOK_SHEET_BYTES];

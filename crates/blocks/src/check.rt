@@ -1,4 +1,6 @@
 // Checks that a share holds a file's records, in one walk over the blocks that hold any. Nothing is changed.
+use crate::quick::all_whole;
+use crate::quick::bare_first;
 use crate::quick::whole;
 use kinds::limits::MOST_TYPE;
 use kinds::record_types::DATA;
@@ -59,8 +61,8 @@ fn fair(share: &[u8], words: u16, e: usize, p: usize) -> bool
     share[p + TYPE + follow as usize] == 0
 }
 
-// Whether n valid records (`fair`) follow each other from `at`, the last ends at `end`, and all bytes from there to e are zero.
-fn walk(share: &[u8], words: u16, e: usize, end: usize, at: usize, n: u16) -> bool
+// Whether n valid records (`fair`) follow each other from `at`, and the last ends at `end`. No call reads the bytes from there to e, so nothing is asked of them.
+fn one_by_one(share: &[u8], words: u16, e: usize, end: usize, at: usize, n: usize) -> bool
     requires { ⌜ (length (now share) ≡ shareBytes) × (e ≤ shareBytes) × (at ≤ e) × (words ≤ roomWords) ⌝ }
     ensures { λ r. ⌜ r ≡ walk words (now (share .entry)) e end at n ⌝ }
 {
@@ -78,15 +80,31 @@ fn walk(share: &[u8], words: u16, e: usize, end: usize, at: usize, n: u16) -> bo
         p = next(share, p);
         left -= 1;
     }
-    if p != end {
-        return false;
+    p == end
+}
+
+// Answers as `one_by_one` does. Tests all records at once if all can be of the full size. Else it passes the records without data that stand first, such as those of
+// writers that opened the file, and tests the rest at once if all of these can be.
+fn walk(share: &[u8], words: u16, e: usize, end: usize, at: usize, n: usize) -> bool
+    requires { ⌜ (length (now share) ≡ shareBytes) × (e ≤ shareBytes) × (at + n * (6 + 2 * words) ≤ e) × (words ≤ roomWords) ⌝ }
+    ensures { λ r. ⌜ r ≡ walk words (now (share .entry)) e end at n ⌝ }
+{
+    let size = RECORD_HEAD + 2 * words as usize;
+    if at + n * size == end && all_whole(share, words, at, n) {
+        return true;
     }
-    words::quiet(share, p, e - p)
+    let bare = bare_first(share, at, n);
+    let from = at + RECORD_HEAD * bare;
+    let left = n - bare;
+    if from + left * size == end && all_whole(share, words, from, left) {
+        return true;
+    }
+    one_by_one(share, words, e, end, from, left)
 }
 
 // Whether the block is laid out as it must be, with `count` records.
 fn holds(share: &[u8], words: u16, block: Span, count: u16) -> bool
-    requires { ⌜ (length (now share) ≡ shareBytes) × (4 ≤ block .size) × (block .at + block .size ≤ shareBytes) × (words ≤ roomWords) ⌝ }
+    requires { ⌜ (length (now share) ≡ shareBytes) × (4 + count * (6 + 2 * words) ≤ block .size) × (block .at + block .size ≤ shareBytes) × (words ≤ roomWords) ⌝ }
     ensures { λ r. ⌜ r ≡ laidAt words (now (share .entry)) block && eqb (wordAt (now (share .entry)) (block .at)) count ⌝ }
 {
     let at = block.at;
@@ -95,7 +113,14 @@ fn holds(share: &[u8], words: u16, block: Span, count: u16) -> bool
         return false;
     }
     let end = at + 2 * words::get(share, at + USED) as usize;
-    walk(share, words, at + block.size, end, at + BLOCK_HEAD, n)
+    walk(
+        share,
+        words,
+        at + block.size,
+        end,
+        at + BLOCK_HEAD,
+        count as usize,
+    )
 }
 
 // The number of records in the next block, when `left` are still to be found.

@@ -10,7 +10,7 @@ use Rattle.rules.specs.Desk.{Desk, fileOf}
 use Rattle.texts.specs.Spell.{spell}
 use Rattle.texts.specs.Put.{Put}
 use Rattle.texts.proofs.Runs.{_then_, put-none, put-within}
-use Rattle.board.specs.Board.{accRoom, fileRoom, boardRoom, fileText, filesText, orNothing}
+use Rattle.board.specs.Board.{accRoom, fileRoom, filesRoom, fileText, filesText, orNothing}
 use Rattle.board.specs.Found.{placeTextAt, placesAt}
 use Rattle.board.specs.Promise.{Ends}
 
@@ -43,8 +43,8 @@ module _ (d : Desk) (out₀ : List ℕ) where
   unfolding filesText
   filed-on f out end out′ end′ P Q = rw (add-one f) (put-within (fileRoom * suc f) (omega arith) (P then Q))
 
-  pub filed-all : (f : ℕ) (out : List ℕ) (end : ℕ) → f ≤ files → files ≤ f → Filed f out end → Put boardRoom out₀ 0 (filesText d files) out end
-  filed-all f out end h k P = let e : f ≡ files = omega arith in put-within boardRoom (omega arith) (rw e at P)
+  pub filed-all : (f : ℕ) (out : List ℕ) (end : ℕ) → f ≤ files → files ≤ f → Filed f out end → Put filesRoom out₀ 0 (filesText d files) out end
+  filed-all f out end h k P = let e : f ≡ files = omega arith in put-within filesRoom (omega arith) (rw e at P)
 
 -- where nothing was put
 no-bytes : (t : List ℕ) → 0 ≡ length t → t ≡ []
@@ -56,7 +56,7 @@ unfolding Ends orNothing spell
 ends-none before at out end z Q t before₀ P =
     let e : t ≡ [] = no-bytes t (omega (arith, P .size)) in
     let same : before ≡ before₀ = rw e at (P .bytes) in
-    rw e (rw (← same) (put-within boardRoom (omega arith) Q))
+    rw e (rw (← same) (put-within filesRoom (omega arith) Q))
 
 pub ends-some : (before : List ℕ) (at : ℕ) → (at ≡ 0 → ⊥) → Ends before at before at
 unfolding Ends orNothing

@@ -1,6 +1,7 @@
--- The night board: what is printed of a desk of the rules, file by file. Each line has at most 80 columns (`board-narrow` in columns/proofs/Board.antt).
+-- The night board: what is printed of a desk of the rules, file by file, and a last line if its memories are damaged where no call reads them. Each line has at
+-- most 80 columns (`board-narrow` in columns/proofs/Board.antt).
 use Prim.Native.Nat.{ℕ, zero, suc, _+_, _-_, _*_}
-use mathlib.Core.Bool.{true, false}
+use mathlib.Core.Bool.{Bool, true, false}
 use mathlib.Core.List.{List, [], _∷_, _++_}
 use mathlib.Core.Option.{Option, none, some}
 use lib.Dec.{eqb}
@@ -11,6 +12,8 @@ use Rattle.rules.specs.Requests.{writers, opened, accAt, capacityOf}
 use Rattle.rules.specs.FileCounts.{dataCount}
 use Rattle.rules.specs.Store.{used}
 use Rattle.rules.specs.Desk.{Desk, fileOf}
+use Rattle.memory.specs.Memories.{Memories}
+use Rattle.memory.specs.Swept.{swept}
 use Rattle.texts.specs.Spell.{spell}
 use Rattle.board.specs.Requests.{requestOf}
 use Rattle.notices.specs.Lines.{lineRoom, geometryLine, heldLine, nobodyLine, accessorLine, requestLine}
@@ -53,12 +56,24 @@ orNothing (x ∷ t) = x ∷ t
 unfoldable pub boardText : Desk → List ℕ
 boardText d = orNothing (filesText d files)
 
--- room for every board: two lines for an accessor, two for a file
+-- the last line: calls leave bytes zero that no call reads, so something else wrote there if they are not zero
+unfoldable pub sweptText : Bool → List ℕ
+sweptText true = []
+sweptText false = spell "something other than calls wrote here: bytes that no call reads are not zero\n"
+
+-- the board of a desk and of the memories that stand for it
+unfoldable pub wholeText : Desk → Memories → List ℕ
+wholeText d m = boardText d ++ sweptText (swept d m)
+
+-- room for every board: two lines for an accessor, two for a file, and the last line
 abbrev pub accRoom : ℕ
 accRoom = 2 * lineRoom
 
 abbrev pub fileRoom : ℕ
 fileRoom = 2 * lineRoom + places * accRoom
 
+abbrev pub filesRoom : ℕ
+filesRoom = files * fileRoom
+
 abbrev pub boardRoom : ℕ
-boardRoom = files * fileRoom
+boardRoom = filesRoom + lineRoom

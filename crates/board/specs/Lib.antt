@@ -1,4 +1,5 @@
 pub mod Requests
 pub mod Board
 pub mod Found
+pub mod Swept
 pub mod Promise

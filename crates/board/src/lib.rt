@@ -1,5 +1,7 @@
-// The night board: a text that shows what a desk holds, who has its files open, who waits and what is not collected.
+// The night board: a text that shows what a desk holds, who has its files open, who waits and what is not collected. A last line says if bytes that no call reads
+// are not zero.
 mod outstanding;
+mod unread;
 
 use accessors::sides::count_side;
 use accessors::words_of;
@@ -15,6 +17,7 @@ use notices::put_request;
 use outstanding::request_at;
 use ring::Ring;
 use texts::put_text;
+use unread::swept;
 ghost use mathlib.Core.Path.{_≡_};
 ghost use mathlib.Core.List.{List};
 ghost use Prim.Native.Nat.{ℕ, _+_, _-_, _*_, _≤_, _<_};
@@ -24,23 +27,25 @@ ghost use Rattle.rules.specs.State.{Built, built};
 ghost use Rattle.rules.specs.Desk.{Desk, fileOf};
 ghost use Rattle.rules.specs.Allocation.{Alloc};
 ghost use Rattle.segment.specs.Layout.{segmentBytes};
-ghost use Rattle.memory.specs.Memories.{memories, was};
+ghost use Rattle.memory.specs.Memories.{memories, lent, was};
 ghost use Rattle.memory.specs.Fine.{StandsFor};
+ghost use Rattle.memory.specs.Swept as memory;
 ghost use Rattle.ring.specs.Ring.{Ranged, used};
 ghost use Rattle.midst.specs.FileStands.{FileStands};
-ghost use Rattle.midst.specs.Outcome.{SoundBlocks};
+ghost use Rattle.midst.specs.Outcome.{Sound, SoundBlocks};
 ghost use Rattle.promises.specs.Promise.{written};
 ghost use Rattle.texts.specs.Put.{Put};
-ghost use Rattle.board.specs.Board.{accRoom, fileRoom, boardRoom, fileText, filesText};
+ghost use Rattle.notices.specs.Lines.{lineRoom};
+ghost use Rattle.board.specs.Board.{accRoom, fileRoom, filesRoom, boardRoom, fileText, filesText, sweptText, wholeText};
 ghost use Rattle.board.specs.Found.{placeTextAt, placesAt, accessorsAt};
 ghost use Rattle.board.specs.Promise.{Ends, Board};
 
-// The room of a line: 80 columns and LF. A board has at most two lines for a file and two for an accessor.
+// The room of a line: 80 columns and LF. A board has at most two lines for a file, two for an accessor, and a last one.
 const LINE_ROOM: usize = 81;
 
 const FILE_ROOM: usize = 2 * LINE_ROOM + PLACES * (2 * LINE_ROOM);
 
-pub const BOARD_ROOM: usize = FILES * FILE_ROOM;
+pub const BOARD_ROOM: usize = FILES * FILE_ROOM + LINE_ROOM;
 
 // The number of closed places of a file that nobody has open.
 const ALL_PLACES: u16 = PLACES as u16;
@@ -138,8 +143,8 @@ fn put_if_built(segment: &[u8], blocks: &[u8], out: &mut [u8], at: usize, f: usi
 
 // Puts the lines of all built files.
 fn put_files(segment: &[u8], blocks: &[u8], out: &mut [u8]) -> usize
-    requires { ⌜ SoundBlocks (now segment) (now blocks) × (boardRoom ≤ length (now out)) ⌝ }
-    ensures { λ r. ⌜ ((buffers : List ℕ) (d : Desk) (s : Alloc) → StandsFor (memories (now (segment .entry)) (now (blocks .entry)) buffers) d s → Put boardRoom (now (out .entry)) 0 (filesText d files) (now (out .exit)) r) ⌝ }
+    requires { ⌜ SoundBlocks (now segment) (now blocks) × (filesRoom ≤ length (now out)) ⌝ }
+    ensures { λ r. ⌜ ((buffers : List ℕ) (d : Desk) (s : Alloc) → StandsFor (memories (now (segment .entry)) (now (blocks .entry)) buffers) d s → Put filesRoom (now (out .entry)) 0 (filesText d files) (now (out .exit)) r) ⌝ }
 {
     let mut end = 0;
     let mut f = 0;
@@ -152,13 +157,38 @@ fn put_files(segment: &[u8], blocks: &[u8], out: &mut [u8]) -> usize
 
 // Puts a line that says that no file is built, if nothing was put before.
 fn put_nothing(out: &mut [u8], at: usize) -> usize
-    requires { ⌜ boardRoom ≤ length (now out) ⌝ }
+    requires { ⌜ filesRoom ≤ length (now out) ⌝ }
     ensures { λ r. ⌜ Ends (now (out .entry)) at (now (out .exit)) r ⌝ }
 {
     if at == 0 {
         return put_text(out, 0, b"no file is built\n");
     }
     at
+}
+
+// Puts a last line if bytes that no call reads are not zero.
+fn put_swept(segment: &[u8], blocks: &[u8], buffers: &[u8], out: &mut [u8], at: usize) -> usize
+    requires { ⌜ Sound (lent segment blocks buffers) × (at + lineRoom ≤ length (now out)) ⌝ }
+    ensures { λ r. ⌜ ((d : Desk) (s : Alloc) → StandsFor (was segment blocks buffers) d s → Put lineRoom (now (out .entry)) at (sweptText (memory.swept d (was segment blocks buffers))) (now (out .exit)) r) ⌝ }
+{
+    if swept(segment, blocks, buffers) {
+        return at;
+    }
+    put_text(
+        out,
+        at,
+        b"something other than calls wrote here: bytes that no call reads are not zero\n",
+    )
+}
+
+// Puts the whole board, starting at the first byte of the output.
+fn put_board(segment: &[u8], blocks: &[u8], buffers: &[u8], out: &mut [u8]) -> usize
+    requires { ⌜ Sound (lent segment blocks buffers) × (boardRoom ≤ length (now out)) ⌝ }
+    ensures { λ r. ⌜ ((d : Desk) (s : Alloc) → StandsFor (was segment blocks buffers) d s → Put boardRoom (now (out .entry)) 0 (wholeText d (was segment blocks buffers)) (now (out .exit)) r) ⌝ }
+{
+    let n = put_files(segment, blocks, out);
+    let end = put_nothing(out, n);
+    put_swept(segment, blocks, buffers, out, end)
 }
 
 fn refused(status: u8) -> Shown
@@ -179,8 +209,7 @@ pub fn board(segment: &[u8], blocks: &[u8], buffers: &[u8], out: &mut [u8]) -> S
     if out.len() < BOARD_ROOM {
         return refused(refusals::SHORT);
     }
-    let n = put_files(segment, blocks, out);
-    let length = put_nothing(out, n);
+    let length = put_board(segment, blocks, buffers, out);
     Shown {
         status: refusals::NONE,
         length,

@@ -1,24 +1,16 @@
--- Laws of the bytes of a buffer: how they are written, and that they are the rules'.
+-- Laws of the bytes of a buffer: how they are written.
 use Prim.Native.Nat.{ℕ, _+_, _-_, _≤_}
-use mathlib.Core.Path.{_≡_, refl, sym, ap, _∙_}
+use mathlib.Core.Path.{_≡_, sym, ap, _∙_}
 use mathlib.Core.List.{List, _++_}
-use mathlib.Core.Option.{some}
 use native.Mathlib.Omega.{arith}
-use lib.ListN.{length, length-append}
+use lib.ListN.{length}
 use lib.Seq.{sets}
 use Rattle.words.specs.Word.{zeros}
 use Rattle.words.proofs.Runs.{length-zeros, sets-at}
 use Rattle.words.proofs.Parts.{sets-whole}
 use Rattle.rules.specs.Limits.{bufferBytes}
-use Rattle.rules.specs.State.{Acc}
-use Rattle.rules.specs.Memories.{lies, buffer}
-use Rattle.buffers.specs.Buffer.{filled}
-
-pub length-filled : (d : List ℕ) → length d ≤ bufferBytes → length (filled d) ≡ bufferBytes
-unfolding filled
-length-filled d h =
-    let z = bufferBytes - length d in
-    omega (arith, length-append d (zeros z), length-zeros z)
+use Rattle.rules.specs.Buffers.{filled}
+use Rattle.rules.proofs.Buffers.{length-filled}
 
 -- the data, then zeros
 pub fill-written : (x₀ x₁ x₂ d : List ℕ) → length x₀ ≡ bufferBytes → length d ≤ bufferBytes → x₁ ≡ sets x₀ 0 d
@@ -32,8 +24,3 @@ fill-written x₀ x₁ x₂ d n h e₁ e₂ =
 
 pub clear-written : (x₀ x₁ : List ℕ) → length x₀ ≡ bufferBytes → x₁ ≡ sets x₀ 0 (zeros bufferBytes) → x₁ ≡ zeros bufferBytes
 clear-written x₀ x₁ n e = e ∙ sets-whole x₀ (zeros bufferBytes) (length-zeros bufferBytes ∙ sym n)
-
--- "lies at the start of the accessor's buffer, which is otherwise zero"
-pub buffer-some : (a : Acc) → buffer (some a) ≡ filled (lies (a .req))
-unfolding buffer filled
-buffer-some a = refl

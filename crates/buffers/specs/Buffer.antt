@@ -1,7 +1,7 @@
--- The bytes of a record buffer.
-use Prim.Native.Nat.{ℕ, _-_, _*_}
-use mathlib.Core.List.{List, _++_}
-use lib.ListN.{length}
+-- How many record buffers there are, how many bytes they have, and one of them emptied.
+use Prim.Native.Nat.{ℕ, _*_}
+use mathlib.Core.List.{List}
+use lib.Seq.{sets}
 use Rattle.words.specs.Word.{zeros}
 use Rattle.rules.specs.Limits.{files, places, bufferBytes}
 
@@ -12,6 +12,6 @@ bufferCount = files * places
 abbrev pub buffersBytes : ℕ
 buffersBytes = bufferBytes * bufferCount
 
--- "lies at the start of the accessor's buffer, which is otherwise zero"
-unfoldable pub filled : List ℕ → List ℕ
-filled d = d ++ zeros (bufferBytes - length d)
+-- the record buffers after that of place i is emptied
+abbrev pub emptied : ℕ → List ℕ → List ℕ
+emptied i ys = sets ys (bufferBytes * i) (zeros bufferBytes)

@@ -7,7 +7,8 @@ ghost use lib.Seq.{sets};
 ghost use Rattle.words.specs.Word.{zeros};
 ghost use Rattle.rules.specs.Limits.{bufferBytes};
 ghost use Rattle.rules.specs.Memories.{bufferAt};
-ghost use Rattle.buffers.specs.Buffer.{bufferCount, buffersBytes, filled};
+ghost use Rattle.rules.specs.Buffers.{filled};
+ghost use Rattle.buffers.specs.Buffer.{bufferCount, buffersBytes, emptied};
 use kinds::limits::BUFFER_BYTES;
 
 // Puts the data into the buffer, with zeros after them.
@@ -41,7 +42,7 @@ pub fn fill_at(buffers: &mut [u8], place: usize, data: &[u8])
 
 pub fn clear_at(buffers: &mut [u8], place: usize)
     requires { ⌜ (length (now buffers) ≡ buffersBytes) × (place < bufferCount) ⌝ }
-    ensures { λ _. ⌜ now (buffers .exit) ≡ sets (now (buffers .entry)) (bufferBytes * place) (zeros bufferBytes) ⌝ }
+    ensures { λ _. ⌜ now (buffers .exit) ≡ emptied place (now (buffers .entry)) ⌝ }
 {
     let a = BUFFER_BYTES * place;
     let e = a + BUFFER_BYTES;

@@ -9,7 +9,7 @@ use lib.ListN.{length}
 use Rattle.kinds.specs.declared.Answer.the-variants.{Closed}
 use Rattle.rules.specs.Limits.{files, places}
 use Rattle.rules.specs.State.{Req, idle, reading, writing, readDone, writeDone, Acc, Built}
-use Rattle.rules.specs.Requests.{accAt, withReq, withAccs, withQueues, withTimers, alterAcc, say, requeue, leave, cancel}
+use Rattle.rules.specs.Requests.{accAt, withReq, withAccs, withQueues, withTimers, alterAcc, say, requeue, leave, cancel, withBuffers, request}
 use Rattle.rules.specs.Settle.{settle}
 use Rattle.rules.specs.Close.{closed}
 use Rattle.rules.specs.Reply.{answers, Out, leaves, answering}
@@ -34,7 +34,8 @@ use Rattle.midst.proofs.Begins.{mid-begin}
 use Rattle.midst.proofs.Changes.{mid-below}
 use Rattle.midst.proofs.Accepted.{accepted-close}
 use Rattle.accessors.specs.Outstanding.{queueOf, outstandingAt, outstandingOf}
-use Rattle.controls.specs.Removed.{isWaiting, emptied}
+use Rattle.controls.specs.Removed.{isWaiting}
+use Rattle.buffers.specs.Buffer.{emptied}
 use Rattle.controls.proofs.Cancels.{waiting-awaits, waits-is, removed}
 
 -- no request, or one that waits
@@ -48,7 +49,7 @@ quiet (writeDone q) e n = absurd (omega arith)
 
 -- the accessor of a cancelled request
 cancel-at : (p : ℕ) (a : Acc) (b : Built) → accAt b p ≡ some a → accAt (cancel p b) p ≡ some (withReq idle a)
-unfolding cancel leave say withTimers requeue alterAcc withAccs withQueues accAt
+unfolding cancel leave say withTimers requeue request withBuffers alterAcc withAccs withQueues accAt
 cancel-at p a b e = getD-alter-same (withReq idle) a (b .accs) p e
 
 cancel-still : (a : Acc) → withReq idle a .req ≡ idle
@@ -78,7 +79,7 @@ module _ {m : Memories} {d : Desk} {s : Alloc} (S : StandsFor m d s) (f p : ℕ)
   module _ (side : ℕ) (k : side ≡ placeAt (m .segment) (places * f + p) .side) where
     pub clears : (x : hand.File) → x ≡ fileOfRow (fileAt (m .segment) f) → (xs′ buffers′ : List ℕ)
         → xs′ ≡ cond (isWaiting (outstandingAt (m .segment) f p side)) (cancelled (m .segment) (slotOf (m .segment) (queueOf f side) (places * f + p)) (places * f + p)) (m .segment)
-        → buffers′ ≡ cond (isWaiting (outstandingAt (m .segment) f p side)) (emptied side (places * f + p) (m .buffers)) (m .buffers)
+        → buffers′ ≡ cond (isWaiting (outstandingAt (m .segment) f p side)) (emptied (places * f + p) (m .buffers)) (m .buffers)
         → Cleared f p (start d s m) (memories xs′ (m .blocks) buffers′) x (ask (fileOf d f) (calls.close p))
     clears x ex xs′ buffers′ u v = go (isWaiting (outstandingAt (m .segment) f p side)) refl u v
       where
@@ -92,7 +93,7 @@ module _ {m : Memories} {d : Desk} {s : Alloc} (S : StandsFor m d s) (f p : ℕ)
         waits t e = sym (waits-is M p (A .known .a) (A .known .at) side k) ∙ e
 
         go : (t : Bool) → isWaiting (outstandingAt (m .segment) f p side) ≡ t → xs′ ≡ cond t (cancelled (m .segment) (slotOf (m .segment) (queueOf f side) (places * f + p)) (places * f + p)) (m .segment)
-            → buffers′ ≡ cond t (emptied side (places * f + p) (m .buffers)) (m .buffers)
+            → buffers′ ≡ cond t (emptied (places * f + p) (m .buffers)) (m .buffers)
             → Cleared f p (start d s m) (memories xs′ (m .blocks) buffers′) x (ask (fileOf d f) (calls.close p))
         go true e y z =
             record {

@@ -98,6 +98,6 @@ module _ {f : ℕ} {o : Start} {ms : Memories} {x : hand.File} {b : Built} (M : 
         ap (λ (m : ℕ). putRec (closeRec m) (lastGone (vacate p b))) id-is
         ∙ sym (pick-true (a .writer) (putRec (closeRec (a .ident)) (lastGone (vacate p b))) (vacate p b) (writer h))
 
-    pub writer-done : row .side ≡ 2 → {ys bs : List ℕ} {y : hand.File} → Mid Fine f o (memories ys bs (ms .buffers)) y (putRec (closeRec (row .id)) (lastGone (vacate p b)))
-        → Mid Fine f o (memories ys bs (ms .buffers)) y (closed p a b)
-    writer-done h {ys} {bs} {y} N = subst (λ (c : Built). Mid Fine f o (memories ys bs (ms .buffers)) y c) (writer-closed h) N
+    pub writer-done : row .side ≡ 2 → {xs bs ys : List ℕ} {y : hand.File} → Mid Fine f o (memories xs bs ys) y (putRec (closeRec (row .id)) (lastGone (vacate p b)))
+        → Mid Fine f o (memories xs bs ys) y (closed p a b)
+    writer-done h {xs} {bs} {ys} {y} N = subst (λ (c : Built). Mid Fine f o (memories xs bs ys) y c) (writer-closed h) N

@@ -13,9 +13,9 @@ use Rattle.occurrences.specs.Count.{bit, count}
 use Rattle.occurrences.proofs.Counts.{bit-eq, count-apart}
 use Rattle.rules.specs.Limits.{places}
 use Rattle.rules.specs.State.{Wanted, Req, reading, ends, Acc, Built}
-use Rattle.rules.specs.Requests.{accAt, withAccs, withQueues, withTimers, alterAcc, say, without, requeue, leave, finish, readFails, failReq, fail}
+use Rattle.rules.specs.Requests.{accAt, withAccs, withQueues, withTimers, alterAcc, say, without, requeue, leave, finish, readFails, failReq, fail, withBuffers, request}
 use Rattle.rules.specs.Close.{endReaders}
-use Rattle.rules.specs.Memories.{lies}
+use Rattle.rules.specs.Buffers.{lies}
 use Rattle.rules.specs.Allocation.{Alloc, placeOf, heldAt, ownEntry, endsAt, allot, allotAll}
 use Rattle.rules.proofs.Split.{pick-true, pick-false}
 use Rattle.segment.specs.declared.PlaceRow.{PlaceRow}
@@ -33,19 +33,20 @@ use Rattle.memory.specs.Image as image
 use Rattle.midst.specs.declared.File as hand
 use Rattle.midst.specs.Mid.{Start, Mid}
 use Rattle.midst.proofs.Begins.{mid-place}
-use Rattle.midst.proofs.Changes.{Knows, keep, mid-below}
+use Rattle.midst.proofs.Changes.{Knows, clear, mid-below}
 use Rattle.midst.proofs.Lists.{entriesIn}
 use Rattle.midst.proofs.Requests.{step-finish}
 use Rattle.midst.proofs.Cuts.{without-absent}
 use Rattle.midst.proofs.Terms.{ends-other, place-other}
 use Rattle.midst.proofs.Waits.{allot-snoc}
 use Rattle.midst.proofs.Walks.{Owed, fine-walks}
+use Rattle.buffers.specs.Buffer.{emptied}
 use Rattle.closing.specs.Walk.{endWords, Walk}
 use Rattle.closing.proofs.Walks.{Next, once}
 
 -- while a close record is owed, as much is known of a file as the changes of requests ask
 pub owed-knows : (n : ℕ) → Knows (Owed n)
-owed-knows n = record { agree = λ b h. h .1 .0; bounds = λ b h. h .0 .0 .0; words = λ b h. h .0 .0 .1 .geo .words-high }
+owed-knows n = record { agree = λ b h. h .1 .0; bounds = λ b h. h .0 .0 .0 }
 
 bit-one : (t : Bool) → bit t ≡ 1 → t ≡ true
 bit-one true e = refl
@@ -130,7 +131,7 @@ module _ {n f : ℕ} {o : Start} {m : Memories} {x : hand.File} {from : Built} {
       only = once W (N .place) (N .others) (N .first)
 
       ended : allotAll f (c .past) (o .alloc) ≡ endsAt (placeOf f (N .place)) t
-      unfolding finish leave say withTimers requeue alterAcc withAccs withQueues allot
+      unfolding finish leave say withTimers requeue request withBuffers alterAcc withAccs withQueues allot
       ended = allot-snoc f (b .past) (ends (N .place) 2) (o .alloc)
 
       same-kept : entriesIn f (allotAll f (c .past) (o .alloc)) (W .kept) ≡ entriesIn f t (W .kept)
@@ -140,28 +141,30 @@ module _ {n f : ℕ} {o : Start} {m : Memories} {x : hand.File} {from : Built} {
           (place-other f (N .place) y (count-apart y (N .place) (W .kept) k (only .0)))))
 
       queue-now : c .rq ≡ W .kept ++ N .others
-      unfolding finish leave say withTimers requeue alterAcc withAccs withQueues
+      unfolding finish leave say withTimers requeue request withBuffers alterAcc withAccs withQueues
       queue-now =
           ap (without (N .place)) queue-is
           ∙ without-seam (N .place) (W .kept) (N .others) (only .0) (only .1)
 
-      mid-now : (xs′ : List ℕ) → xs′ ≡ completed (m .segment) slot (entryAt (m .segment) e .place) (endWords (entryAt (m .segment) e .place)) → Mid (Owed n) f o (memories xs′ (m .blocks) (m .buffers)) x c
+      mid-now : (xs′ ys′ : List ℕ) → xs′ ≡ completed (m .segment) slot (entryAt (m .segment) e .place) (endWords (entryAt (m .segment) e .place)) → ys′ ≡ emptied (entryAt (m .segment) e .place) (m .buffers)
+          → Mid (Owed n) f o (memories xs′ (m .blocks) ys′) x c
       unfolding endWords reqWords waitsRead waitsWrite lies entryWords
-      mid-now xs′ u =
+      mid-now xs′ ys′ u v =
           let short : 0 ≤ N .wanted .limit = omega arith in
           let ending : Ends 2 (reading (N .wanted)) (readFails 2) = readEnds {x = N .wanted} refl short (omega arith) in
-          rw (u, N .entry) (subst (λ (z : ℕ). Mid (Owed n) f o (memories (completed (m .segment) z (placeOf f (N .place)) (endWords (placeOf f (N .place)))) (m .blocks) (m .buffers)) x c) (sym (W .at))
+          rw (u, N .entry) (subst (λ (z : ℕ). Mid (Owed n) f o (memories (completed (m .segment) z (placeOf f (N .place)) (endWords (placeOf f (N .place)))) (m .blocks) ys′) x c) (sym (W .at))
           (step-finish (owed-knows n) (W .mid) (N .place) (N .acc) (N .opens) false 2 (reading (N .wanted)) (readFails 2) (N .asks) refl
-          ending (W .kept) (N .others) queue-is (only .0) (m .buffers)
+          ending (W .kept) (N .others) queue-is (only .0) ys′
           (fine-walks .endings n (N .place) 2 (readFails 2) (N .acc) (reading (N .wanted)) b (N .opens) (N .asks) ending (W .mid .good))
-          (keep refl (sym (ap lies (N .asks))))))
+          (clear f (N .place) (readFails 2) (m .buffers) refl (v ∙ ap (λ (i : ℕ). emptied i (m .buffers)) (N .entry)))))
 
-      pub next-ended : (xs′ : List ℕ) → xs′ ≡ completed (m .segment) slot (entryAt (m .segment) e .place) (endWords (entryAt (m .segment) e .place)) → Walk (Owed n) f o (memories xs′ (m .blocks) (m .buffers)) x from slot (left - 1)
-      next-ended xs′ u = record {
+      pub next-ended : (xs′ ys′ : List ℕ) → xs′ ≡ completed (m .segment) slot (entryAt (m .segment) e .place) (endWords (entryAt (m .segment) e .place)) → ys′ ≡ emptied (entryAt (m .segment) e .place) (m .buffers)
+          → Walk (Owed n) f o (memories xs′ (m .blocks) ys′) x from slot (left - 1)
+      next-ended xs′ ys′ u v = record {
         file = c;
         kept = W .kept;
         rest = N .others;
-        mid = mid-now xs′ u;
+        mid = mid-now xs′ ys′ u v;
         queue = queue-now;
         at = W .at ∙ ap (slotAt (readQueue f)) (sym same-kept);
         few = omega (arith, W .few, ap length (N .first));

@@ -18,6 +18,7 @@ use Rattle.rules.specs.Allocation.{Alloc, placeOf, heldAt, ownEntry, allotAll}
 use Rattle.segment.specs.Layout.{listCount, segmentBytes, readQueue, fileRows}
 use Rattle.segment.specs.Table.{nth, dataOf}
 use Rattle.segment.specs.Fields.{entryWords, entryOf, entryAt}
+use Rattle.buffers.specs.Buffer.{buffersBytes}
 use Rattle.ports.specs.Lists.{Chain}
 use Rattle.ports.proofs.Chains.{slotAt, slot-word, slot-end}
 use Rattle.ports.proofs.Lists.{short, slot-in}
@@ -80,8 +81,8 @@ module _ {n f : ℕ} {o : Start} {ms : Memories} {x : hand.File} {from : Built} 
   pub walk-slot : slot < fileRows
   walk-slot = rw (W .at) (slot-in (W .mid .segment .boxes .lists) (readQueue f) (entriesIn f t (W .kept)) (entriesIn f t (W .rest)) low split .0)
 
-  pub walk-size : length (ms .segment) ≡ segmentBytes
-  walk-size = mid-lengths (W .mid)
+  pub walk-size : (length (ms .segment) ≡ segmentBytes) × (length (ms .buffers) ≡ buffersBytes)
+  walk-size = (mid-lengths (W .mid), W .mid .buffers-size)
 
   chain : Chain (ms .segment) (readQueue f) (entriesIn f t (W .kept) ++ entriesIn f t (W .rest))
   chain = rw split at (W .mid .segment .boxes .lists .chains (readQueue f) low)

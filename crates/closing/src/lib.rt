@@ -1,14 +1,12 @@
 // Close: "a waiting request is cancelled; for the last writer, every waiting reader without extended wait, in queue order, completes with status 2;
 // then a writer's close record is put." The call has been judged and is not refused.
 ghost use mathlib.Core.Path.{_≡_};
-ghost use mathlib.Core.List.{List};
 ghost use mathlib.Core.Option.{some};
-ghost use Prim.Native.Nat.{ℕ};
 ghost use Rattle.rules.specs.State.{idle, Acc, Built};
 ghost use Rattle.rules.specs.Requests.{accAt, putRec};
 ghost use Rattle.rules.specs.Close.{closeRec, lastGone, closed};
 ghost use Rattle.rules.specs.Calls as calls;
-ghost use Rattle.memory.specs.Memories.{memories, lent, was, left};
+ghost use Rattle.memory.specs.Memories.{lent, was, left};
 ghost use Rattle.memory.specs.Fine.{Fine};
 ghost use Rattle.midst.specs.Mid.{Start, Mid};
 ghost use Rattle.midst.specs.Outcome.{Sound, Accepted, Does};
@@ -29,19 +27,33 @@ use settling::conclude;
 use store::put;
 
 // Ends the waiting readers if the writer that has gone was the last, "then a writer's close record is put".
-fn part(segment: &mut [u8], blocks: &mut [u8], f: usize, file: File, id: u16) -> File
-    requires { ⌜ ((buffers : List ℕ) × (o : Start) × (b : Built) × Mid (Owed id) f o (memories (now segment) (now blocks) buffers) file b) ⌝ }
-    ensures { λ r. ⌜ ((buffers : List ℕ) (o : Start) (b : Built) → Mid (Owed id) f o (memories (now (segment .entry)) (now (blocks .entry)) buffers) file b → Mid Fine f o (memories (now (segment .exit)) (now (blocks .exit)) buffers) r (putRec (closeRec id) (lastGone b))) ⌝ }
+fn part(
+    segment: &mut [u8],
+    blocks: &mut [u8],
+    buffers: &mut [u8],
+    f: usize,
+    file: File,
+    id: u16,
+) -> File
+    requires { ⌜ ((o : Start) × (b : Built) × Mid (Owed id) f o (lent segment blocks buffers) file b) ⌝ }
+    ensures { λ r. ⌜ ((o : Start) (b : Built) → Mid (Owed id) f o (was segment blocks buffers) file b → Mid Fine f o (left segment blocks buffers) r (putRec (closeRec id) (lastGone b))) ⌝ }
 {
-    last_gone(segment, f);
+    last_gone(segment, buffers, f);
     let nothing = [0u8; 0];
     put(blocks, f, file, CLOSE, id, &nothing)
 }
 
 // Removes the accessor at place acc, which has no request.
-fn leave(segment: &mut [u8], blocks: &mut [u8], f: usize, acc: usize, file: File) -> File
-    requires { ⌜ ((buffers : List ℕ) × (o : Start) × (b : Built) × (a : Acc) × Mid Fine f o (memories (now segment) (now blocks) buffers) file b × (accAt b acc ≡ some a) × (a .req ≡ idle)) ⌝ }
-    ensures { λ r. ⌜ ((buffers : List ℕ) (o : Start) (b : Built) (a : Acc) → Mid Fine f o (memories (now (segment .entry)) (now (blocks .entry)) buffers) file b → accAt b acc ≡ some a → a .req ≡ idle → Mid Fine f o (memories (now (segment .exit)) (now (blocks .exit)) buffers) r (closed acc a b)) ⌝ }
+fn leave(
+    segment: &mut [u8],
+    blocks: &mut [u8],
+    buffers: &mut [u8],
+    f: usize,
+    acc: usize,
+    file: File,
+) -> File
+    requires { ⌜ ((o : Start) × (b : Built) × (a : Acc) × Mid Fine f o (lent segment blocks buffers) file b × (accAt b acc ≡ some a) × (a .req ≡ idle)) ⌝ }
+    ensures { λ r. ⌜ ((o : Start) (b : Built) (a : Acc) → Mid Fine f o (was segment blocks buffers) file b → accAt b acc ≡ some a → a .req ≡ idle → Mid Fine f o (left segment blocks buffers) r (closed acc a b)) ⌝ }
 {
     let place = PLACES * f + acc;
     let row = segment::read_place(segment, place);
@@ -59,7 +71,7 @@ fn leave(segment: &mut [u8], blocks: &mut [u8], f: usize, acc: usize, file: File
     if row.side != WRITER {
         return file;
     }
-    part(segment, blocks, f, file, row.id)
+    part(segment, blocks, buffers, f, file, row.id)
 }
 
 pub fn close(
@@ -75,7 +87,7 @@ pub fn close(
     let side = segment::place_side(segment, PLACES * f + acc);
     let file = take_file(segment, f);
     remove(segment, buffers, f, acc, side);
-    let left = leave(segment, blocks, f, acc, file);
+    let left = leave(segment, blocks, buffers, f, acc, file);
     conclude(segment, blocks, buffers, f, left);
     Answer::Closed
 }

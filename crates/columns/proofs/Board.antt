@@ -1,7 +1,7 @@
--- The board of every desk is a text of lines of at most 80 columns.
+-- The board of every desk and its memories is a text of lines of at most 80 columns.
 use Prim.Native.Nat.{ℕ, zero, suc}
 use mathlib.Core.Path.{_≡_, refl, sym, ap, _∙_}
-use mathlib.Core.Bool.{true}
+use mathlib.Core.Bool.{Bool, true, false}
 use mathlib.Core.List.{List, [], _∷_, append-nil}
 use mathlib.Core.Option.{Option, none, some}
 use native.Mathlib.Omega.{arith}
@@ -13,10 +13,12 @@ use Rattle.rules.specs.Requests.{accAt, opened}
 use Rattle.rules.specs.FileCounts.{dataCount}
 use Rattle.rules.specs.Desk.{Desk, fileOf}
 use Rattle.rules.proofs.Split.{both}
+use Rattle.memory.specs.Memories.{Memories}
+use Rattle.memory.specs.Swept.{swept}
 use Rattle.texts.specs.Spell.{spell}
 use Rattle.notices.specs.Lines.{lf}
 use Rattle.board.specs.Requests.{requestOf}
-use Rattle.board.specs.Board.{roomLeft, accText, placesText, accessorsText, fileText, filesText, orNothing, boardText}
+use Rattle.board.specs.Board.{roomLeft, accText, placesText, accessorsText, fileText, filesText, orNothing, boardText, sweptText, wholeText}
 use Rattle.columns.specs.Columns.{narrow}
 use Rattle.columns.proofs.Pieces.{plain, text, Ruled, ruled-line, ruled-none, ruled-append}
 use Rattle.columns.proofs.Lines.{geometry-ruled, held-ruled, nobody-ruled, accessor-ruled, request-ruled}
@@ -53,8 +55,18 @@ unfolding orNothing spell plain lf
 or-ruled [] h = ruled-line {k = 16} (omega arith) (record { body = spell "no file is built"; is = refl; piece = text "no file is built" refl })
 or-ruled (x ∷ t) h = h
 
+swept-ruled : (t : Bool) → Ruled (sweptText t)
+unfolding sweptText spell plain lf
+swept-ruled true = ruled-none
+swept-ruled false =
+    ruled-line {k = 76} (omega arith)
+    (record { body = spell "something other than calls wrote here: bytes that no call reads are not zero"; is = refl; piece = text "something other than calls wrote here: bytes that no call reads are not zero" refl })
+
+whole-ruled : (d : Desk) (m : Memories) → Ruled (wholeText d m)
+unfolding wholeText boardText
+whole-ruled d m = ruled-append (or-ruled (filesText d files) (files-ruled d files)) (swept-ruled (swept d m))
+
 -- no line has more than 80 columns, and each ends with LF
-pub board-narrow : (d : Desk) → narrow 0 (boardText d) ≡ true
-unfolding boardText narrow
-board-narrow d =
-    ap (narrow 0) (sym (append-nil (orNothing (filesText d files)))) ∙ or-ruled (filesText d files) (files-ruled d files) .whole []
+pub board-narrow : (d : Desk) (m : Memories) → narrow 0 (wholeText d m) ≡ true
+unfolding narrow
+board-narrow d m = ap (narrow 0) (sym (append-nil (wholeText d m))) ∙ whole-ruled d m .whole []

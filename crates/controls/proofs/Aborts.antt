@@ -32,7 +32,8 @@ use Rattle.midst.proofs.Begins.{mid-begin}
 use Rattle.midst.proofs.Changes.{mid-below}
 use Rattle.midst.proofs.Accepted.{accepted-control, accepted-abort}
 use Rattle.accessors.specs.Outstanding.{queueOf, outstandingAt, outstandingOf}
-use Rattle.controls.specs.Removed.{isWaiting, emptied}
+use Rattle.controls.specs.Removed.{isWaiting}
+use Rattle.buffers.specs.Buffer.{emptied}
 use Rattle.controls.specs.Acts.{Taken}
 use Rattle.controls.proofs.Unsettled.{begins-rowed, stays-done}
 use Rattle.controls.proofs.Cancels.{waiting-awaits, waits-is, removed, removed-rowed}
@@ -76,10 +77,10 @@ module _ {m : Memories} {d : Desk} {s : Alloc} (S : StandsFor m d s) (f p v : �
   out = cancelled (m .segment) (slotOf (m .segment) (queueOf f side) (places * f + p)) (places * f + p)
 
   abbrev rest : List ℕ
-  rest = emptied side (places * f + p) (m .buffers)
+  rest = emptied (places * f + p) (m .buffers)
 
   module _ (xs′ buffers′ : List ℕ) (u : xs′ ≡ cond (isWaiting (outstandingAt (m .segment) f p side)) (cancelled (m .segment) (slotOf (m .segment) (queueOf f side) (places * f + p)) (places * f + p)) (m .segment))
-      (z : buffers′ ≡ cond (isWaiting (outstandingAt (m .segment) f p side)) (emptied side (places * f + p) (m .buffers)) (m .buffers)) where
+      (z : buffers′ ≡ cond (isWaiting (outstandingAt (m .segment) f p side)) (emptied (places * f + p) (m .buffers)) (m .buffers)) where
     pub abort-waits : isWaiting (outstandingAt (m .segment) f p side) ≡ true → Bytes xs′ → Bytes buffers′
         → Done f d s (ask (fileOf d f) (calls.control p (some (Abort v)))) m (memories xs′ (m .blocks) buffers′) Controlled
     abort-waits w bs bf =

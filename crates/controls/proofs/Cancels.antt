@@ -4,14 +4,13 @@ use mathlib.Core.Path.{_≡_, refl, sym, ap, _∙_}
 use mathlib.Core.Bool.{Bool, true, false, cond, true≢false}
 use mathlib.Core.List.{List}
 use mathlib.Core.Option.{some}
-use native.Mathlib.Omega.{arith}
 use lib.Dec.{eqb}
 use Rattle.occurrences.specs.Count.{bit}
 use Rattle.rules.specs.Limits.{places}
 use Rattle.rules.specs.State.{Req, idle, reading, writing, readDone, writeDone, Acc, Built, built}
 use Rattle.rules.specs.Desk.{withFile}
 use Rattle.rules.specs.Requests.{accAt, cancel}
-use Rattle.rules.specs.Memories.{lies}
+use Rattle.rules.specs.Buffers.{lies}
 use Rattle.rules.specs.Allocation.{placeOf, allotAll}
 use Rattle.segment.specs.Layout.{readQueue, writeQueue}
 use Rattle.segment.specs.Fields.{placeAt, placeRowOf}
@@ -25,7 +24,7 @@ use Rattle.midst.specs.declared.File as hand
 use Rattle.midst.specs.Seg.{queueAt}
 use Rattle.midst.specs.Mid.{Start, Mid}
 use Rattle.midst.proofs.Begins.{mid-file, mid-place}
-use Rattle.midst.proofs.Changes.{fine-knows, Laid, keep, clear, mid-below}
+use Rattle.midst.proofs.Changes.{fine-knows, clear, mid-below}
 use Rattle.midst.proofs.Requests.{step-cancel}
 use Rattle.midst.proofs.Terms.{waitsAt}
 use Rattle.midst.proofs.Walks.{fine-walks}
@@ -33,7 +32,8 @@ use Rattle.midst.proofs.EndsUnwritten.{Rowed, rowed-cancel}
 use Rattle.accessors.specs.Outstanding.{queueOf, outstandingAt, outstandingOf}
 use Rattle.accessors.specs.Sides.{sideOf}
 use Rattle.accessors.proofs.Waits.{outstanding-boxes}
-use Rattle.controls.specs.Removed.{isWaiting, emptied}
+use Rattle.controls.specs.Removed.{isWaiting}
+use Rattle.buffers.specs.Buffer.{emptied}
 
 -- the side that a row has
 two : (w : Bool) → eqb (1 + bit w) 2 ≡ w
@@ -57,20 +57,6 @@ waiting-awaits (writing q) e = refl
 waiting-awaits (readDone q) e = absurd (true≢false (sym e))
 waiting-awaits (writeDone q) e = absurd (true≢false (sym e))
 
--- no data lie in a reader's buffer while its request waits
-reads-nothing : (q : Req) → waitsRead q ≡ 1 → lies idle ≡ lies q
-unfolding waitsRead lies
-reads-nothing idle h = refl
-reads-nothing (reading q) h = refl
-reads-nothing (writing q) h = absurd (omega arith)
-reads-nothing (readDone q) h = absurd (omega arith)
-reads-nothing (writeDone q) h = refl
-
-laid : (w : Bool) (f p : ℕ) (q : Req) (ys : List ℕ) → waitsAt w q ≡ 1 → Laid f p q idle ys (cond w (emptied 2 (placeOf f p) ys) ys)
-unfolding emptied lies
-laid true f p q ys h = clear refl refl
-laid false f p q ys h = keep refl (reads-nothing q h)
-
 module _ {f : ℕ} {o : Start} {m : Memories} {x : hand.File} {b : Built} (M : Mid Fine f o m x b) (p : ℕ) (a : Acc) (e : accAt b p ≡ some a)
     (side : ℕ) (k : side ≡ placeAt (m .segment) (places * f + p) .side) where
   side-is : side ≡ 1 + bit (a .writer)
@@ -91,20 +77,12 @@ module _ {f : ℕ} {o : Start} {m : Memories} {x : hand.File} {b : Built} (M : M
     waits : waitsAt (a .writer) (a .req) ≡ 1
     waits = waits-side (a .writer) (a .req) (M .good .sides p a e .request) (sym waits-is ∙ w)
 
-    emptied-is : emptied side (places * f + p) (m .buffers) ≡ cond (a .writer) (emptied 2 (placeOf f p) (m .buffers)) (m .buffers)
-    unfolding emptied placeOf
-    emptied-is = ap (λ n. emptied n (places * f + p) (m .buffers)) side-is ∙ go (a .writer)
-      where
-        go : (t : Bool) → emptied (1 + bit t) (places * f + p) (m .buffers) ≡ cond t (emptied 2 (placeOf f p) (m .buffers)) (m .buffers)
-        go true = refl
-        go false = refl
-
-    pub removed : (xs′ buffers′ : List ℕ) → xs′ ≡ cancelled (m .segment) (slotOf (m .segment) (queueOf f side) (places * f + p)) (places * f + p) → buffers′ ≡ emptied side (places * f + p) (m .buffers)
+    pub removed : (xs′ buffers′ : List ℕ) → xs′ ≡ cancelled (m .segment) (slotOf (m .segment) (queueOf f side) (places * f + p)) (places * f + p) → buffers′ ≡ emptied (places * f + p) (m .buffers)
         → Mid Fine f o (memories xs′ (m .blocks) buffers′) x (cancel p b)
-    unfolding placeOf
+    unfolding placeOf lies
     removed xs′ buffers′ u v =
-        rw (u, v, queue-is, emptied-is) (step-cancel fine-knows M p a e (a .writer) waits _
-        (fine-walks .cancels p a b e (waiting-awaits (a .req) (sym waits-is ∙ w)) (M .good)) (laid (a .writer) f p (a .req) (m .buffers) waits))
+        rw (u, queue-is) (step-cancel fine-knows M p a e (a .writer) waits buffers′
+        (fine-walks .cancels p a b e (waiting-awaits (a .req) (sym waits-is ∙ w)) (M .good)) (clear f p idle (m .buffers) refl v))
 
     pub removed-rowed : (xs′ : List ℕ) → xs′ ≡ cancelled (m .segment) (slotOf (m .segment) (queueOf f side) (places * f + p)) (places * f + p) → Rowed (m .segment) f b → Rowed xs′ f (cancel p b)
     unfolding placeOf

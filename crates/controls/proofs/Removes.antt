@@ -10,7 +10,8 @@ use Rattle.segment.specs.Table.{nth}
 use Rattle.ports.specs.Slots.{seek, has}
 use Rattle.requests.specs.Moves.{slotOf, cancelled}
 use Rattle.accessors.specs.Outstanding.{queueOf, outstandingAt}
-use Rattle.controls.specs.Removed.{isWaiting, emptied}
+use Rattle.controls.specs.Removed.{isWaiting}
+use Rattle.buffers.specs.Buffer.{emptied}
 
 module _ (xs ys : List ℕ) (f p side : ℕ) where
   abbrev i : ℕ
@@ -23,13 +24,13 @@ module _ (xs ys : List ℕ) (f p side : ℕ) where
   out = cancelled xs (slotOf xs (queueOf f side) i) i
 
   abbrev Removes : Bool → List ℕ → List ℕ → Type 0
-  Removes r xs′ ys′ = (r ≡ waits) × ((xs′ ≡ cond waits out xs) × (ys′ ≡ cond waits (emptied side i ys) ys))
+  Removes r xs′ ys′ = (r ≡ waits) × ((xs′ ≡ cond waits out xs) × (ys′ ≡ cond waits (emptied i ys) ys))
 
   stays : waits ≡ false → Removes false xs ys
-  stays e = (sym e, (sym (ap (λ (t : Bool). cond t out xs) e), sym (ap (λ (t : Bool). cond t (emptied side i ys) ys) e)))
+  stays e = (sym e, (sym (ap (λ (t : Bool). cond t out xs) e), sym (ap (λ (t : Bool). cond t (emptied i ys) ys) e)))
 
-  goes : waits ≡ true → (xs′ ys′ : List ℕ) → xs′ ≡ out → ys′ ≡ emptied side i ys → Removes true xs′ ys′
-  goes e xs′ ys′ u v = (sym e, (u ∙ sym (ap (λ (t : Bool). cond t out xs) e), v ∙ sym (ap (λ (t : Bool). cond t (emptied side i ys) ys) e)))
+  goes : waits ≡ true → (xs′ ys′ : List ℕ) → xs′ ≡ out → ys′ ≡ emptied i ys → Removes true xs′ ys′
+  goes e xs′ ys′ u v = (sym e, (u ∙ sym (ap (λ (t : Bool). cond t out xs) e), v ∙ sym (ap (λ (t : Bool). cond t (emptied i ys) ys) e)))
 
   -- e stands on its reply port
   module _ (e : ℕ) (port : e ≡ nth xs (replyPort (places * f + p))) where
@@ -51,6 +52,6 @@ module _ (xs ys : List ℕ) (f p side : ℕ) where
       unfolding isWaiting outstandingAt
       absent-stays h = stays (rw (← port, le-ltb e entries none, ← head-is, le-ltb n entries h) refl)
 
-      pub found-goes : n < entries → (xs′ ys′ : List ℕ) → xs′ ≡ cancelled xs slot (places * f + p) → ys′ ≡ emptied side (places * f + p) ys → Removes true xs′ ys′
+      pub found-goes : n < entries → (xs′ ys′ : List ℕ) → xs′ ≡ cancelled xs slot (places * f + p) → ys′ ≡ emptied (places * f + p) ys → Removes true xs′ ys′
       unfolding isWaiting outstandingAt
       found-goes h xs′ ys′ u v = goes (rw (← port, le-ltb e entries none, ← head-is, lt-ltb n entries h) refl) xs′ ys′ (u ∙ ap (λ (k : ℕ). cancelled xs k i) slot-is) v

@@ -6,25 +6,22 @@ ghost use lib.ListN.{length};
 ghost use Rattle.rules.specs.Limits.{files, places, entries};
 ghost use Rattle.segment.specs.Layout.{segmentBytes, fileRows, deskPlaces};
 ghost use Rattle.segment.specs.Table.{nth};
-ghost use Rattle.buffers.specs.Buffer.{buffersBytes};
+ghost use Rattle.buffers.specs.Buffer.{buffersBytes, emptied};
 ghost use Rattle.requests.specs.Moves.{slotOf, cancelled};
 ghost use Rattle.accessors.specs.Outstanding.{queueOf, outstandingAt};
-ghost use Rattle.controls.specs.Removed.{isWaiting, emptied};
+ghost use Rattle.controls.specs.Removed.{isWaiting};
 use accessors::outstanding::queue_of;
 use kinds::limits::PLACES;
-use kinds::sides::WRITER;
 use segment::layout;
 
-// Removes the request of a place, whose entry is at the slot, and a writer's data with it.
-fn take_away(segment: &mut [u8], buffers: &mut [u8], slot: usize, place: usize, side: u16)
+// Removes the request of a place, whose entry is at the slot, and empties the place's buffer.
+fn take_away(segment: &mut [u8], buffers: &mut [u8], slot: usize, place: usize)
     requires { ⌜ (length (now segment) ≡ segmentBytes) × (length (now buffers) ≡ buffersBytes) × (slot < fileRows) × (place < deskPlaces) × (nth (now segment) slot < entries) ⌝ }
     ensures segment { λ _. ⌜ now (segment .exit) ≡ cancelled (now (segment .entry)) slot place ⌝ }
-    ensures buffers { λ _. ⌜ now (buffers .exit) ≡ emptied side place (now (buffers .entry)) ⌝ }
+    ensures buffers { λ _. ⌜ now (buffers .exit) ≡ emptied place (now (buffers .entry)) ⌝ }
 {
     requests::cancel(segment, slot, place as u16);
-    if side == WRITER {
-        buffers::clear_at(buffers, place);
-    }
+    buffers::clear_at(buffers, place);
 }
 
 // Removes the request of place acc of file f if it waits, and says whether it did. The side is its accessor's. Its entry is searched for once.
@@ -32,7 +29,7 @@ pub fn remove(segment: &mut [u8], buffers: &mut [u8], f: usize, acc: usize, side
     requires { ⌜ (length (now segment) ≡ segmentBytes) × (length (now buffers) ≡ buffersBytes) × (f < files) × (acc < places) ⌝ }
     ensures waits { λ r. ⌜ r ≡ isWaiting (outstandingAt (now (segment .entry)) f acc side) ⌝ }
     ensures segment { λ _. ⌜ now (segment .exit) ≡ cond (isWaiting (outstandingAt (now (segment .entry)) f acc side)) (cancelled (now (segment .entry)) (slotOf (now (segment .entry)) (queueOf f side) (places * f + acc)) (places * f + acc)) (now (segment .entry)) ⌝ }
-    ensures buffers { λ _. ⌜ now (buffers .exit) ≡ cond (isWaiting (outstandingAt (now (segment .entry)) f acc side)) (emptied side (places * f + acc) (now (buffers .entry))) (now (buffers .entry)) ⌝ }
+    ensures buffers { λ _. ⌜ now (buffers .exit) ≡ cond (isWaiting (outstandingAt (now (segment .entry)) f acc side)) (emptied (places * f + acc) (now (buffers .entry))) (now (buffers .entry)) ⌝ }
 {
     let place = PLACES * f + acc;
     if segment::get(segment, layout::REPLY_PORTS + place) < layout::ENTRIES {
@@ -42,6 +39,6 @@ pub fn remove(segment: &mut [u8], buffers: &mut [u8], f: usize, acc: usize, side
     if layout::ENTRIES <= segment::get(segment, slot) {
         return false;
     }
-    take_away(segment, buffers, slot, place, side);
+    take_away(segment, buffers, slot, place);
     true
 }

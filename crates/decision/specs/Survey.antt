@@ -11,14 +11,14 @@ use Rattle.laws.specs.Bounds.{leastRefusal}
 use Rattle.segment.specs.Layout.{listCount, dataAt, freeList, readQueue, writeQueue, replyPort, timerList}
 use Rattle.ports.specs.Lists.{Chain}
 use Rattle.sound.specs.Rows.{fileWord, sideAt, zeroWords}
-use Rattle.sound.specs.Walks.{entryWord, placeIn, sizeIn, restZero, freeEntry}
+use Rattle.sound.specs.Walks.{entryWord, placeIn, sizeIn, freeEntry}
 
 -- P holds of each element
 unfoldable pub Each : (ℕ → Type 0) → List ℕ → Type 0
 Each P [] = Unit {0}
 Each P (x ∷ l) = P x × Each P l
 
-pub record ReadEntry (s bufs : List ℕ) (f e : ℕ) : Type 0 where
+pub record ReadEntry (s : List ℕ) (f e : ℕ) : Type 0 where
   pub place : placeIn s e < files * places
   pub file : placeIn s e / places ≡ f
   pub side : sideAt s (placeIn s e) ≡ 1
@@ -26,9 +26,8 @@ pub record ReadEntry (s bufs : List ℕ) (f e : ℕ) : Type 0 where
   pub limit : entryWord s e 2 ≤ bufferBytes
   pub keep : entryWord s e 3 ≤ 1
   pub rest : zeroWords s (dataAt e + 4) 5 ≡ true
-  pub buffer : restZero bufs (placeIn s e) 0 ≡ true
 
-pub record WriteEntry (s bufs : List ℕ) (f e : ℕ) : Type 0 where
+pub record WriteEntry (s : List ℕ) (f e : ℕ) : Type 0 where
   pub place : placeIn s e < files * places
   pub file : placeIn s e / places ≡ f
   pub side : sideAt s (placeIn s e) ≡ 2
@@ -36,16 +35,14 @@ pub record WriteEntry (s bufs : List ℕ) (f e : ℕ) : Type 0 where
   pub middle : zeroWords s (dataAt e + 2) 4 ≡ true
   pub size : sizeIn s e ≤ 2 * fileWord s f 0
   pub rest : zeroWords s (dataAt e + 7) 2 ≡ true
-  pub buffer : restZero bufs (placeIn s e) (sizeIn s e) ≡ true
 
-pub record PortEntry (s bufs : List ℕ) (i e : ℕ) : Type 0 where
+pub record PortEntry (s : List ℕ) (i e : ℕ) : Type 0 where
   pub place : placeIn s e ≡ i
   pub side : 1 ≤ sideAt s i
   pub middle : zeroWords s (dataAt e + 1) 3 ≡ true
   pub status : entryWord s e 4 < leastRefusal
   pub size : sizeIn s e ≤ cond (eqb (sideAt s i) 1) bufferBytes 0
   pub rest : zeroWords s (dataAt e + 7) 2 ≡ true
-  pub buffer : restZero bufs i (sizeIn s e) ≡ true
 
 pub record TimerEntry (s : List ℕ) (e : ℕ) : Type 0 where
   pub place : placeIn s e < files * places
@@ -71,20 +68,16 @@ completedAt ls i = length (getD ls (replyPort i) [])
 unfoldable pub timersAt : List ℕ → List (List ℕ) → ℕ → ℕ
 timersAt s ls i = named s i (getD ls timerList [])
 
-pub record Survey (s bufs : List ℕ) (ls : List (List ℕ)) : Type 0 where
+pub record Survey (s : List ℕ) (ls : List (List ℕ)) : Type 0 where
   pub heads : length ls ≡ listCount
   pub chains : (l : ℕ) → l < listCount → Chain s l (getD ls l [])
   pub once : (x : ℕ) → total x ls ≡ bit (ltb x entries)
   pub free : Each (λ e. freeEntry s e ≡ true) (getD ls freeList [])
-  pub reads : (f : ℕ) → f < files → Each (ReadEntry s bufs f) (getD ls (readQueue f) [])
-  pub writes : (f : ℕ) → f < files → Each (WriteEntry s bufs f) (getD ls (writeQueue f) [])
-  pub ports : (i : ℕ) → i < files * places → Each (PortEntry s bufs i) (getD ls (replyPort i) [])
+  pub reads : (f : ℕ) → f < files → Each (ReadEntry s f) (getD ls (readQueue f) [])
+  pub writes : (f : ℕ) → f < files → Each (WriteEntry s f) (getD ls (writeQueue f) [])
+  pub ports : (i : ℕ) → i < files * places → Each (PortEntry s i) (getD ls (replyPort i) [])
   pub timers : Each (TimerEntry s) (getD ls timerList [])
   pub order : InOrder s 1 (getD ls timerList [])
   -- a place has at most one request, and at most one timer, only if its request waits
   pub single : (i : ℕ) → i < files * places → waitingAt s ls i + completedAt ls i ≤ 1
   pub timed : (i : ℕ) → i < files * places → timersAt s ls i ≤ waitingAt s ls i
-
--- the marks that the walks leave on places: 0 exactly where nothing is outstanding
-unfoldable pub Marked : List ℕ → List (List ℕ) → List ℕ → Type 0
-Marked s ls busy = (i : ℕ) → i < files * places → (getD busy i 0 ≡ 0 → waitingAt s ls i + completedAt ls i ≡ 0) × (waitingAt s ls i + completedAt ls i ≡ 0 → getD busy i 0 ≡ 0)

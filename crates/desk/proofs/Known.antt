@@ -64,7 +64,7 @@ module _ (d : Desk) (f : ℕ) where
 
 hushed-same : (b : Built) → b .past ≡ [] → hushed b ≡ b
 unfolding hushed
-hushed-same b e = ap {B = Built} (λ (l : List Hap). record { geo = b .geo; store = b .store; accs = b .accs; rq = b .rq; wq = b .wq; timers = b .timers; past = l }) (sym e)
+hushed-same b e = ap {B = Built} (λ (l : List Hap). record { geo = b .geo; store = b .store; accs = b .accs; buffers = b .buffers; rq = b .rq; wq = b .wq; timers = b .timers; past = l }) (sym e)
 
 pub counts-done : {m : Memories} {d : Desk} {s : Alloc} → StandsFor m d s → (f : ℕ) (r : Answer) → f < files → (b : Built) → fileOf d f ≡ built b
     → counting.counts b ≡ answering r b → Done f d s (ask (fileOf d f) calls.counts) m m r

@@ -1,7 +1,6 @@
 pub mod Tells
 pub mod Accepts
 pub mod Known
-pub mod First
 pub mod Refuses
 pub mod Numbers
 pub mod Writes

@@ -32,8 +32,8 @@ use Rattle.midst.proofs.Refused.{stands-refused}
 use Rattle.midst.proofs.StandsBehind.{still-stays}
 use Rattle.judges.specs.Refused.{purgesBy}
 use Rattle.desk.specs.Acted.{Responds}
-use Rattle.desk.specs.Refusals.{operationOf, Twice, Refusal}
-use Rattle.desk.proofs.First.{first-byte}
+use Rattle.desk.specs.Refusals.{Twice, Refusal}
+use Rattle.promises.proofs.First.{operationOf, first-byte}
 use Rattle.desk.proofs.Tells.{tells-none}
 
 -- operation and status, as the answer's bytes

@@ -13,7 +13,7 @@ use Rattle.kinds.specs.declared.Event.the-variants.{Build, Open, Read, Write, C
 use Rattle.kinds.specs.declared.Frame.{Frame}
 use Rattle.kinds.specs.declared.Frame.the-variants.{Event, Code, Shape}
 use Rattle.rules.specs.TransferCounts.{countBytes}
-use Rattle.rules.specs.Frames.{controlFrame, sized, frameOf}
+use Rattle.rules.specs.Frames.{controlFrame, ofLength, frameOf}
 use Rattle.rules.proofs.Split.{bothc}
 
 module _ (fr : List ℕ) where
@@ -30,8 +30,8 @@ module _ (fr : List ℕ) where
   Long (Code f p) = Unit {0}
   Long Shape = Unit {0}
 
-  sized-long : (n : ℕ) (x : Frame) → (length fr ≡ n → Long x) → Long (sized n fr x)
-  unfolding sized
+  sized-long : (n : ℕ) (x : Frame) → (length fr ≡ n → Long x) → Long (ofLength n fr x)
+  unfolding ofLength
   sized-long n x h = bothc Long (eqb (length fr) n) (λ e. h (eqb-true (length fr) n e)) (λ _. unfold Long in tt)
 
   control-long : (f p c v : ℕ) → Long (controlFrame f p c v)

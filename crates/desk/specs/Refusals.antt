@@ -4,8 +4,6 @@ use mathlib.Core.Path.{_≡_}
 use mathlib.Core.List.{List, [], _∷_}
 use mathlib.Core.Option.{Option, none}
 use lib.Seq.{sets}
-use Rattle.kinds.specs.declared.Event.{Event}
-use Rattle.kinds.specs.declared.Event.the-variants.{Build, Open, Read, Write, Control, Collect, Close, Time, Counts}
 use Rattle.kinds.specs.declared.Frame.{Frame}
 use Rattle.kinds.specs.declared.Frame.the-variants as frame
 use Rattle.rules.specs.Calls.{control}
@@ -14,18 +12,6 @@ use Rattle.midst.specs.Outcome.{refusalOf}
 use Rattle.promises.specs.Promise.{Standing, Seen, replyOf}
 use Rattle.judges.specs.Refused.{Refuses}
 use Rattle.memory.specs.Memories.{Memories}
-
--- the operation of an event, with which its frame and its answer begin
-unfoldable pub operationOf : Event → ℕ
-operationOf (Build f r b n x) = 1
-operationOf (Open f a s m) = 2
-operationOf (Read f p n) = 3
-operationOf (Write f p n) = 4
-operationOf (Control f p c) = 5
-operationOf (Collect f p) = 6
-operationOf (Close f p) = 7
-operationOf (Time e) = 8
-operationOf (Counts f) = 9
 
 -- the two bytes of a refusal are written
 pub record Twice (operation number : ℕ) (memory memory′ : List ℕ) (n : ℕ) : Type 0 where

@@ -14,7 +14,7 @@ use Rattle.ring.proofs.Laws.{advanced-held}
 use Rattle.records.specs.declared.reading.Record.{Record}
 use Rattle.records.specs.declared.cursor.Cursor.{Cursor}
 use Rattle.records.specs.Reading.{headerOf}
-use Rattle.records.specs.Cursor.{heldRecs, Stands}
+use Rattle.records.specs.Cursor.{heldRecs, AtRecord}
 use Rattle.records.proofs.cursor.Laws.{recs-none, stands-recs}
 
 -- what a type adds
@@ -26,11 +26,11 @@ adds-none t e = (rw (ne-eqb t 0 e), omega arith)
 
 -- with the cursor so far the count of the ring's records has lost nothing
 pub record Counting (w : ℕ) (xs : List ℕ) (r : Ring) (c : Cursor) (found : ℕ) : Type 0 where
-  pub stands : Stands w xs c
+  pub stands : AtRecord w xs c
   pub low : found + c .ring .held ≤ r .held
   pub same : dataCount (heldRecs w r xs) ≡ found + dataCount (heldRecs w (c .ring) xs)
 
-pub count-start : (w : ℕ) (xs : List ℕ) (c : Cursor) → Stands w xs c → Counting w xs (c .ring) c 0
+pub count-start : (w : ℕ) (xs : List ℕ) (c : Cursor) → AtRecord w xs c → Counting w xs (c .ring) c 0
 count-start w xs c S = record { stands = S; low = omega arith; same = omega arith }
 
 module _ (w : ℕ) (xs : List ℕ) (r : Ring) (c : Cursor) (found : ℕ) (k : Counting w xs r c found) where
@@ -44,7 +44,7 @@ module _ (w : ℕ) (xs : List ℕ) (r : Ring) (c : Cursor) (found : ℕ) (k : Co
     count-low o = omega (arith, k .low, l, o .used, o .room)
 
     -- a turn
-    pub count-on : (t : Record) (n : ℕ) → t ≡ headerOf (recAt xs (c .at)) → n ≡ cond (eqb (t .typ) 0) 1 0 → n ≤ 1 → (d : Cursor) → d .ring ≡ advanced (c .ring) → Stands w xs d
+    pub count-on : (t : Record) (n : ℕ) → t ≡ headerOf (recAt xs (c .at)) → n ≡ cond (eqb (t .typ) 0) 1 0 → n ≤ 1 → (d : Cursor) → d .ring ≡ advanced (c .ring) → AtRecord w xs d
         → Counting w xs r d (found + n)
     unfolding dataCount
     count-on t n a b m d e S =

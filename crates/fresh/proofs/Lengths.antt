@@ -15,10 +15,10 @@ use Rattle.rules.specs.Limits.{files, places, shareBytes, bufferBytes}
 use Rattle.rules.proofs.Split.{pick-true, pick-false}
 use Rattle.memory.specs.Memories.{Memories, memories}
 use Rattle.memory.specs.Fresh.{freshSegment, freshBlocks, freshBuffers, freshMemories}
-use Rattle.fresh.specs.Made.{unmade, made}
+use Rattle.fresh.specs.Made.{nothingMade, made}
 
 module _ (m : Memories) where
-  pub no-segment : (length (m .segment) ≡ segmentBytes → ⊥) → unmade m ≡ made m
+  pub no-segment : (length (m .segment) ≡ segmentBytes → ⊥) → nothingMade m ≡ made m
   unfolding made
   no-segment h = sym (pick-false (eqb (length (m .segment)) segmentBytes) _ _ (ne-eqb (length (m .segment)) segmentBytes h))
 
@@ -26,7 +26,7 @@ module _ (m : Memories) where
     one : eqb (length (m .segment)) segmentBytes ≡ true
     one = eq-eqb (length (m .segment)) segmentBytes e
 
-    pub no-blocks : (length (m .blocks) ≡ shareBytes * files → ⊥) → unmade m ≡ made m
+    pub no-blocks : (length (m .blocks) ≡ shareBytes * files → ⊥) → nothingMade m ≡ made m
     unfolding made
     no-blocks h =
         sym (pick-true (eqb (length (m .segment)) segmentBytes) _ _ one ∙ pick-false (eqb (length (m .blocks)) (shareBytes * files)) _ _ (ne-eqb (length (m .blocks)) (shareBytes * files) h))
@@ -35,7 +35,7 @@ module _ (m : Memories) where
       two : eqb (length (m .blocks)) (shareBytes * files) ≡ true
       two = eq-eqb (length (m .blocks)) (shareBytes * files) k
 
-      pub no-buffers : (length (m .buffers) ≡ places * bufferBytes * files → ⊥) → unmade m ≡ made m
+      pub no-buffers : (length (m .buffers) ≡ places * bufferBytes * files → ⊥) → nothingMade m ≡ made m
       unfolding made
       no-buffers h =
           sym

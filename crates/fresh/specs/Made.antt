@@ -14,18 +14,18 @@ pub record Made : Type 0 where
   pub memories : Memories
 
 -- status 29, and memories that stay
-unfoldable pub unmade : Memories → Made
-unmade m = record { status = leastRefusal; memories = m }
+unfoldable pub nothingMade : Memories → Made
+nothingMade m = record { status = leastRefusal; memories = m }
 
 -- "of 29 it tests lengths alone"
 unfoldable pub made : Memories → Made
 made m =
     elim (eqb (length (m .segment)) segmentBytes) [
-      | false ↦ unmade m
+      | false ↦ nothingMade m
       | true ↦ elim (eqb (length (m .blocks)) (shareBytes * files)) [
-        | false ↦ unmade m
+        | false ↦ nothingMade m
         | true ↦ elim (eqb (length (m .buffers)) (places * bufferBytes * files)) [
-          | false ↦ unmade m
+          | false ↦ nothingMade m
           | true ↦ record { status = 0; memories = freshMemories }
         ]
       ]

@@ -9,7 +9,8 @@ use lib.Dec.{eqb}
 use lib.ListN.{length, getD, set}
 use Rattle.rules.specs.State.{Req, Acc, Timer, Hap, arms, Built}
 use Rattle.rules.specs.Store.{purge}
-use Rattle.rules.specs.Requests.{countAcc, isWriter, writers, opened, alter, withAccs, withQueues, withTimers, withStore, alterAcc, say, withReq, armIn, requeue, arm, wait}
+use Rattle.rules.specs.Buffers.{refilled}
+use Rattle.rules.specs.Requests.{countAcc, isWriter, writers, opened, alter, withAccs, withQueues, withTimers, withStore, alterAcc, say, withReq, armIn, requeue, arm, wait, withBuffers, request}
 use Rattle.rules.specs.Open.{firstFree, purged}
 use Rattle.rules.proofs.Split.{both}
 
@@ -106,8 +107,8 @@ unfolding arm
 arm-keeps I p n b s h = both I (eqb n 0) (λ _. s) (λ _. h)
 
 pub wait-keeps : (I : Built → Type 0) (side : Bool) (p n : ℕ) (q : Req) (b : Built)
-    → ((r w : List ℕ) (ts : List Timer) (hs : List Hap) → I (record { geo = b .geo; store = b .store; accs = alter (withReq q) (b .accs) p; rq = r; wq = w; timers = ts; past = hs })) → I (wait side p n q b)
-unfolding wait say withTimers requeue alterAcc withAccs withQueues
+    → ((r w : List ℕ) (ts : List Timer) (hs : List Hap) → I (record { geo = b .geo; store = b .store; accs = alter (withReq q) (b .accs) p; buffers = refilled p q (b .buffers); rq = r; wq = w; timers = ts; past = hs })) → I (wait side p n q b)
+unfolding wait say withTimers requeue request withBuffers alterAcc withAccs withQueues
 wait-keeps I true p n q b h = arm-keeps I p n _ (h _ _ _ _) (h _ _ _ _)
 wait-keeps I false p n q b h = arm-keeps I p n _ (h _ _ _ _) (h _ _ _ _)
 

@@ -2,20 +2,15 @@
 use mathlib.Core.Path.{_≡_, refl, ap, subst, _∙_}
 use mathlib.Core.Bool.{true, false}
 use mathlib.Core.List.{List}
-use mathlib.Core.Option.{Option, none, some}
-use Prim.Native.Nat.{ℕ, _-_, _≤_}
+use mathlib.Core.Option.{some}
+use Prim.Native.Nat.{ℕ}
 use native.Mathlib.Omega.{arith}
-use lib.ListN.{length, length-append}
-use Rattle.words.specs.Word.{zeros}
-use Rattle.words.proofs.Runs.{length-zeros}
-use Rattle.rules.specs.Limits.{bufferBytes, roomWords}
-use Rattle.rules.specs.State.{Req, idle, reading, writing, readDone, writeDone, Acc, Built}
-use Rattle.rules.specs.Requests.{accAt, alter, withAccs, withQueues, withTimers, withStore, alterAcc, say, putRec, behind, withReq, requeue, leave, finish, cancel, freed}
+use Rattle.rules.specs.State.{Req, idle, reading, writing, Acc, Built}
+use Rattle.rules.specs.Requests.{accAt, alter, withAccs, withQueues, withTimers, withStore, alterAcc, say, putRec, behind, withReq, requeue, leave, finish, cancel, freed, withBuffers, request}
 use Rattle.rules.specs.Reply.{hushed}
 use Rattle.rules.specs.Open.{newFile, newAcc}
 use Rattle.rules.specs.Time.{lessen}
 use Rattle.rules.specs.Sheet.{loaded}
-use Rattle.rules.specs.Memories.{lies, buffer}
 use Rattle.rules.specs.Desk.{Call, freshDesk, fileOf, after}
 use Rattle.laws.specs.Runs.{OnFile}
 use Rattle.laws.specs.Changes.{Ends, readEnds, writeEnds, Finishes, Walks, Starts}
@@ -46,11 +41,11 @@ unfolding accAt
 bounds-req q p a b e h s = reqs-each q a (b .accs) p e (λ x r. Bounded (b .geo .words) r) h (λ x _. s x)
 
 bounds-finish : Finishes Bounds
-unfolding finish say leave withTimers requeue alterAcc withAccs withQueues
+unfolding finish say leave withTimers requeue request withBuffers alterAcc withAccs withQueues
 bounds-finish p st q a r b e i k s = bounds-req q p a b e (bounded-ends (b .geo .words) st r q k (bounds-at p a r b e i s)) s
 
 pub bounds-walks : Walks Bounds (λ n. Bounds)
-unfolding alterAcc withAccs withQueues withTimers withStore say requeue leave cancel freed behind putRec Bounded newAcc
+unfolding alterAcc withAccs withQueues withTimers withStore say requeue request withBuffers leave cancel freed behind putRec Bounded newAcc
 bounds-walks = record {
   mild = mild-keeps Bounds bounds-alike;
   finishes = bounds-finish;
@@ -83,19 +78,3 @@ bounds-hushed b s = s
 
 pub bounded : (f : ℕ) (cs : List Call) → OnFile Bounds (fileOf (after freshDesk cs) f)
 bounded f cs = lifted Bounds (λ n. Bounds) bounds-walks (lapsed Bounds (λ n. Bounds) bounds-walks bounds-lessen) bounds-starts bounds-hushed f cs
-
--- "which is otherwise zero": a buffer has its bytes
-length-lies : (words : ℕ) (q : Req) → words ≤ roomWords → Bounded words q → length (lies q) ≤ bufferBytes
-unfolding lies Bounded
-length-lies words idle h k = omega arith
-length-lies words (reading q) h k = omega arith
-length-lies words (writing q) h k = omega arith
-length-lies words (readDone q) h k = k .0
-length-lies words (writeDone q) h k = omega arith
-
-pub length-buffer : (words : ℕ) (o : Option Acc) → words ≤ roomWords → Bounded words (reqOf o) → length (buffer o) ≡ bufferBytes
-unfolding buffer reqOf
-length-buffer words none h k = length-zeros bufferBytes
-length-buffer words (some a) h k =
-    let n = length-lies words (a .req) h k in
-    omega (arith, length-append (lies (a .req)) (zeros (bufferBytes - length (lies (a .req)))), length-zeros (bufferBytes - length (lies (a .req))))

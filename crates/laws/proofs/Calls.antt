@@ -15,7 +15,7 @@ use Rattle.rules.specs.Limits.{places, mostMode, mostReadWords, mostReadBytes, 
 use Rattle.rules.specs.State.{Req, idle, reading, writing, readDone, writeDone, Acc, Built}
 use Rattle.rules.specs.Store.{fetch}
 use Rattle.rules.specs.TransferCounts.{inWords, countBytes, readable}
-use Rattle.rules.specs.Requests.{countAcc, isWriter, writers, readers, opened, fits, accAt, withAccs, withQueues, withTimers, alterAcc, say, isIdle, withReq, begun, requeue, leave, cancel}
+use Rattle.rules.specs.Requests.{countAcc, isWriter, writers, readers, opened, fits, accAt, withAccs, withQueues, withTimers, alterAcc, say, isIdle, withReq, begun, requeue, leave, cancel, withBuffers, request}
 use Rattle.rules.specs.Settle.{settle}
 use Rattle.rules.specs.Reply.{Reply, Out, leaves, answering, status}
 use Rattle.rules.specs.Open.{sharingOf, otherShare, crowded, holdsId, freeIdFrom, freeId, openReader, openWriter, roomToOpen, openFile}
@@ -36,7 +36,7 @@ use Rattle.laws.proofs.Accessors.{getD-alter-same}
 use Rattle.laws.proofs.Walk.{behind-at, settles, closes}
 
 cancel-at : (p : ℕ) (a : Acc) (b : Built) → accAt b p ≡ some a → accAt (cancel p b) p ≡ some (withReq idle a)
-unfolding accAt cancel say leave withTimers requeue alterAcc withAccs withQueues
+unfolding accAt cancel say leave withTimers requeue request withBuffers alterAcc withAccs withQueues
 cancel-at p a b e = getD-alter-same (withReq idle) a (b .accs) p e
 
 pub begun-at : (p : ℕ) (a : Acc) (b : Built) → accAt b p ≡ some a → accAt (alterAcc p begun b) p ≡ some (begun a)

@@ -140,12 +140,12 @@ heard-own f (c ∷ cs) d n =
     step-hears f d (asked c) _ n ∙ rw (ih, step-file f d (asked c) n) (sym (ownHeard-append f (mine f (asked c)) (only f cs) (fileOf d f)))
 
 -- two runs from a fresh desk that hold the same for f
-pub record Alike (f : ℕ) (r s : List Call) : Type 0 where
+pub record AlikeRuns (f : ℕ) (r s : List Call) : Type 0 where
   pub hear : theirs f r (replies freshDesk r) ≡ theirs f s (replies freshDesk s)
   pub keep : fileOf (after freshDesk r) f ≡ fileOf (after freshDesk s) f
   pub tell : history f freshDesk r ≡ history f freshDesk s
 
-pub isolation : (f : ℕ) (r s : List Call) → only f r ≡ only f s → Alike f r s
+pub isolation : (f : ℕ) (r s : List Call) → only f r ≡ only f s → AlikeRuns f r s
 isolation f r s e = record {
   hear = cc (heard-own f r freshDesk eight-fresh, heard-own f s freshDesk eight-fresh);
   keep = cc (after-own f r freshDesk eight-fresh, after-own f s freshDesk eight-fresh);

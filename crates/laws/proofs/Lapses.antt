@@ -8,7 +8,7 @@ use native.Mathlib.Decide.{ℕ-discrete, decLt}
 use lib.ListN.{length, List·getD-eq-default}
 use Rattle.rules.specs.Limits.{files, places}
 use Rattle.rules.specs.State.{Acc, Timer, ends, Built, File, unbuilt, built}
-use Rattle.rules.specs.Requests.{accAt, withAccs, withQueues, withTimers, alterAcc, say, requeue, leave, finish, fail}
+use Rattle.rules.specs.Requests.{accAt, withAccs, withQueues, withTimers, alterAcc, say, requeue, leave, finish, fail, withBuffers, request}
 use Rattle.rules.specs.Reply.{hushed}
 use Rattle.rules.specs.Open.{newFile}
 use Rattle.rules.specs.Time.{due, failAll, minus, lessen, lapse, fileTime, timeHaps}
@@ -53,7 +53,7 @@ others f i t l ts d M = go (decLt i (files * places))
 -- one of the file: the request at p fails, and where none waits nothing changes
 pub fails-one : (f p st : ℕ) (t : Alloc) (b : Built) → f < files → p < places → Matches f t t (b .accs) (b .timers) → st < leastRefusal
     → Matches f (endsAt (placeOf f p) t) (endsAt (placeOf f p) t) (fail p st b .accs) (fail p st b .timers)
-unfolding accAt allot finish say leave withTimers requeue alterAcc withAccs withQueues
+unfolding accAt allot finish say leave withTimers requeue request withBuffers alterAcc withAccs withQueues
 fails-one f p st t b hf hp M n =
     let i : ℕ = placeOf f p in
     fail-cases (λ c. Matches f (endsAt i t) (endsAt i t) (c .accs) (c .timers)) p st b
@@ -120,4 +120,4 @@ ages-fed f e s unbuilt c = unfold Fed in tt
 ages-fed f e s (built b) c = fails-all (λ d. Fed f (d .past) s) more 22 (due e (b .timers)) b (rw c (unfold Fed in tt)) (omega arith)
   where
     more : Finishes (λ d. Fed f (d .past) s)
-    more p st q a r d _ _ _ h = unfold finish say leave withTimers requeue alterAcc withAccs withQueues in fed-append f (d .past) (ends p st ∷ []) s h (unfold Fed draws in (omega arith, tt))
+    more p st q a r d _ _ _ h = unfold finish say leave withTimers requeue request withBuffers alterAcc withAccs withQueues in fed-append f (d .past) (ends p st ∷ []) s h (unfold Fed draws in (omega arith, tt))

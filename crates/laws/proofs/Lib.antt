@@ -21,7 +21,9 @@ pub mod Bounds
 pub mod Records
 mod Stores
 pub mod Room
+pub mod Lying
 mod Shares
+pub mod Tails
 pub mod Queues
 -- Settling
 pub mod Settled

@@ -11,7 +11,7 @@ use lib.ListN.{length, length-drop}
 use Rattle.rules.specs.Limits.{files, places}
 use Rattle.rules.specs.State.{Rec, Req, idle, reading, writing, Acc, Hap, puts, drops, purges, waits, arms, ends, cancels, collects, Built}
 use Rattle.rules.specs.Store.{Found}
-use Rattle.rules.specs.Requests.{opened, accAt, alter, withStore, withAccs, withQueues, withTimers, alterAcc, say, putRec, tookBy, behind, withReq, requeue, leave, finish, cancel, arm, wait, freed}
+use Rattle.rules.specs.Requests.{opened, accAt, alter, withStore, withAccs, withQueues, withTimers, alterAcc, say, putRec, tookBy, behind, withReq, requeue, leave, finish, cancel, arm, wait, freed, withBuffers, request}
 use Rattle.rules.specs.Open.{newAcc, purged}
 use Rattle.rules.specs.Allocation.{Alloc, holds, takeOwn, allot, allotAll}
 use Rattle.rules.proofs.Split.{both}
@@ -71,19 +71,19 @@ module _ (f : ℕ) (hf : f < files) (s : Alloc) where
   mid-alike l b n h m = record { matches = matches-alike f s (so b) (b .accs) l (b .timers) n h (m .matches); fed = m .fed }
 
   mid-finish : Finishes (Mid f s)
-  unfolding accAt finish leave say withTimers requeue alterAcc withAccs withQueues draws
+  unfolding accAt finish leave say withTimers requeue request withBuffers alterAcc withAccs withQueues draws
   mid-finish p st q a r b e i w m =
       one b (finish p st q b) (ends p st) m refl (omega arith)
       (matches-ends f p hf s (so b) (b .accs) (b .timers) (m .matches) a e q st r i w)
 
   mid-cancel : (p : ℕ) (a : Acc) (b : Built) → accAt b p ≡ some a → awaits (a .req) ≡ 1 → Mid f s b → Mid f s (cancel p b)
-  unfolding accAt cancel leave say withTimers requeue alterAcc withAccs withQueues draws allot
+  unfolding accAt cancel leave say withTimers requeue request withBuffers alterAcc withAccs withQueues draws allot
   mid-cancel p a b e w m =
       one b (cancel p b) (cancels p) m refl (omega arith)
       (matches-goes f p hf s (so b) (b .accs) (b .timers) (m .matches) a e idle (omega (arith, outstanding-most (a .req))) (outstanding-idle idle refl))
 
   mid-free : (p : ℕ) (a : Acc) (b : Built) → accAt b p ≡ some a → uncollected (a .req) ≡ 1 → Mid f s b → Mid f s (freed p b)
-  unfolding accAt freed say alterAcc withAccs draws allot reqOf
+  unfolding accAt freed request withBuffers say alterAcc withAccs draws allot reqOf
   mid-free p a b e w m =
       let o = outstanding-most (a .req) in
       let z : countT p (b .timers) ≡ 0 = omega (arith, m .matches .agrees .timed p, ap awaits (ap reqOf e)) in
@@ -151,7 +151,7 @@ module _ (f : ℕ) (hf : f < files) (s : Alloc) where
   mid-purged access b m = both (Mid f s) (eqb access 1 && eqb (opened b) 0) (λ _. one b _ purges m refl (omega arith) (m .matches)) (λ _. m)
 
   pub mid-walks : Walks (Mid f s) (λ n. Mid f s)
-  unfolding wait say requeue alterAcc withAccs withQueues waitsRead waitsWrite newAcc
+  unfolding wait say requeue request withBuffers alterAcc withAccs withQueues waitsRead waitsWrite newAcc
   mid-walks = record {
     mild = mild-keeps (Mid f s) mid-alike;
     finishes = mid-finish;

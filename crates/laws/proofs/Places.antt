@@ -8,7 +8,7 @@ use native.Mathlib.Omega.{arith}
 use lib.ListN.{length-set, List·getD-eq-default}
 use Rattle.rules.specs.Limits.{places}
 use Rattle.rules.specs.State.{Built}
-use Rattle.rules.specs.Requests.{accAt, withAccs, withQueues, withTimers, withStore, alterAcc, say, putRec, behind, withReq, requeue, leave, finish, cancel, freed}
+use Rattle.rules.specs.Requests.{accAt, withAccs, withQueues, withTimers, withStore, alterAcc, say, putRec, behind, withReq, requeue, leave, finish, cancel, freed, withBuffers, request}
 use Rattle.rules.specs.Reply.{hushed}
 use Rattle.rules.specs.Open.{newFile, freeId, enter, purged}
 use Rattle.rules.specs.Close.{vacate}
@@ -25,7 +25,7 @@ use Rattle.laws.proofs.Walk.{lapsed}
 use Rattle.laws.proofs.Lift.{lifted}
 
 eight-walks : Walks Eight (λ n. Eight)
-unfolding alterAcc withAccs withQueues withTimers withStore say requeue leave finish cancel freed behind putRec enter vacate
+unfolding alterAcc withAccs withQueues withTimers withStore say requeue request withBuffers leave finish cancel freed behind putRec enter vacate
 eight-walks = record {
   mild = λ p f b _ s. length-alter f (b .accs) p ∙ s;
   finishes = λ p st q a r b _ _ _ s. length-alter (withReq q) (b .accs) p ∙ s;

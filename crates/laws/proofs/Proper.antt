@@ -10,7 +10,7 @@ use Rattle.rules.specs.Limits.{writeHead}
 use Rattle.words.specs.Word.{wordAt}
 use Rattle.kinds.specs.declared.Frame.{Frame}
 use Rattle.rules.specs.TransferCounts.{countBytes}
-use Rattle.rules.specs.Frames.{controlFrame, sized, frameOf}
+use Rattle.rules.specs.Frames.{controlFrame, ofLength, frameOf}
 use Rattle.rules.specs.Desk.{Call, event, look, save, load, Asked, on, time, bad, frameAsks, asked}
 use Rattle.rules.proofs.Split.{bothc}
 use Rattle.laws.specs.Runs.{Proper}
@@ -24,8 +24,8 @@ module _ (fr : List ℕ) where
   Fine : Frame → Type 0
   Fine x = ProperAsked (frameAsks x (drop writeHead fr))
 
-  sized-fine : (n : ℕ) (x : Frame) → (length fr ≡ n → Fine x) → Fine (sized n fr x)
-  unfolding sized Fine
+  sized-fine : (n : ℕ) (x : Frame) → (length fr ≡ n → Fine x) → Fine (ofLength n fr x)
+  unfolding ofLength Fine
   sized-fine n x h = bothc Fine (eqb (length fr) n) (λ e. h (eqb-true (length fr) n e)) (λ _. unfold frameAsks ProperAsked in tt)
 
   control-fine : (f p c v : ℕ) → Fine (controlFrame f p c v)

@@ -8,7 +8,7 @@ use Prim.Native.Nat.{ℕ, _≤_}
 use native.Mathlib.Omega.{arith}
 use Rattle.rules.specs.State.{Req, idle, Acc, Geo, Store, Timer, Hap, Built}
 use Rattle.rules.specs.Store.{emptyStore}
-use Rattle.rules.specs.Requests.{accAt, withAccs, withQueues, withTimers, withStore, alterAcc, say, putRec, behind, without, withoutTimer, armIn, requeue, leave, finish, cancel, arm, wait, freed}
+use Rattle.rules.specs.Requests.{accAt, withAccs, withQueues, withTimers, withStore, alterAcc, say, putRec, behind, without, withoutTimer, armIn, requeue, leave, finish, cancel, arm, wait, freed, withBuffers, request}
 use Rattle.rules.specs.Reply.{hushed}
 use Rattle.rules.specs.Open.{newFile, newAcc}
 use Rattle.rules.specs.Time.{lessen, lapse}
@@ -44,7 +44,7 @@ agree-alike l b _ h s x = rw (h x) (s x)
 agree-change : (p : ℕ) (q : Req) (r w : List ℕ) (ts : List Timer) (a : Acc) (b : Built) → accAt b p ≡ some a → Queued p r w ts q
     → ((x : ℕ) → (p ≡ x → ⊥) → (count x r ≡ count x (b .rq)) × (count x w ≡ count x (b .wq)) × (countT x ts ≡ countT x (b .timers)))
     → Agree b → Agree (withTimers ts (requeue p q r w b))
-unfolding withTimers requeue alterAcc withAccs withQueues accAt
+unfolding withTimers requeue request withBuffers alterAcc withAccs withQueues accAt
 agree-change p q r w ts a b e here there s =
     reqs-each q a (b .accs) p e (λ x m. Queued x r w ts m) here
     (λ x n. let t = there x n in record { reads = t .0 ∙ s x .reads; writes = t .1 ∙ s x .writes; times = omega (arith, t .2, s x .times) })
@@ -63,7 +63,7 @@ unfolding finish say
 agree-finish p st q a r b e _ h s = agree-leave p q a b e (outstanding-ends h .1) s
 
 agree-freed : (p : ℕ) (a : Acc) (b : Built) → accAt b p ≡ some a → uncollected (a .req) ≡ 1 → Agree b → Agree (freed p b)
-unfolding freed say withTimers requeue alterAcc withAccs withQueues waitsRead waitsWrite
+unfolding freed say withTimers requeue request withBuffers alterAcc withAccs withQueues waitsRead waitsWrite
 agree-freed p a b e h s =
     let n = absent p a b e (omega (arith, outstanding-most (a .req))) s in
     agree-change p idle (b .rq) (b .wq) (b .timers) a b e (record { reads = n .0; writes = n .1; times = omega (arith, n) }) (λ x k. (refl, refl, refl)) s
@@ -72,7 +72,7 @@ agree-freed p a b e h s =
 agree-arm : (p n : ℕ) (q : Req) (r w : List ℕ) (hs : List Hap) (a : Acc) (b : Built) → accAt b p ≡ some a → countT p (b .timers) ≡ 0 → awaits q ≡ 1
     → count p r ≡ waitsRead q → count p w ≡ waitsWrite q → ((x : ℕ) → (p ≡ x → ⊥) → (count x r ≡ count x (b .rq)) × (count x w ≡ count x (b .wq)))
     → Agree b → Agree (arm p n (say hs (requeue p q r w b)))
-unfolding say withTimers requeue alterAcc withAccs withQueues
+unfolding say withTimers requeue request withBuffers alterAcc withAccs withQueues
 agree-arm p n q r w hs a b e t one hr hw other s =
     let u : Timer = record { place = p; left = n } in
     arm-keeps Agree p n _

@@ -11,7 +11,7 @@ use Rattle.rules.specs.Limits.{mostType}
 use Rattle.rules.specs.Geometry.{capacity}
 use Rattle.rules.specs.State.{Rec, Offered, writing, Acc, Geo, Built}
 use Rattle.rules.specs.Store.{used, emptyStore, purge}
-use Rattle.rules.specs.Requests.{writers, capacityOf, fits, accAt, withAccs, withQueues, withTimers, withStore, alterAcc, say, putRec, behind, requeue, leave, finish, cancel, freed}
+use Rattle.rules.specs.Requests.{writers, capacityOf, fits, accAt, withAccs, withQueues, withTimers, withStore, alterAcc, say, putRec, behind, requeue, leave, finish, cancel, freed, withBuffers, request}
 use Rattle.rules.specs.Settle.{dataRec}
 use Rattle.rules.specs.Reply.{hushed}
 use Rattle.rules.specs.Open.{newFile, newAcc, openRec, enter, purged, roomToOpen}
@@ -21,7 +21,7 @@ use Rattle.rules.specs.Sheet.{loaded}
 use Rattle.rules.specs.Desk.{Call, freshDesk, fileOf, after}
 use Rattle.shares.specs.Groups.{All}
 use Rattle.shares.specs.Laid.{GoodRec}
-use Rattle.shares.specs.Holds.{Holds}
+use Rattle.shares.specs.Holds.{InShare}
 use Rattle.shares.specs.Back.{usedRecs}
 use Rattle.shares.proofs.Image.{recordWords-most}
 use Rattle.shares.proofs.Holds.{holds-empty, holds-purge}
@@ -49,7 +49,7 @@ good-data a d h = record { kind = omega arith; from = h; bare = λ z. absurd (z 
 good-bare : (t n : ℕ) → t ≤ mostType → 1 ≤ n → GoodRec (record { typ = t; wid = n; body = [] })
 good-bare t n k h = record { kind = k; from = h; bare = λ _. refl }
 
-records-put : (r : Rec) (b : Built) → GoodGeo (b .geo) → Holds (b .geo) (b .store) → length (r .body) ≤ 2 * b .geo .words → used (b .store) < capacity (b .geo .factor) (b .geo .blocks) → GoodRec r → Records b → Records (putRec r b)
+records-put : (r : Rec) (b : Built) → GoodGeo (b .geo) → InShare (b .geo) (b .store) → length (r .body) ≤ 2 * b .geo .words → used (b .store) < capacity (b .geo .factor) (b .geo .blocks) → GoodRec r → Records b → Records (putRec r b)
 unfolding putRec say withStore
 records-put r b k h l u g s = all-put GoodRec (b .geo) (good-sized (b .geo) k) r (b .store) (recordWords-most (b .geo .words) r l) u g h s
 
@@ -61,7 +61,7 @@ waiting-writer : (p : ℕ) (a : Acc) (q : Offered) (b : Built) → accAt b p ≡
 unfolding Fitting
 waiting-writer p a q b e i s = subst (Fitting (a .writer)) i (s p a e .request)
 
-used-fits : (b : Built) → fits b ≡ true → used (b .store) < capacity (b .geo .factor) (b .geo .blocks)
+pub used-fits : (b : Built) → fits b ≡ true → used (b .store) < capacity (b .geo .factor) (b .geo .blocks)
 unfolding fits capacityOf
 used-fits b e = omega (arith, leb-true (used (b .store) + writers b + 1) (capacity (b .geo .factor) (b .geo .blocks)) e)
 
@@ -83,7 +83,7 @@ abbrev pub Parting : ℕ → Built → Type 0
 Parting n b = Owed n b × Sides b × Records b × (1 ≤ n)
 
 pub whole-walks : Walks Whole Parting
-unfolding alterAcc withAccs withQueues withTimers withStore say requeue leave finish cancel freed behind enter vacate Bounded
+unfolding alterAcc withAccs withQueues withTimers withStore say requeue request withBuffers leave finish cancel freed behind enter vacate Bounded
 whole-walks = record {
   mild = λ p f b m s. (sound-walks .mild p f b m (s .0), sides-walks .mild p f b m (s .1), s .2);
   finishes = λ p st q a r b e i k s. (sound-walks .finishes p st q a r b e i k (s .0), sides-walks .finishes p st q a r b e i k (s .1), s .2);

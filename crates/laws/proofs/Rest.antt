@@ -6,7 +6,7 @@ use mathlib.Core.Option.{Option, none, some}
 use Prim.Native.Nat.{ℕ, _≤_}
 use native.Mathlib.Omega.{arith}
 use Rattle.rules.specs.State.{Rec, Req, idle, Acc, Built}
-use Rattle.rules.specs.Requests.{isWriter, writers, accAt, capacityOf, fits, withAccs, withQueues, withTimers, withStore, alterAcc, say, behind, without, requeue, leave, finish, cancel, freed}
+use Rattle.rules.specs.Requests.{isWriter, writers, accAt, capacityOf, fits, withAccs, withQueues, withTimers, withStore, alterAcc, say, behind, without, requeue, leave, finish, cancel, freed, withBuffers, request}
 use Rattle.rules.specs.Settle.{Turn, still, onward, serveReader, serveWriter, atHead, turn, settle}
 use Rattle.rules.specs.Reply.{hushed}
 use Rattle.rules.specs.Open.{newFile}
@@ -96,7 +96,7 @@ unfolding Mild alterAcc withAccs fits writers capacityOf
 rest-mild p f b h r = rw (countAcc-alter isWriter f (λ a. h a .0) (b .accs) p) r
 
 rest-freed : (p : ℕ) (b : Built) → Rest b → Rest (freed p b)
-unfolding freed say alterAcc withAccs fits writers capacityOf
+unfolding freed request withBuffers say alterAcc withAccs fits writers capacityOf
 rest-freed p b r = rw (writers-withReq idle b p) r
 
 before : (p x : ℕ) (l m : List ℕ) → without p l ≡ x ∷ m → (y : ℕ) × (k : List ℕ) × (l ≡ y ∷ k)
@@ -105,7 +105,7 @@ before p x [] m e = absurd (nil≢cons e)
 before p x (y ∷ k) m e = (y, k, refl)
 
 rest-leave : (p : ℕ) (q : Req) (b : Built) → Rest b → Rest (leave p q b)
-unfolding leave withTimers requeue alterAcc withAccs withQueues fits writers capacityOf
+unfolding leave withTimers requeue request withBuffers alterAcc withAccs withQueues fits writers capacityOf
 rest-leave p q b r = record {
   reads = λ x l e. let y = before p x (b .rq) l e in r .reads (y .0) (y .1) (y .2);
   writes = λ x l e. let y = before p x (b .wq) l e in rw (writers-withReq q b p) (r .writes (y .0) (y .1) (y .2));

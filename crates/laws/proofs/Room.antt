@@ -11,7 +11,7 @@ use Rattle.rules.specs.Geometry.{capacity}
 use Rattle.rules.specs.State.{Rec, Req, idle, writing, Acc, Geo, Store, Built}
 use Rattle.rules.specs.Store.{used, put, fetch, purge}
 use Rattle.rules.specs.Settle.{dataRec}
-use Rattle.rules.specs.Requests.{countAcc, isWriter, writers, accAt, capacityOf, fits, withAccs, withQueues, withTimers, withStore, alterAcc, say, putRec, behind, requeue, leave, finish, cancel, wait, freed}
+use Rattle.rules.specs.Requests.{countAcc, isWriter, writers, accAt, capacityOf, fits, withAccs, withQueues, withTimers, withStore, alterAcc, say, putRec, behind, requeue, leave, finish, cancel, wait, freed, withBuffers, request}
 use Rattle.rules.specs.Reply.{hushed}
 use Rattle.rules.specs.Open.{newFile, newAcc, openRec, enter, purged, roomToOpen}
 use Rattle.rules.specs.Close.{closeRec, vacate}
@@ -19,8 +19,8 @@ use Rattle.rules.specs.Time.{lessen}
 use Rattle.rules.specs.Sheet.{loaded}
 use Rattle.rules.specs.Desk.{Call, freshDesk, fileOf, after}
 use Rattle.shares.specs.Groups.{All, Small}
-use Rattle.shares.specs.Holds.{Sized, Holds}
-use Rattle.shares.proofs.Good.{sized}
+use Rattle.shares.specs.Holds.{Sized, InShare}
+use Rattle.shares.proofs.Good.{geometry-sized}
 use Rattle.shares.proofs.Says.{used-most}
 use Rattle.shares.proofs.Holds.{holds-empty, holds-fetch, holds-purge}
 use Rattle.shares.proofs.Put.{holds-put}
@@ -38,7 +38,7 @@ use Rattle.laws.proofs.Walk.{lapsed}
 use Rattle.laws.proofs.Lift.{lifted}
 
 pub good-sized : (g : Geo) → GoodGeo g → Sized g
-good-sized g k = sized g (k .factor-low) (k .room) (k .share)
+good-sized g k = geometry-sized g (k .factor-low) (k .room) (k .share)
 
 -- the writers stay, and the store
 
@@ -60,7 +60,7 @@ room-behind p typed keep b k = record {
   one-more = k .one-more;
 }
 
-kept-put : (g : Geo) (r : Rec) (s : Store) (w : ℕ) → GoodGeo g → Holds g s → length (r .body) ≤ 2 * g .words → used s + w + 1 ≤ capacity (g .factor) (g .blocks) → Kept g (put g r s) w
+kept-put : (g : Geo) (r : Rec) (s : Store) (w : ℕ) → GoodGeo g → InShare g s → length (r .body) ≤ 2 * g .words → used s + w + 1 ≤ capacity (g .factor) (g .blocks) → Kept g (put g r s) w
 kept-put g r s w k h l u = record {
   geo = k;
   holds = holds-put g r s (good-sized g k) (recordWords-most (g .words) r l) (omega arith) h;
@@ -84,7 +84,7 @@ room-enter s b k =
     let h = countAcc-enter isWriter (newAcc false 0 s) (b .accs) in
     record { geo = k .geo; holds = k .holds; places = omega (arith, k .places); one-more = omega (arith, k .one-more) }
 
-room-seat : (n s : ℕ) (b : Built) → GoodGeo (b .geo) → Holds (b .geo) (b .store) → used (b .store) + writers b + 2 ≤ capacityOf b → Roomy (enter (newAcc true n s) (putRec (openRec n) b))
+room-seat : (n s : ℕ) (b : Built) → GoodGeo (b .geo) → InShare (b .geo) (b .store) → used (b .store) + writers b + 2 ≤ capacityOf b → Roomy (enter (newAcc true n s) (putRec (openRec n) b))
 unfolding enter putRec say withStore withAccs newAcc isWriter capacityOf writers
 room-seat n s b k r u =
     let h = countAcc-enter isWriter (newAcc true n s) (b .accs) in
@@ -117,7 +117,7 @@ abbrev pub Owed : ℕ → Built → Type 0
 Owed n b = Bounds b × Owing n b
 
 pub sound-walks : Walks Sound Owed
-unfolding finish cancel freed leave requeue alterAcc withAccs withQueues withTimers say writers Bounded
+unfolding finish cancel freed leave requeue request withBuffers alterAcc withAccs withQueues withTimers say writers Bounded
 sound-walks = record {
   mild = λ p f b m s. (bounds-walks .mild p f b m (s .0), room-mild p f b m (s .1));
   finishes = λ p st q a r b e i k s. (bounds-walks .finishes p st q a r b e i k (s .0), rw (writers-withReq q b p) (s .1));
@@ -143,7 +143,7 @@ unfolding GoodRecs All
 small words [] h = tt
 small words (r ∷ rs) h = (recordWords-most words r (h .0 .1), small words rs (h .1))
 
-kept-new : (g : Geo) (s : Store) → GoodGeo g → Holds g s → Kept g s 0
+kept-new : (g : Geo) (s : Store) → GoodGeo g → InShare g s → Kept g s 0
 kept-new g s k h = record { geo = k; holds = h; places = omega (arith, used-most g s h); one-more = omega (arith, k .room) }
 
 pub sound-starts : Starts Sound

@@ -9,7 +9,7 @@ use native.Mathlib.Nat.{suc-add}
 use lib.ListN.{length}
 use Rattle.rules.specs.State.{Req, Acc, Hap, Built}
 use Rattle.rules.specs.Store.{Found}
-use Rattle.rules.specs.Requests.{accAt, withStore, withAccs, withTimers, withQueues, alterAcc, say, putRec, tookBy, behind, without, requeue, leave, finish}
+use Rattle.rules.specs.Requests.{accAt, withStore, withAccs, withTimers, withQueues, alterAcc, say, putRec, tookBy, behind, without, requeue, leave, finish, withBuffers, request}
 use Rattle.rules.specs.Settle.{Turn, still, onward, serveReader, serveWriter, atHead, turn, settleFor, settle}
 use Rattle.rules.proofs.Split.{by-cases, both, pick-true, pick-false}
 use Rattle.occurrences.specs.Count.{count}
@@ -37,11 +37,11 @@ unfolding onward
 shrunk-left p b c r w h _ = omega (arith, ap length r, ap length w, length-without p (b .rq), length-without p (b .wq))
 
 shrunk-reader : (p : ℕ) (a : Acc) (q : Req) (b : Built) → 1 ≤ count p (b .rq) → Shrunk b (serveReader p a q b)
-unfolding finish say leave withTimers requeue alterAcc withAccs withQueues behind withStore
+unfolding finish say leave withTimers requeue request withBuffers alterAcc withAccs withQueues behind withStore
 shrunk-reader p a q b h = reader-cases (Shrunk b) p a q b (λ _ _. shrunk-still b b) (λ _ _ _. shrunk-still b _) (λ _ _ _ _. shrunk-left p b _ refl refl (omega arith))
 
 shrunk-writer : (p : ℕ) (a : Acc) (q : Req) (b : Built) → 1 ≤ count p (b .wq) → Shrunk b (serveWriter p a q b)
-unfolding finish say leave withTimers requeue alterAcc withAccs withQueues putRec withStore
+unfolding finish say leave withTimers requeue request withBuffers alterAcc withAccs withQueues putRec withStore
 shrunk-writer p a q b h = writer-cases (Shrunk b) p a q b (λ _. shrunk-still b b) (λ _. shrunk-still b b) (λ _ _ _. shrunk-left p b _ refl refl (omega arith))
 
 shrunk-head : (serve : ℕ → Acc → Req → Built → Turn) (l : List ℕ) (b : Built) → ((p : ℕ) (a : Acc) → 1 ≤ count p l → Shrunk b (serve p a (a .req) b)) → Shrunk b (atHead serve l b)
@@ -51,7 +51,7 @@ shrunk-head serve l b h = head-cases (Shrunk b) serve l b (λ _. shrunk-still b 
 
 behind-nothing : (p : ℕ) (b : Built) → behind p (record { store = b .store; got = none; went = []; took = none }) b ≡ b
 unfolding behind tookBy say withStore
-behind-nothing p b = ap {B = Built} (λ (l : List Hap). record { geo = b .geo; store = b .store; accs = b .accs; rq = b .rq; wq = b .wq; timers = b .timers; past = l }) (append-nil (b .past))
+behind-nothing p b = ap {B = Built} (λ (l : List Hap). record { geo = b .geo; store = b .store; accs = b .accs; buffers = b .buffers; rq = b .rq; wq = b .wq; timers = b .timers; past = l }) (append-nil (b .past))
 
 pub reader-empty : (p : ℕ) (a : Acc) (q : Req) (b : Built) → b .store .recs ≡ [] → serveReader p a q b ≡ still b
 reader-empty p a q b e =

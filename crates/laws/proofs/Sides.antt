@@ -7,7 +7,7 @@ use Prim.Native.Nat.{ℕ}
 use lib.ListN.{getD, replicate}
 use Rattle.rules.specs.Limits.{places}
 use Rattle.rules.specs.State.{Req, idle, reading, writing, Acc, Built}
-use Rattle.rules.specs.Requests.{isWriter, accAt, alter, withAccs, withQueues, withTimers, withStore, alterAcc, say, putRec, behind, withReq, requeue, leave, finish, cancel, freed}
+use Rattle.rules.specs.Requests.{isWriter, accAt, alter, withAccs, withQueues, withTimers, withStore, alterAcc, say, putRec, behind, withReq, requeue, leave, finish, cancel, freed, withBuffers, request}
 use Rattle.rules.specs.Reply.{hushed}
 use Rattle.rules.specs.Open.{newFile, newAcc, enter}
 use Rattle.rules.specs.Close.{vacate}
@@ -68,7 +68,7 @@ sides-withReq q p a b e h s =
     sides-alter (withReq q) p b (λ c i t. sided-withReq q c (subst (λ (d : Acc). Fitting (d .writer) (d .req) → Fitting (d .writer) q) (Option·some-injective a c (sym e ∙ i)) h) t) s
 
 pub sides-walks : Walks Sides (λ n. Sides)
-unfolding alterAcc withAccs withQueues withTimers withStore say requeue leave finish cancel freed behind putRec accAt Fitting
+unfolding alterAcc withAccs withQueues withTimers withStore say requeue request withBuffers leave finish cancel freed behind putRec accAt Fitting
 sides-walks = record {
   mild = λ p f b h s. sides-alter f p b (λ a _ t. sided-mild f a h t) s;
   finishes = λ p st q a r b e i k s. sides-withReq q p a b e (λ t. fitting-ends (a .writer) k (rw i at t)) s;

@@ -7,7 +7,7 @@ use native.Mathlib.Omega.{arith}
 use lib.Dec.{leb, eqb}
 use borrow.Author.Tests.{leb-false, eqb-false}
 use Rattle.rules.specs.State.{Req, Timer, Built}
-use Rattle.rules.specs.Requests.{withAccs, withQueues, withTimers, withStore, alterAcc, say, putRec, behind, without, withoutTimer, requeue, leave, finish, cancel, fail, arm, wait, freed}
+use Rattle.rules.specs.Requests.{withAccs, withQueues, withTimers, withStore, alterAcc, say, putRec, behind, without, withoutTimer, requeue, leave, finish, cancel, fail, arm, wait, freed, withBuffers, request}
 use Rattle.rules.specs.Reply.{hushed}
 use Rattle.rules.specs.Open.{newFile, enter}
 use Rattle.rules.specs.Close.{vacate}
@@ -81,12 +81,12 @@ ticking-arm p n b s =
     both Ticking (eqb n 0) (λ _. s) (λ k. sorted-armIn (record { place = p; left = n }) 1 (b .timers) (let h : n ≡ 0 → ⊥ = eqb-false n 0 k in omega (arith, h)) s)
 
 ticking-wait : (side : Bool) (p n : ℕ) (q : Req) (b : Built) → Ticking b → Ticking (wait side p n q b)
-unfolding wait say requeue alterAcc withAccs withQueues
+unfolding wait say requeue request withBuffers alterAcc withAccs withQueues
 ticking-wait true p n q b s = ticking-arm p n _ s
 ticking-wait false p n q b s = ticking-arm p n _ s
 
 pub timed-walks : Walks Timed (λ n. Timed)
-unfolding alterAcc withAccs withQueues withTimers withStore say requeue leave finish cancel freed behind putRec enter vacate
+unfolding alterAcc withAccs withQueues withTimers withStore say requeue request withBuffers leave finish cancel freed behind putRec enter vacate
 timed-walks = record {
   mild = λ p f b h s. (agree-walks .mild p f b h (s .0), s .1);
   finishes = λ p st q a r b e i k s. (agree-walks .finishes p st q a r b e i k (s .0), sorted-withoutTimer p 1 (b .timers) (s .1));

@@ -8,7 +8,7 @@ use native.Mathlib.Decide.{ℕ-discrete, decLe}
 use borrow.Author.Tests.{le-leb, lt-leb, eq-eqb, ne-eqb}
 use Rattle.rules.specs.Limits.{files, places}
 use Rattle.rules.specs.State.{Timer, Hap, ends, Built, File, unbuilt, built}
-use Rattle.rules.specs.Requests.{accAt, withAccs, withQueues, withTimers, alterAcc, say, requeue, leave, finish, fail}
+use Rattle.rules.specs.Requests.{accAt, withAccs, withQueues, withTimers, alterAcc, say, requeue, leave, finish, fail, withBuffers, request}
 use Rattle.rules.specs.Time.{due, failAll, minus, lessen, lapse, timeHaps}
 use Rattle.rules.specs.Desk.{Call, Asked, on, time, bad, asked, Desk, freshDesk, fileOf, answered, respond, happens, history}
 use Rattle.rules.specs.Allocation.{placeOf, Alloc, freshAlloc, withClock, endsAt, allot, allotAll, endAll, allocTime, allocAsked, Happening, happening, timesOut, told, annals}
@@ -79,7 +79,7 @@ fails-told (p ∷ l) b h =
     one =
         fail-cases (λ c. (c .past ≡ b .past ++ (timedOut p ∷ [])) × ((x : ℕ) → count x l ≤ awaits (reqAt (c .accs) x))) p 22 b
         (λ z. absurd (omega (arith, h p, count-head p l)))
-        (λ q a r e _ _. unfold accAt finish say leave withTimers requeue alterAcc withAccs withQueues timedOut in (
+        (λ q a r e _ _. unfold accAt finish say leave withTimers requeue request withBuffers alterAcc withAccs withQueues timedOut in (
           refl,
           reqs-each q a (b .accs) p e (λ x y. count x l ≤ awaits y) (unfold count in omega (arith, h p, bit-eq p p refl, outstanding-most (reqAt (b .accs) p)))
               (λ x n. unfold count in omega (arith, h x, bit-ne p x n)),

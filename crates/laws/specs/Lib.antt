@@ -5,12 +5,14 @@ pub mod Changes
 pub mod Counts
 pub mod Places
 pub mod Bounds
+pub mod Lying
 pub mod Room
 pub mod Queues
 pub mod Rest
 pub mod Apart
 pub mod Sides
 pub mod Records
+pub mod Tails
 pub mod One
 pub mod Timers
 pub mod Entries

@@ -4,13 +4,13 @@ use Rattle.rules.specs.Geometry.{capacity}
 use Rattle.rules.specs.State.{Geo, Store, Built}
 use Rattle.rules.specs.Store.{used}
 use Rattle.rules.specs.Requests.{writers}
-use Rattle.shares.specs.Holds.{Holds}
+use Rattle.shares.specs.Holds.{InShare}
 use Rattle.laws.specs.Changes.{GoodGeo}
 
 -- a store with w close records to come
 pub record Kept (g : Geo) (s : Store) (w : ℕ) : Type 0 where
   pub geo : GoodGeo g
-  pub holds : Holds g s
+  pub holds : InShare g s
   pub places : used s + w ≤ capacity (g .factor) (g .blocks)
   -- an empty store has room for a data record beside them
   pub one-more : w + 1 ≤ capacity (g .factor) (g .blocks)

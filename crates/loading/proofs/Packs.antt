@@ -14,7 +14,7 @@ use Rattle.rules.specs.State.{Rec, Geo, Store}
 use Rattle.rules.specs.Geometry.{capacity}
 use Rattle.rules.specs.Store.{used, recordWords, emptyStore, put, putAll}
 use Rattle.rules.specs.Memories.{shareAt}
-use Rattle.shares.specs.Holds.{Holds}
+use Rattle.shares.specs.Holds.{InShare}
 use Rattle.shares.proofs.Image.{recordWords-most}
 use Rattle.shares.proofs.Holds.{holds-empty}
 use Rattle.shares.proofs.Put.{holds-put}
@@ -39,7 +39,7 @@ pub record Packs (g : Geo) (whole : Store) (f : ℕ) (start t : List ℕ) (at le
   pub low : f < files
   pub long : length start ≡ blocksBytes
   pub store : Store
-  pub holds : Holds g store
+  pub holds : InShare g store
   pub ring : r ≡ ringOf g store
   pub share : blocks ≡ sets start (shareBytes * f) (store .share)
   pub rest : putAll g (recsFrom t at left) store ≡ whole
@@ -79,7 +79,7 @@ module _ {g : Geo} {whole : Store} {f : ℕ} {start t : List ℕ} {at left : ℕ
     packs-put r′ blocks′ er eb =
         let s : Store = P .store in
         let e : inscribed (g .words) r rec (shareAt f blocks) ≡ put g rec s .share = rw (packs-share, P .ring) (inscribed-put g s rec (good-sized g (P .geo)) (P .holds)) in
-        let h : Holds g (put g rec s) = holds-put g rec s (good-sized g (P .geo)) fits (omega (arith, P .room)) (P .holds) in
+        let h : InShare g (put g rec s) = holds-put g rec s (good-sized g (P .geo)) fits (omega (arith, P .room)) (P .holds) in
         record {
           geo = P .geo;
           low = P .low;
@@ -101,8 +101,8 @@ module _ {g : Geo} {whole : Store} {f : ℕ} {start t : List ℕ} {at left : ℕ
   pub packs-ring : left ≤ 0 → r ≡ ringOf g whole
   packs-ring z = P .ring ∙ ap (ringOf g) (packs-all z)
 
-  pub packs-whole : left ≤ 0 → Holds g whole
-  packs-whole z = subst (Holds g) (packs-all z) (P .holds)
+  pub packs-whole : left ≤ 0 → InShare g whole
+  packs-whole z = subst (InShare g) (packs-all z) (P .holds)
 
   pub packs-blocks : left ≤ 0 → blocks ≡ sets start (shareBytes * f) (whole .share)
   packs-blocks z = P .share ∙ ap (λ (s : Store). sets start (shareBytes * f) (s .share)) (packs-all z)

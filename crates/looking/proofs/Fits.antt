@@ -9,7 +9,7 @@ use lib.ListN.{length, take, drop}
 use lib.Seq.{take-take, drop-drop}
 use Rattle.rules.specs.Limits.{files, shareBytes, bufferBytes}
 use Rattle.rules.specs.State.{Rec, Req, idle, reading, writing, readDone, writeDone, Built, built}
-use Rattle.rules.specs.Memories.{lies}
+use Rattle.rules.specs.Buffers.{lies}
 use Rattle.rules.specs.Reply.{leaves}
 use Rattle.rules.specs.Look.{oldest, lookFile, lookReq}
 use Rattle.rules.specs.Desk.{Desk, look, fileOf, respond, replyBytes}

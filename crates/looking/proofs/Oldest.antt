@@ -13,7 +13,7 @@ use Rattle.rules.specs.Limits.{shareBytes}
 use Rattle.rules.specs.State.{Rec, Geo, Store}
 use Rattle.rules.specs.Look.{oldest}
 use Rattle.rules.proofs.Split.{by-cases, pick-true, pick-false}
-use Rattle.shares.specs.Holds.{Sized, Holds}
+use Rattle.shares.specs.Holds.{Sized, InShare}
 use Rattle.shares.specs.Back.{recAt}
 use Rattle.shares.specs.Places.{placeOf}
 use Rattle.shares.proofs.Places.{placeOf-held}
@@ -34,7 +34,7 @@ before-low (q ∷ l) r e =
     (λ z. rw (before, z) (omega arith))
     (λ z. rw (before, z) (let h = before-low l r (sym (pick-false (eqb (q .typ) 0) _ _ z) ∙ e) in omega (arith, h)))
 
-module _ (g : Geo) (s : Store) (o : Sized g) (h : Holds g s) where
+module _ (g : Geo) (s : Store) (o : Sized g) (h : InShare g s) where
   abbrev xs : List ℕ
   xs = s .share
 

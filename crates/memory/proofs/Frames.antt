@@ -1,24 +1,28 @@
 -- One share and one record buffer among the others: what a store changes, and what it leaves.
 use Prim.Native.Nat.{ℕ, zero, suc, _+_, _*_, _-_, _≤_, _<_}
-use mathlib.Core.Path.{_≡_, refl, sym, ap, _∙_}
-use mathlib.Core.List.{List, [], _∷_, _++_}
+use mathlib.Core.Path.{_≡_, sym, ap, _∙_}
+use mathlib.Core.List.{List, [], _∷_}
 use mathlib.Core.Logic.{_⊎_, inl, inr}
-use mathlib.Core.Option.{Option, none}
 use native.Mathlib.Omega.{arith}
 use native.Mathlib.Nat.{zero-add, suc-add}
 use native.Mathlib.Decide.{ℕ-discrete, decLt}
-use lib.ListN.{length, getD, take, drop, length-drop}
-use lib.Seq.{sets, drop-drop, take-nil, take-take, length-take-le}
+use lib.ListN.{length, take, drop}
+use lib.Seq.{sets, drop-drop, take-nil, take-take}
 use Rattle.rules.specs.Limits.{files, places, shareBytes, bufferBytes}
-use Rattle.rules.specs.State.{Acc, File}
+use Rattle.rules.specs.State.{Req, File, Built}
 use Rattle.rules.specs.Desk.{Desk, fileOf, withFile}
-use Rattle.rules.specs.Memories.{bufferAt, shareAt, parts, buffer, fileBuffers}
+use Rattle.rules.specs.Memories.{bufferAt, shareAt}
+use Rattle.rules.specs.Buffers.{lies, filled, refilled}
+use Rattle.rules.specs.Allocation.{placeOf}
+use Rattle.rules.proofs.Buffers.{length-filled}
+use Rattle.laws.specs.Outstanding.{reqAt}
+use Rattle.laws.specs.Lying.{Lying}
 use Rattle.laws.specs.EightFiles.{EightFiles}
 use Rattle.laws.proofs.EightFiles.{file-other, file-same}
 use Rattle.memory.specs.Memories.{Memories}
 use Rattle.memory.specs.Stands.{buffersAt, FileBytes, Bodies}
 use Rattle.words.specs.Word.{Bytes}
-use Rattle.memory.proofs.Parts.{part, parts-all, part-parts, part-sets, part-sets-other}
+use Rattle.memory.proofs.Parts.{part, part-sets, part-sets-other}
 
 -- stores in the share of file f
 module _ (f a : ℕ) (vs x : List ℕ) (h : a + length vs ≤ shareBytes) where
@@ -34,26 +38,7 @@ module _ (f a : ℕ) (vs x : List ℕ) (h : a + length vs ≤ shareBytes) where
       go (yes k) = inl (omega arith)
       go (no k) = let m : g < f = omega arith in inr (omega arith)
 
--- stores in the buffer of place i
-module _ (i a : ℕ) (vs x : List ℕ) (h : a + length vs ≤ bufferBytes) where
-  pub bufferAt-sets : bufferAt i (sets x (bufferBytes * i + a) vs) ≡ sets (bufferAt i x) a vs
-  unfolding part
-  bufferAt-sets = part-sets bufferBytes i a vs x h
-
-  pub bufferAt-sets-other : (j : ℕ) → (j ≡ i → ⊥) → bufferAt j (sets x (bufferBytes * i + a) vs) ≡ bufferAt j x
-  unfolding part
-  bufferAt-sets-other j d = part-sets-other bufferBytes j (bufferBytes * i + a) vs x (go (decLt i j))
-    where
-      go : Dec (i < j) → (bufferBytes * i + a + length vs ≤ bufferBytes * j) ⊎ (bufferBytes * j + bufferBytes ≤ bufferBytes * i + a)
-      go (yes k) = inl (omega arith)
-      go (no k) = let m : j < i = omega arith in inr (omega arith)
-
 -- a file's eight buffers, one by one
-
-fileBuffers-parts : (l : List (Option Acc)) → fileBuffers l ≡ parts (length l) (λ p. buffer (getD l p none))
-unfolding fileBuffers parts
-fileBuffers-parts [] = refl
-fileBuffers-parts (a ∷ l) = ap (λ (r : List ℕ). buffer a ++ r) (fileBuffers-parts l)
 
 drop-take : (k m : ℕ) (l : List ℕ) → drop k (take (k + m) l) ≡ take m (drop k l)
 drop-take zero m l = rw (zero-add m)
@@ -64,31 +49,39 @@ drop-take (suc k) m (y ∷ l) = rw (suc-add k m) (drop-take k m l)
 abbrev pub fileBytes : ℕ
 fileBytes = places * bufferBytes
 
-buffersAt-part : (f p : ℕ) (x : List ℕ) → p < places → part bufferBytes p (buffersAt f x) ≡ bufferAt (8 * f + p) x
-unfolding part buffersAt
+pub buffersAt-part : (f p : ℕ) (x : List ℕ) → p < places → part bufferBytes p (buffersAt f x) ≡ bufferAt (placeOf f p) x
+unfolding part buffersAt placeOf
 buffersAt-part f p x h =
     let m : ℕ = fileBytes - bufferBytes * p in
     let e : fileBytes ≡ bufferBytes * p + m = omega arith in
-    let i : fileBytes * f + bufferBytes * p ≡ bufferBytes * (8 * f + p) = omega arith in
+    let i : fileBytes * f + bufferBytes * p ≡ bufferBytes * (places * f + p) = omega arith in
     let c : drop (bufferBytes * p) (take fileBytes (drop (fileBytes * f) x)) ≡ take m (drop (bufferBytes * p) (drop (fileBytes * f) x)) =
     ap (λ k. drop (bufferBytes * p) (take k (drop (fileBytes * f) x))) e ∙ drop-take (bufferBytes * p) m (drop (fileBytes * f) x)
     in
     ap (take bufferBytes) c ∙ take-take bufferBytes m (drop (bufferBytes * p) (drop (fileBytes * f) x)) (omega arith) ∙ ap (take bufferBytes) (drop-drop (bufferBytes * p) (fileBytes * f) x ∙ ap (λ k. drop k x) i)
 
-pub buffersAt-are : (f : ℕ) (x : List ℕ) (l : List (Option Acc)) → f < files → length x ≡ places * bufferBytes * files → length l ≡ places
-    → ((p : ℕ) → p < places → bufferAt (8 * f + p) x ≡ buffer (getD l p none)) → buffersAt f x ≡ fileBuffers l
-buffersAt-are f x l h e n k =
-    parts-all bufferBytes places (buffersAt f x) (λ p. buffer (getD l p none)) (unfold buffersAt in long) (λ p j. buffersAt-part f p x j ∙ k p j)
-    ∙ rw (← n) (sym (fileBuffers-parts l))
-  where
-    long : length (take fileBytes (drop (fileBytes * f) x)) ≡ fileBytes
-    long = length-take-le fileBytes (drop (fileBytes * f) x) (rw (length-drop (fileBytes * f) x) (omega arith))
+-- what a request says lies in the buffer of its place
+pub lies-there : (f p : ℕ) (x : List ℕ) (b : Built) → Lying b → buffersAt f x ≡ b .buffers → p < places
+    → take (length (lies (reqAt (b .accs) p))) (bufferAt (placeOf f p) x) ≡ lies (reqAt (b .accs) p)
+lies-there f p x b L e h =
+    ap (take (length (lies (reqAt (b .accs) p)))) (sym (buffersAt-part f p x h) ∙ ap (λ (ys : List ℕ). part bufferBytes p ys) e)
+    ∙ (unfold part in L .each p h)
 
-pub bufferAt-is : (f : ℕ) (x : List ℕ) (l : List (Option Acc)) → length l ≡ places → ((p : ℕ) → p < places → length (buffer (getD l p none)) ≡ bufferBytes)
-    → buffersAt f x ≡ fileBuffers l → (p : ℕ) → p < places → bufferAt (8 * f + p) x ≡ buffer (getD l p none)
-bufferAt-is f x l n e q p h =
-    sym (buffersAt-part f p x h) ∙ ap (part bufferBytes p) (q ∙ fileBuffers-parts l)
-    ∙ part-parts bufferBytes (length l) (λ i. buffer (getD l i none)) (λ i k. e i (omega arith)) p (omega arith)
+-- the buffer of place p of file f is filled anew, where its request is q now
+module _ (f p : ℕ) (q : Req) (x : List ℕ) (h : p < places) (n : length (lies q) ≤ bufferBytes) where
+  pub buffersAt-refilled : buffersAt f (sets x (bufferBytes * placeOf f p) (filled (lies q))) ≡ refilled p q (buffersAt f x)
+  unfolding part buffersAt placeOf refilled
+  buffersAt-refilled =
+      let e : bufferBytes * (places * f + p) ≡ fileBytes * f + bufferBytes * p = omega arith in
+      rw e (part-sets fileBytes f (bufferBytes * p) (filled (lies q)) x (omega (arith, length-filled (lies q) n)))
+
+  pub buffersAt-apart : (g : ℕ) → (g ≡ f → ⊥) → buffersAt g (sets x (bufferBytes * placeOf f p) (filled (lies q))) ≡ buffersAt g x
+  unfolding part buffersAt placeOf
+  buffersAt-apart g d = part-sets-other fileBytes g (bufferBytes * (places * f + p)) (filled (lies q)) x (go (decLt f g))
+    where
+      go : Dec (f < g) → (bufferBytes * (places * f + p) + length (filled (lies q)) ≤ fileBytes * g) ⊎ (fileBytes * g + fileBytes ≤ bufferBytes * (places * f + p))
+      go (yes k) = inl (omega (arith, length-filled (lies q) n))
+      go (no k) = let m : g < f = omega arith in inr (omega arith)
 
 -- a change of one file
 pub bodies-file : (d : Desk) (m m′ : Memories) (f : ℕ) (y : File) → Bodies m d → EightFiles d → f < files → Bytes (m′ .blocks) → Bytes (m′ .buffers)

@@ -7,11 +7,11 @@ use mathlib.Core.Option.{none}
 use native.Mathlib.Omega.{arith}
 use native.Mathlib.Decide.{ℕ-discrete, decLt}
 use lib.Dec.{ltb, eqb}
-use lib.ListN.{length, getD, take, drop, replicate}
+use lib.ListN.{length, getD, replicate}
 use borrow.Author.Tests.{lt-ltb, le-ltb, eq-eqb, ne-eqb, ltb-true}
 use Rattle.occurrences.specs.Count.{bit, count}
 use Rattle.words.specs.Word.{zeros, Bytes}
-use Rattle.words.proofs.Runs.{length-zeros}
+use Rattle.words.proofs.Runs.{length-zeros, part-zeros}
 use Rattle.rules.proofs.Split.{bothc}
 use Rattle.segment.specs.Layout.{readQueues, listCount, freeList, nil, entryWidth, linkAt, dataAt, dataWords, readQueue, writeQueue, replyPort, fileWidth, placeWidth, fileRows, segmentWords, fileRowAt, placeRowAt, rowCount, rowAt, rowWidth}
 use Rattle.segment.specs.Layout as layout
@@ -210,21 +210,6 @@ up-count (suc n) e x h k = go (ℕ-discrete e x) (λ i. up-count n (suc e) x i (
 
 pub fresh-covers : Covers freshDesk freshAlloc
 fresh-covers e h = (freeList, omega arith, rw (listOf-free freshDesk freshAlloc) (unfold freshAlloc in up-count entries 0 e (omega arith) (omega arith)))
-
-take-zeros : (n m : ℕ) → n ≤ m → take n (zeros m) ≡ zeros n
-unfolding zeros
-take-zeros zero m h = refl
-take-zeros (suc n) zero h = absurd (omega arith)
-take-zeros (suc n) (suc m) h = ap (_∷_ 0) (take-zeros n m (omega arith))
-
-drop-zeros : (n m k : ℕ) → n + k ≡ m → drop n (zeros m) ≡ zeros k
-unfolding zeros
-drop-zeros zero m k h = let e : m ≡ k = omega arith in rw e
-drop-zeros (suc n) zero k h = absurd (omega arith)
-drop-zeros (suc n) (suc m) k h = drop-zeros n m k (omega arith)
-
-part-zeros : (n at m : ℕ) → at + n ≤ m → take n (drop at (zeros m)) ≡ zeros n
-part-zeros n at m h = rw (drop-zeros at m (m - at) (omega arith)) (take-zeros n (m - at) (omega arith))
 
 pub fresh-blank : Blank freshDesk freshMemories
 unfolding buffersAt freshBlocks freshBuffers

@@ -11,3 +11,4 @@ pub mod Sums
 pub mod Held
 pub mod Once
 pub mod Reached
+pub mod Swept

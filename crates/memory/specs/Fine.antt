@@ -10,6 +10,7 @@ use Rattle.shares.specs.Back.{usedRecs}
 use Rattle.laws.specs.Runs.{OnFile}
 use Rattle.laws.specs.Room.{Roomy}
 use Rattle.laws.specs.Bounds.{Bounds}
+use Rattle.laws.specs.Lying.{Lying}
 use Rattle.laws.specs.Queues.{Agree}
 use Rattle.laws.specs.Timers.{Ticking}
 use Rattle.laws.specs.Sides.{Sides}
@@ -17,11 +18,12 @@ use Rattle.laws.specs.Entries.{Agreed}
 use Rattle.memory.specs.Memories.{Memories}
 use Rattle.memory.specs.Stands.{Stands}
 
--- a built file: room, the records of its held blocks, its queues and requests, its timers, its accessors
+-- a built file: room, the records of its held blocks, its requests, what lies in their buffers, its queues, its timers, its accessors
 pub record Fine (b : Built) : Type 0 where
   pub room : Roomy b
   pub records : All GoodRec (usedRecs (b .geo) (b .store))
   pub bounds : Bounds b
+  pub buffers : Lying b
   pub queues : Agree b
   pub timers : Ticking b
   pub sides : Sides b

@@ -4,3 +4,4 @@ pub mod Stands
 pub mod Covers
 pub mod Fresh
 pub mod Fine
+pub mod Swept

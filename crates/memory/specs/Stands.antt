@@ -9,7 +9,7 @@ use Rattle.ports.specs.Lists.{Chain}
 use Rattle.rules.specs.Limits.{files, places, shareBytes, bufferBytes}
 use Rattle.rules.specs.State.{File, unbuilt, built}
 use Rattle.rules.specs.Desk.{Desk, fileOf}
-use Rattle.rules.specs.Memories.{shareAt, fileBuffers}
+use Rattle.rules.specs.Memories.{shareAt}
 use Rattle.rules.specs.Allocation.{Alloc}
 use Rattle.memory.specs.Memories.{Memories}
 use Rattle.memory.specs.Image.{listOf, boxOf, rowOf}
@@ -30,7 +30,7 @@ buffersAt f xs = take (places * bufferBytes) (drop (places * bufferBytes * f) xs
 -- the share and the buffers are those of the file; nothing is asked if it is not built, since no call reads them then
 unfoldable pub FileBytes : File → List ℕ → List ℕ → Type 0
 FileBytes unbuilt share buffers = Unit {0}
-FileBytes (built b) share buffers = (share ≡ b .store .share) × (buffers ≡ fileBuffers (b .accs))
+FileBytes (built b) share buffers = (share ≡ b .store .share) × (buffers ≡ b .buffers)
 
 pub record Bodies (m : Memories) (d : Desk) : Type 0 where
   pub blocks-bytes : Bytes (m .blocks)

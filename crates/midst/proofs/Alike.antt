@@ -12,7 +12,7 @@ use Rattle.memory.specs.Image.{accOf, placeAcc, reqWords, rqOf, wqOf, atList, l
 use Rattle.laws.specs.Outstanding.{reqOf}
 use Rattle.laws.proofs.EightFiles.{files-same}
 
-pub record Alike (x y : File) : Type 0 where
+pub record SameLists (x y : File) : Type 0 where
   pub reads : rqOf x ≡ rqOf y
   pub writes : wqOf x ≡ wqOf y
   pub reqs : (p : ℕ) → reqOf (accOf x p) ≡ reqOf (accOf y p)
@@ -34,7 +34,7 @@ at-same : {A : Type 0} (free : A) (r r′ w w′ p p′ : ℕ → A) (timers : A
 unfolding atList
 at-same free r r′ w w′ p p′ timers a b c l = rw (a (l - readQueues), b (l - writeQueues), c (l - replyPorts))
 
-module _ (d : Desk) (f : ℕ) (x y : File) (E : Alike x y) where
+module _ (d : Desk) (f : ℕ) (x y : File) (E : SameLists x y) where
   abbrev dx : Desk
   dx = withFile d f x
 

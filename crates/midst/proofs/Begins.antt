@@ -15,7 +15,7 @@ use Rattle.rules.specs.Limits.{files, places}
 use Rattle.rules.specs.State.{Hap, Built, File, unbuilt, built}
 use Rattle.rules.specs.Requests.{accAt}
 use Rattle.rules.specs.Reply.{hushed}
-use Rattle.rules.specs.Memories.{shareAt, fileBuffers}
+use Rattle.rules.specs.Memories.{shareAt}
 use Rattle.rules.specs.Desk.{Desk, fileOf, withFile}
 use Rattle.rules.specs.Allocation.{Alloc, placeOf, allotAll}
 use Rattle.laws.specs.Runs.{OnFile}
@@ -41,7 +41,7 @@ use Rattle.midst.specs.declared.File as hand
 use Rattle.midst.specs.File.{fileOfRow, fileRowWords, inHand}
 use Rattle.midst.specs.Seg.{Seg}
 use Rattle.midst.specs.Mid.{Start, Mid, start}
-use Rattle.midst.proofs.Alike.{Alike, lists-alike, boxes-alike}
+use Rattle.midst.proofs.Alike.{SameLists, lists-alike, boxes-alike}
 use Rattle.midst.proofs.Rows.{place-row-below}
 
 -- it begins
@@ -124,7 +124,7 @@ module _ {I : Built → Type 0} {f : ℕ} {o : Start} {m : Memories} {x : hand.F
 
 -- it ends
 
-pub hushed-alike : (b : Built) → Alike (built b) (built (hushed b))
+pub hushed-alike : (b : Built) → SameLists (built b) (built (hushed b))
 unfolding hushed accOf accAt rqOf wqOf
 hushed-alike b = record { reads = refl; writes = refl; reqs = λ p. refl }
 
@@ -132,7 +132,7 @@ pub hushed-acc : (b : Built) (p : ℕ) → accOf (built b) p ≡ accOf (built (h
 unfolding hushed accOf accAt
 hushed-acc b p = refl
 
-pub hushed-bytes : (b : Built) (share buffers : List ℕ) → share ≡ b .store .share → buffers ≡ fileBuffers (b .accs) → FileBytes (built (hushed b)) share buffers
+pub hushed-bytes : (b : Built) (share buffers : List ℕ) → share ≡ b .store .share → buffers ≡ b .buffers → FileBytes (built (hushed b)) share buffers
 unfolding hushed FileBytes
 hushed-bytes b share buffers e h = (e, h)
 
@@ -151,7 +151,7 @@ rows-same d f x y e =
     accs i = unfold placeAcc in files-same (λ z. accOf z (i % places)) d f x y (e (i % places)) (i / places)
 
 -- the row of file f is written, the file being y in place of x, which has the same queues and accessors
-pub seg-end : (xs : List ℕ) (d : Desk) (f : ℕ) (x y : File) (t : Alloc) (words : List ℕ) → f < files → EightFiles d → Alike x y → ((p : ℕ) → accOf x p ≡ accOf y p)
+pub seg-end : (xs : List ℕ) (d : Desk) (f : ℕ) (x y : File) (t : Alloc) (words : List ℕ) → f < files → EightFiles d → SameLists x y → ((p : ℕ) → accOf x p ≡ accOf y p)
     → Seg xs (withFile d f x) t (fileRow f) → length words ≡ fileWidth → words ≡ fileWords y → Bytes (fill xs (fileRowAt f) words)
     → Segment (fill xs (fileRowAt f) words) (withFile d f y) t
 seg-end xs d f x y t words hf eight E accs S n e bytes =

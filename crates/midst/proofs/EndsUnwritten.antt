@@ -17,7 +17,7 @@ use Rattle.segment.proofs.Rows.{row-other}
 use Rattle.requests.specs.Moves.{slotOf, cancelled}
 use Rattle.rules.specs.Limits.{files}
 use Rattle.rules.specs.State.{idle, Acc, Built, built}
-use Rattle.rules.specs.Requests.{accAt, withAccs, withQueues, withTimers, alterAcc, say, requeue, leave, cancel}
+use Rattle.rules.specs.Requests.{accAt, withAccs, withQueues, withTimers, alterAcc, say, requeue, leave, cancel, withBuffers, request}
 use Rattle.rules.specs.Reply.{hushed}
 use Rattle.rules.specs.Desk.{withFile}
 use Rattle.rules.specs.Allocation.{placeOf, allotAll}
@@ -79,7 +79,7 @@ module _ {I : Built → Type 0} {f : ℕ} {o : Start} {m : Memories} {x : hand.F
   -- a waiting request is cancelled
   pub rowed-cancel : (K : Knows I) (p : ℕ) (a : Acc) → accAt b p ≡ some a → (side : Bool) → waitsAt side (a .req) ≡ 1
       → Rowed (cancelled (m .segment) (slotOf (m .segment) (queueAt side f) (placeOf f p)) (placeOf f p)) f (cancel p b)
-  unfolding cancel leave say withTimers requeue alterAcc withAccs withQueues fileWords
+  unfolding cancel leave say withTimers requeue request withBuffers alterAcc withAccs withQueues fileWords
   rowed-cancel K p a k side w =
       let n : EightFiles (withFile (o .desk) f (built b)) = eight-put (o .desk) f (built b) (M .eight) in
       let P : Placed f p (withFile (o .desk) f (built b)) b a (allotAll f (b .past) (o .alloc)) =

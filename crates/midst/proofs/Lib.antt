@@ -8,7 +8,6 @@ pub mod StandsBehind
 -- Rows and record buffers
 pub mod Rows
 pub mod Own
-pub mod Fills
 -- Lists of entries
 pub mod Lists
 mod Boxed

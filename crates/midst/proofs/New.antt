@@ -17,7 +17,7 @@ use Rattle.rules.specs.Limits.{files, places, shareBytes}
 use Rattle.rules.specs.State.{Acc, Geo, Store, File, unbuilt, built}
 use Rattle.rules.specs.Requests.{accAt}
 use Rattle.rules.specs.Reply.{Out, hushed}
-use Rattle.rules.specs.Memories.{shareAt, buffer, fileBuffers}
+use Rattle.rules.specs.Memories.{shareAt}
 use Rattle.rules.specs.Open.{newFile}
 use Rattle.rules.specs.Desk.{Desk, fileOf, withFile}
 use Rattle.rules.specs.Allocation.{Alloc, allotAll}
@@ -30,7 +30,7 @@ use Rattle.memory.specs.Fine.{StandsFor}
 use Rattle.memory.proofs.Frames.{bodies-file, fileBytes}
 use Rattle.midst.specs.Seg.{Seg}
 use Rattle.midst.specs.Outcome.{Outcome}
-use Rattle.midst.proofs.Alike.{Alike}
+use Rattle.midst.proofs.Alike.{SameLists}
 use Rattle.midst.proofs.Begins.{stands-seg, seg-end}
 
 -- a file with no accessor has none of all that an unbuilt file has none of
@@ -44,13 +44,9 @@ new-acc g t p = go places p
     go (suc n) zero = refl
     go (suc n) (suc i) = go n i
 
-new-alike : (g : Geo) (t : Store) → Alike unbuilt (built (hushed (newFile g t)))
+new-alike : (g : Geo) (t : Store) → SameLists unbuilt (built (hushed (newFile g t)))
 unfolding rqOf wqOf hushed newFile
 new-alike g t = record { reads = refl; writes = refl; reqs = λ p. ap reqOf (new-acc g t p) }
-
-new-buffers : (g : Geo) (t : Store) → zeros fileBytes ≡ fileBuffers (newFile g t .accs)
-unfolding newFile fileBuffers buffer zeros
-new-buffers g t = refl
 
 -- the i-th of m parts of k bytes is written
 module _ (ys zs : List ℕ) (k m i : ℕ) (n : length ys ≡ k * m) (h : i < m) (l : length zs ≡ k) where
@@ -88,7 +84,7 @@ module _ {m : Memories} {d : Desk} {s : Alloc} (S : StandsFor m d s) (f : ℕ) (
   unfolding FileBytes buffersAt hushed newFile
   own = (
     rw laid (written (m .blocks) (t .share) shareBytes files f (S .stands .bodies .blocks-size) hf long),
-    rw blank (written (m .buffers) (zeros fileBytes) fileBytes files f (S .stands .bodies .buffers-size) hf (length-zeros fileBytes) ∙ new-buffers g t),
+    rw blank (written (m .buffers) (zeros fileBytes) fileBytes files f (S .stands .bodies .buffers-size) hf (length-zeros fileBytes)),
   )
 
   -- a call that leaves such a file, and takes and frees no entry

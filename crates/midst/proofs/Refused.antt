@@ -40,7 +40,7 @@ use Rattle.midst.proofs.Judged.{refusal-back, judged, judged-new}
 
 -- the file with another past
 pastly : Built → List Hap → Built
-pastly b hs = record { geo = b .geo; store = b .store; accs = b .accs; rq = b .rq; wq = b .wq; timers = b .timers; past = hs }
+pastly b hs = record { geo = b .geo; store = b .store; accs = b .accs; buffers = b .buffers; rq = b .rq; wq = b .wq; timers = b .timers; past = hs }
 
 -- in a fine file no request completed with a refusal's number
 

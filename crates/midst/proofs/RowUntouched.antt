@@ -79,7 +79,7 @@ mid-stays {I} {f} {o} {m} {x} {b} M S B bytes blocks-bytes buffers-bytes = recor
 -- nothing was done
 pub hushed-past : (b : Built) → b .past ≡ [] → hushed b ≡ b
 unfolding hushed
-hushed-past b e = ap (λ (hs : List Hap). record { geo = b .geo; store = b .store; accs = b .accs; rq = b .rq; wq = b .wq; timers = b .timers; past = hs }) (sym e)
+hushed-past b e = ap (λ (hs : List Hap). record { geo = b .geo; store = b .store; accs = b .accs; buffers = b .buffers; rq = b .rq; wq = b .wq; timers = b .timers; past = hs }) (sym e)
 
 pub stands-still : {m : Memories} {d : Desk} {s : Alloc} → StandsFor m d s → (f : ℕ) (b : Built) → f < files → fileOf d f ≡ built b
     → Stands m (withFile d f (built (hushed b))) (allotAll f (b .past) s)

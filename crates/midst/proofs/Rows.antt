@@ -18,7 +18,6 @@ use Rattle.ports.proofs.Contents.{fill-boxes}
 use Rattle.rules.specs.Limits.{files, places}
 use Rattle.rules.specs.State.{idle, Acc, Built, built}
 use Rattle.rules.specs.Requests.{accAt, withAccs, alterAcc}
-use Rattle.rules.specs.Memories.{lies}
 use Rattle.rules.specs.Open.{firstFree, enter}
 use Rattle.rules.specs.Close.{vacate}
 use Rattle.rules.specs.Desk.{Desk, fileOf, withFile}
@@ -39,8 +38,7 @@ use Rattle.midst.specs.declared.File as hand
 use Rattle.midst.specs.File.{inHand}
 use Rattle.midst.specs.Seg.{Seg}
 use Rattle.midst.specs.Mid.{Start, Mid}
-use Rattle.midst.proofs.Alike.{Alike, lists-alike, boxes-alike}
-use Rattle.midst.proofs.Fills.{buffers-alike}
+use Rattle.midst.proofs.Alike.{SameLists, lists-alike, boxes-alike}
 
 -- c is b with another accessor at p, whose request is the same
 pub record Beside (p : ℕ) (b c : Built) : Type 0 where
@@ -53,6 +51,7 @@ pub record Beside (p : ℕ) (b c : Built) : Type 0 where
   pub others : (y : ℕ) → (y ≡ p → ⊥) → accAt c y ≡ accAt b y
   pub request : reqOf (accAt c p) ≡ reqOf (accAt b p)
   pub many : length (c .accs) ≡ length (b .accs)
+  pub buffers : c .buffers ≡ b .buffers
 
 module _ {p : ℕ} {b c : Built} (B : Beside p b c) where
   pub beside-reqs : (y : ℕ) → reqOf (accAt c y) ≡ reqOf (accAt b y)
@@ -62,7 +61,7 @@ module _ {p : ℕ} {b c : Built} (B : Beside p b c) where
       go (yes e) = rw e (B .request)
       go (no n) = ap reqOf (B .others y n)
 
-  beside-alike : Alike (built b) (built c)
+  beside-alike : SameLists (built b) (built c)
   unfolding accOf rqOf wqOf
   beside-alike = record { reads = sym (B .reads); writes = sym (B .writes); reqs = λ y. sym (beside-reqs y) }
 
@@ -142,7 +141,7 @@ module _ {I J : Built → Type 0} {f : ℕ} {o : Start} {ms : Memories} {x : han
         (rows-beside (o .desk) f p b c (M .eight) (M .file) (B .others)));
     row = M .row ∙ beside-hand B;
     share = M .share ∙ ap (λ s. s .share) (sym (B .store));
-    buffer = M .buffer ∙ sym (buffers-alike (b .accs) (c .accs) (B .many) (λ y. ap lies (beside-reqs B y)));
+    buffer = M .buffer ∙ sym (B .buffers);
     blocks-size = M .blocks-size;
     buffers-size = M .buffers-size;
     apart = record { shares = M .apart .shares; others = M .apart .others };
@@ -163,6 +162,7 @@ module _ {I J : Built → Type 0} {f : ℕ} {o : Start} {ms : Memories} {x : han
         others = λ y n. getD-alter-other g (b .accs) p y (λ u. n (sym u));
         request = unfold reqOf in ap reqOf (getD-alter-same g a (b .accs) p e) ∙ m a .3 ∙ sym (ap reqOf e);
         many = length-alter g (b .accs) p;
+        buffers = refl;
       }) good (h ∙ sym (ap image.placeWords (getD-alter-same g a (b .accs) p e)))
 
   -- one enters
@@ -180,6 +180,7 @@ module _ {I J : Built → Type 0} {f : ℕ} {o : Start} {ms : Memories} {x : han
         others = λ y n. getD-set-other (b .accs) (firstFree (b .accs)) y (some a) none n;
         request = enter-beside (λ u v. reqOf u ≡ reqOf v) (λ _. refl) a (b .accs) (unfold reqOf in i) (firstFree (b .accs));
         many = length-set (b .accs) (firstFree (b .accs)) (some a);
+        buffers = refl;
       }) good (h ∙ sym (ap image.placeWords (getD-set-same (b .accs) (firstFree (b .accs)) (some a) none (omega (arith, M .allots .matches .agrees .eight)))))
 
   -- one with no request leaves
@@ -198,4 +199,5 @@ module _ {I J : Built → Type 0} {f : ℕ} {o : Start} {ms : Memories} {x : han
         others = λ y n. getD-set-other (b .accs) p y none none n;
         request = vacate-beside (λ u v. reqOf u ≡ reqOf v) (λ _. refl) (b .accs) p (unfold reqOf in sym (ap reqOf e ∙ i)) p;
         many = length-set (b .accs) p none;
+        buffers = refl;
       }) good (h ∙ sym (ap image.placeWords (getD-set-same (b .accs) p none none (omega (arith, M .allots .matches .agrees .eight)))))

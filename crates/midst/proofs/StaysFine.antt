@@ -17,18 +17,19 @@ use Rattle.laws.proofs.Lift.{Any, any, any-start, asks, lasts}
 use Rattle.laws.proofs.Proper.{ProperAsked}
 use Rattle.laws.proofs.Isolation.{ownFile, answered-named, answered-other, answered-time}
 use Rattle.laws.proofs.Timers.{timed-starts, timed-lapse, timed-hushed}
+use Rattle.laws.proofs.Lying.{lying-starts, lying-lapse, lying-hushed}
 use Rattle.laws.proofs.Records.{whole-starts, whole-lapse, whole-hushed}
 use Rattle.memory.specs.Fine.{Fine}
-use Rattle.midst.proofs.Walks.{Owed, whole, ticks, fine, fine-walks}
+use Rattle.midst.proofs.Walks.{Owed, whole, ticks, lain, fine, fine-walks}
 
 fine-starts : Starts Fine
-fine-starts = record { built = λ g k. fine (whole-starts .built g k) (timed-starts .built g k); loads = λ s k. fine (whole-starts .loads s k) (timed-starts .loads s k) }
+fine-starts = record { built = λ g k. fine (whole-starts .built g k) (timed-starts .built g k) (lying-starts .built g k); loads = λ s k. fine (whole-starts .loads s k) (timed-starts .loads s k) (lying-starts .loads s k) }
 
 fine-lapse : (e : ℕ) (b : Built) → Fine b → Fine (lapse e b)
-fine-lapse e b i = fine (whole-lapse e b (whole i)) (timed-lapse e b (ticks i))
+fine-lapse e b i = fine (whole-lapse e b (whole i)) (timed-lapse e b (ticks i)) (lying-lapse e b (lain i))
 
 pub fine-hushed : (b : Built) → Fine b → Fine (hushed b)
-fine-hushed b i = fine (whole-hushed b (whole i)) (timed-hushed b (ticks i))
+fine-hushed b i = fine (whole-hushed b (whole i)) (timed-hushed b (ticks i)) (lying-hushed b (lain i))
 
 both : (b : Built) → Fine b → Any b → Fine (hushed b) × Any (hushed b)
 both b i _ = (fine-hushed b i, tt)

@@ -11,11 +11,11 @@ use Rattle.rules.specs.Limits.{shareBytes}
 use Rattle.rules.specs.State.{Rec, Hap, puts, drops, Built, built}
 use Rattle.rules.specs.Store.{put, fetch}
 use Rattle.rules.specs.Requests.{withStore, say, putRec, tookBy, behind, accAt}
-use Rattle.rules.specs.Memories.{shareAt, fileBuffers}
+use Rattle.rules.specs.Memories.{shareAt}
 use Rattle.rules.specs.Desk.{Desk, withFile}
 use Rattle.segment.specs.Layout.{fileRow}
 use Rattle.rules.specs.Allocation.{Alloc, allot, allotAll}
-use Rattle.shares.specs.Holds.{Holds}
+use Rattle.shares.specs.Holds.{InShare}
 use Rattle.shares.proofs.Holds.{share-fetch}
 use Rattle.laws.specs.Changes.{GoodGeo}
 use Rattle.laws.specs.Midst as laws
@@ -36,18 +36,19 @@ use Rattle.midst.specs.declared.File as hand
 use Rattle.midst.specs.File.{inHand}
 use Rattle.midst.specs.Seg.{Seg}
 use Rattle.midst.specs.Mid.{Start, Mid}
-use Rattle.midst.proofs.Alike.{Alike, lists-alike, boxes-alike}
+use Rattle.midst.proofs.Alike.{SameLists, lists-alike, boxes-alike}
 use Rattle.midst.proofs.Begins.{rows-same}
 use Rattle.records.specs.Fetch.{Stores}
 use Rattle.laws.proofs.Midst.{mid-walks}
 
--- the file in hand changes, except for its accessors and queues
+-- the file in hand changes, except for its accessors, buffers and queues
 pub record Storing (b c : Built) : Type 0 where
   pub accs : c .accs ≡ b .accs
+  pub buffers : c .buffers ≡ b .buffers
   pub reads : c .rq ≡ b .rq
   pub writes : c .wq ≡ b .wq
 
-alike : (b c : Built) → Storing b c → Alike (built b) (built c)
+alike : (b c : Built) → Storing b c → SameLists (built b) (built c)
 unfolding accOf accAt rqOf wqOf
 alike b c S = record { reads = sym (S .reads); writes = sym (S .writes); reqs = λ p. rw (S .accs) }
 
@@ -72,7 +73,7 @@ module _ {I J : Built → Type 0} {f : ℕ} {o : Start} {ms : Memories} {x : han
     segment = seg-storing (ms .segment) (o .desk) f b c _ _ S e (M .segment);
     row = refl;
     share = s;
-    buffer = M .buffer ∙ ap fileBuffers (sym (S .accs));
+    buffer = M .buffer ∙ sym (S .buffers);
     blocks-size = n ∙ M .blocks-size;
     buffers-size = M .buffers-size;
     apart = record { shares = λ g h k. other g k ∙ M .apart .shares g h k; others = M .apart .others };
@@ -80,7 +81,7 @@ module _ {I J : Built → Type 0} {f : ℕ} {o : Start} {ms : Memories} {x : han
 
 -- what a file in hand and its share are for the functions on blocks
 module _ {I : Built → Type 0} {f : ℕ} {o : Start} {m : Memories} {x : hand.File} {b : Built} (M : Mid I f o m x b)
-    (k : GoodGeo (b .geo)) (h : Holds (b .geo) (b .store)) where
+    (k : GoodGeo (b .geo)) (h : InShare (b .geo) (b .store)) where
   in-hand : (P : hand.File → Type 0) → P (inHand b) → P x
   in-hand P p = subst P (sym (M .row)) p
 
@@ -111,16 +112,16 @@ module _ {I J : Built → Type 0} {f : ℕ} {o : Start} {ms : Memories} {x : han
   pub mid-behind : (p : ℕ) (typed keep : Bool) → let c : Built = behind p (fetch (b .geo) typed keep (b .store)) b in J c → Mid J f o ms (inHand c) c
   unfolding behind say withStore
   mid-behind p typed keep j =
-      mid-storing {J = J} M _ (ms .blocks) (record { accs = refl; reads = refl; writes = refl }) j (mid-walks f (M .file) (o .alloc) .fetches p typed keep b (M .allots))
+      mid-storing {J = J} M _ (ms .blocks) (record { accs = refl; buffers = refl; reads = refl; writes = refl }) j (mid-walks f (M .file) (o .alloc) .fetches p typed keep b (M .allots))
       (gone-same f p (b .past) (fetch (b .geo) typed keep (b .store) .went) (fetch (b .geo) typed keep (b .store) .took) (o .alloc)) (M .share ∙ sym (share-fetch (b .geo) typed keep (b .store))) refl (λ g n. refl)
 
   -- a record is put
-  pub mid-put : (k : GoodGeo (b .geo)) (h : Holds (b .geo) (b .store)) (r : Rec) → J (putRec r b) → laws.Mid f (o .alloc) (putRec r b)
+  pub mid-put : (k : GoodGeo (b .geo)) (h : InShare (b .geo) (b .store)) (r : Rec) → J (putRec r b) → laws.Mid f (o .alloc) (putRec r b)
       → Mid J f o (memories (ms .segment) (sets (ms .blocks) (shareBytes * f) (inscribed (x .words) (x .ring) r (shareAt f (ms .blocks)))) (ms .buffers)) (record { words = x .words; ring = ring.put (x .ring) }) (putRec r b)
   unfolding putRec say withStore put mid-held
   mid-put k h r j m =
       subst (λ (y : hand.File). Mid J f o (memories (ms .segment) (sets (ms .blocks) (shareBytes * f) (inscribed (x .words) (x .ring) r (shareAt f (ms .blocks)))) (ms .buffers)) y (putRec r b)) hand-put
-      (mid-storing {J = J} M _ _ (record { accs = refl; reads = refl; writes = refl }) j m (puts-same f (b .past) r (o .alloc))
+      (mid-storing {J = J} M _ _ (record { accs = refl; buffers = refl; reads = refl; writes = refl }) j m (puts-same f (b .past) r (o .alloc))
       share-put (length-sets (ms .blocks) (shareBytes * f) ys) (λ g n. rw at-zero at (shareAt-sets-other f 0 ys (ms .blocks) long g n)))
     where
       ys : List ℕ

@@ -13,7 +13,7 @@ use Rattle.segment.specs.Table.{nth}
 use Rattle.requests.specs.Moves.{armed, queued, waiting}
 use Rattle.rules.specs.Limits.{files, places, entries}
 use Rattle.rules.specs.State.{Req, idle, Acc, Hap, waits, arms, Built, built}
-use Rattle.rules.specs.Requests.{accAt, withReq, withAccs, withQueues, withTimers, alterAcc, say, armIn, requeue, arm, wait}
+use Rattle.rules.specs.Requests.{accAt, withReq, withAccs, withQueues, withTimers, alterAcc, say, armIn, requeue, arm, wait, withBuffers, request}
 use Rattle.rules.specs.Desk.{Desk, fileOf, withFile}
 use Rattle.rules.specs.Allocation.{nothing, own, timed, Alloc, placeOf, heldAt, front, holds, takeOwn, allot, allotAll}
 use Rattle.rules.proofs.Split.{by-cases, pick-true, pick-false}
@@ -63,12 +63,12 @@ unfolding arm arms-too
 arm-some p n b e = pick-false (eqb n 0) b (arms-too p n b) e
 
 joins : (w : Bool) (p : ℕ) (q : Req) (b : Built) → sideQueue w (begins w p q b) ≡ sideQueue w b ++ p ∷ []
-unfolding begins say requeue alterAcc withAccs withQueues
+unfolding begins say requeue request withBuffers alterAcc withAccs withQueues
 joins true p q b = refl
 joins false p q b = refl
 
 stays : (w : Bool) (p : ℕ) (q : Req) (b : Built) → sideQueue (not w) (begins w p q b) ≡ sideQueue (not w) b
-unfolding begins say requeue alterAcc withAccs withQueues
+unfolding begins say requeue request withBuffers alterAcc withAccs withQueues
 stays true p q b = refl
 stays false p q b = refl
 
@@ -131,7 +131,7 @@ module _ (f : ℕ) (hf : f < files) (s : Alloc) (d : Desk) (eight : EightFiles d
   room = omega (arith, length-drop 1 (t₀ .free), before .1)
 
   acc-now : accAt b₁ p ≡ some (withReq q a)
-  unfolding accAt begins say requeue alterAcc withAccs withQueues
+  unfolding accAt begins say requeue request withBuffers alterAcc withAccs withQueues
   acc-now = getD-alter-same (withReq q) a (b .accs) p e
 
   acc-row : placeWords (accAt b₁ p) ≡ placeWords (accAt b p)
@@ -143,7 +143,7 @@ module _ (f : ℕ) (hf : f < files) (s : Alloc) (d : Desk) (eight : EightFiles d
   low-with y g h k = subst Low (sym (file-other d f g (built y) k)) (low g h k)
 
   queue-change : Change f p (withFile d f (built b)) t₀ t₁ b b₁
-  unfolding accAt begins say requeue alterAcc withAccs withQueues
+  unfolding accAt begins say requeue request withBuffers alterAcc withAccs withQueues
   queue-change = record {
     file = hf;
     place = hp;
@@ -186,7 +186,7 @@ module _ (f : ℕ) (hf : f < files) (s : Alloc) (d : Desk) (eight : EightFiles d
   armed-holds = heldAt-withClock _ _ i ∙ heldAt-takeTimer i t₁ (own-step .whole) hi (front t₀) owned
 
   allot-queued : allotAll f (b₁ .past) s ≡ t₁
-  unfolding begins say requeue alterAcc withAccs withQueues allot
+  unfolding begins say requeue request withBuffers alterAcc withAccs withQueues allot
   allot-queued = allot-snoc f (b .past) (waits p) s
 
   allot-armed : allotAll f (b₂ .past) s ≡ t₂

@@ -5,7 +5,7 @@ use lib.ListN.{length}
 use Rattle.segment.specs.Layout.{fileRow}
 use Rattle.rules.specs.Limits.{files, places, shareBytes, bufferBytes}
 use Rattle.rules.specs.State.{Built, File, built}
-use Rattle.rules.specs.Memories.{shareAt, fileBuffers}
+use Rattle.rules.specs.Memories.{shareAt}
 use Rattle.rules.specs.Desk.{Desk, withFile}
 use Rattle.rules.specs.Allocation.{Alloc, allotAll}
 use Rattle.laws.specs.Midst as laws
@@ -39,7 +39,7 @@ pub record Mid (I : Built → Type 0) (f : ℕ) (o : Start) (m : Memories) (x : 
   pub segment : Seg (m .segment) (withFile (o .desk) f (built b)) (allotAll f (b .past) (o .alloc)) (fileRow f)
   pub row : x ≡ inHand b
   pub share : shareAt f (m .blocks) ≡ b .store .share
-  pub buffer : buffersAt f (m .buffers) ≡ fileBuffers (b .accs)
+  pub buffer : buffersAt f (m .buffers) ≡ b .buffers
   pub blocks-size : length (m .blocks) ≡ shareBytes * files
   pub buffers-size : length (m .buffers) ≡ places * bufferBytes * files
   pub apart : Apart f (o .memories) m

@@ -1,9 +1,11 @@
 pub mod Seen
 pub mod Still
 pub mod Same
-pub mod Refused
 pub mod Events
 pub mod Short
 pub mod Room
+pub mod First
+pub mod RefusedEvent
+pub mod Refused
 pub mod Unbuilt
 pub mod Fits

@@ -23,6 +23,6 @@ abbrev pub Behind : List ℕ → ℕ → ℕ → ℕ → Type 0
 Behind xs e p n = 0 < n → skip xs e p n + 6 ≤ e
 
 -- the cursor is at the oldest record of its ring, and the share holds the ring's records
-pub record Stands (words : ℕ) (xs : List ℕ) (c : Cursor) : Type 0 where
+pub record AtRecord (words : ℕ) (xs : List ℕ) (c : Cursor) : Type 0 where
   pub held : Held words (c .ring) xs
   pub at : c .at ≡ headPlace words (c .ring) xs

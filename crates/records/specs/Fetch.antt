@@ -8,7 +8,7 @@ use lib.Dec.{ltb, eqb}
 use Rattle.words.specs.Word.{wordAt}
 use Rattle.rules.specs.State.{Rec, Geo, Store}
 use Rattle.rules.specs.Store.{discard}
-use Rattle.shares.specs.Holds.{Holds}
+use Rattle.shares.specs.Holds.{InShare}
 use Rattle.shares.specs.Back.{recAt}
 use Rattle.shares.specs.Places.{placeOf}
 use Rattle.ring.specs.declared.Ring.{Ring}
@@ -19,7 +19,7 @@ use Rattle.records.specs.declared.reading.Found.the-variants.{At, Nothin
 
 -- the share and the ring stand for the store
 pub record Stores (w : ℕ) (r : Ring) (xs : List ℕ) (s : Store) : Type 0 where
-  pub holds : Holds (geo w r) s
+  pub holds : InShare (geo w r) s
   pub ring : ringOf (geo w r) s ≡ r
   pub share : s .share ≡ xs
 
@@ -30,7 +30,7 @@ ahead g typed s = cond typed s (discard g s)
 -- every store of ring q becomes one of ring r when records at its head are discarded
 pub record Comes (w : ℕ) (q r : Ring) (xs : List ℕ) : Type 0 where
   pub to : (s : Store) → Stores w q xs s → Store
-  pub holds : (s : Store) (S : Stores w q xs s) → Holds (geo w q) (to s S)
+  pub holds : (s : Store) (S : Stores w q xs s) → InShare (geo w q) (to s S)
   pub ring : (s : Store) (S : Stores w q xs s) → ringOf (geo w q) (to s S) ≡ r
   pub share : (s : Store) (S : Stores w q xs s) → to s S .share ≡ xs
   pub same : (s : Store) (S : Stores w q xs s) → discard (geo w q) (to s S) ≡ discard (geo w q) s

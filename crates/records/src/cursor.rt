@@ -1,5 +1,5 @@
 // The one walk over held records. A cursor is a ring and the place of its oldest record, the record under the cursor. A step leads to the ring without that record.
-// `Stands` (specs/Cursor.antt) is the invariant: `first` establishes it, `next` keeps it.
+// `AtRecord` (specs/Cursor.antt) is the invariant: `first` establishes it, `next` keeps it.
 ghost use mathlib.Core.Path.{_≡_};
 ghost use Prim.Native.Nat.{ℕ, _+_, _*_, _≤_, _<_};
 ghost use lib.Dec.{eqb};
@@ -9,7 +9,7 @@ ghost use Rattle.rules.specs.Limits.{shareBytes};
 ghost use Rattle.shares.specs.Places.{skip};
 ghost use Rattle.ring.specs.Ring.{advanced};
 ghost use Rattle.ring.specs.Held.{Held};
-ghost use Rattle.records.specs.Cursor.{Behind, Stands};
+ghost use Rattle.records.specs.Cursor.{Behind, AtRecord};
 use crate::reading::next;
 use ring::Ring;
 use ring::layout::BLOCK_HEAD;
@@ -54,7 +54,7 @@ fn full(share: &[u8], at: usize, words: u16) -> bool
 pub fn first(share: &[u8], ring: Ring, words: u16) -> Cursor
     requires { ⌜ Held words ring (now share) ⌝ }
     ensures ring { λ r. ⌜ r .ring ≡ ring ⌝ }
-    ensures stands { λ r. ⌜ Stands words (now (share .entry)) r ⌝ }
+    ensures stands { λ r. ⌜ AtRecord words (now (share .entry)) r ⌝ }
 {
     let block = block_span(ring, words, ring.block);
     if full(share, block.at, words) {
@@ -71,9 +71,9 @@ pub fn first(share: &[u8], ring: Ring, words: u16) -> Cursor
 impl Cursor {
     // Moves one record on: right after this one, or to the start of the next block.
     pub fn next(self, share: &[u8], words: u16) -> Cursor
-        requires { ⌜ Stands words (now share) self × (0 < self .ring .held) ⌝ }
+        requires { ⌜ AtRecord words (now share) self × (0 < self .ring .held) ⌝ }
         ensures ring { λ r. ⌜ r .ring ≡ advanced (self .ring) ⌝ }
-        ensures stands { λ r. ⌜ Stands words (now (share .entry)) r ⌝ }
+        ensures stands { λ r. ⌜ AtRecord words (now (share .entry)) r ⌝ }
     {
         let ring = self.ring.advanced();
         if ring.spent == 0 {

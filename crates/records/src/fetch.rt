@@ -9,7 +9,7 @@ ghost use Rattle.shares.specs.Back.{recAt};
 ghost use Rattle.ring.specs.Ring.{geo, ringOf};
 ghost use Rattle.ring.specs.Held.{Held};
 ghost use Rattle.records.specs.Reading.{Readable};
-ghost use Rattle.records.specs.Cursor.{Stands};
+ghost use Rattle.records.specs.Cursor.{AtRecord};
 ghost use Rattle.records.specs.Fetch.{Stores, ahead, oldestOf, shown, least};
 use crate::cursor::Cursor;
 use crate::cursor::first;
@@ -24,9 +24,9 @@ const HEADER: u16 = 2 * HEADER_WORDS;
 
 // Moves the cursor to the oldest data record, or past the last record if there is none.
 fn discarded(share: &[u8], from: Cursor, words: u16) -> Cursor
-    requires { ⌜ Stands words (now share) «from» ⌝ }
+    requires { ⌜ AtRecord words (now share) «from» ⌝ }
     ensures ring { λ r. ⌜ ((s : Store) → Stores words («from» .ring) (now (share .entry)) s → r .ring ≡ ringOf (geo words («from» .ring)) (ahead (geo words («from» .ring)) false s)) ⌝ }
-    ensures stands { λ r. ⌜ Stands words (now (share .entry)) r ⌝ }
+    ensures stands { λ r. ⌜ AtRecord words (now (share .entry)) r ⌝ }
     ensures oldest { λ r. ⌜ oldestOf (geo words («from» .ring)) (now (share .entry)) («from» .ring .block) («from» .ring .spent) («from» .ring .held) ≡ shown r ⌝ }
 {
     let mut cursor = from;
@@ -43,7 +43,7 @@ fn discarded(share: &[u8], from: Cursor, words: u16) -> Cursor
 pub fn found(share: &[u8], ring: Ring, words: u16, typed: bool) -> Cursor
     requires { ⌜ Held words ring (now share) ⌝ }
     ensures ring { λ r. ⌜ ((s : Store) → Stores words ring (now (share .entry)) s → r .ring ≡ ringOf (geo words ring) (ahead (geo words ring) typed s)) ⌝ }
-    ensures stands { λ r. ⌜ Stands words (now (share .entry)) r ⌝ }
+    ensures stands { λ r. ⌜ AtRecord words (now (share .entry)) r ⌝ }
 {
     let head = first(share, ring, words);
     if typed {

@@ -6,7 +6,7 @@ use lib.ListN.{length}
 use Rattle.rules.specs.Limits.{shareBytes}
 use Rattle.rules.specs.State.{Rec, Geo, Store}
 use Rattle.rules.specs.Store.{advance}
-use Rattle.shares.specs.Holds.{Holds}
+use Rattle.shares.specs.Holds.{InShare}
 use Rattle.shares.specs.Back.{readBack}
 use Rattle.shares.proofs.Holds.{holds-advance}
 use Rattle.shares.proofs.Taken.{recs-advance, share-advance}
@@ -17,7 +17,7 @@ use Rattle.ring.specs.Held.{Held}
 use Rattle.ring.proofs.Stores.{ranged, ring-advance}
 
 -- any store that holds its records
-pub held-of : (w : ℕ) (r t : Ring) (xs : List ℕ) (s : Store) → Fitted w r → Holds (geo w r) s → ringOf (geo w r) s ≡ t → s .share ≡ xs → Held w t xs
+pub held-of : (w : ℕ) (r t : Ring) (xs : List ℕ) (s : Store) → Fitted w r → InShare (geo w r) s → ringOf (geo w r) s ≡ t → s .share ≡ xs → Held w t xs
 held-of w r t xs s f h e c =
     let k : Held w (ringOf (geo w r) s) (s .share) =
     record { fitted = record { words = f .words; factor = f .factor; sized = f .sized }; store = s; holds = h; ring = refl; share = refl } in

@@ -14,7 +14,7 @@ use Rattle.rules.specs.Geometry.{dividedUp, capacity, blockSize}
 use Rattle.rules.specs.Store.{blockBytes, advance, purge}
 use Rattle.rules.specs.Store as rules
 use Rattle.rules.proofs.Split.{both, pick-true, pick-false}
-use Rattle.shares.specs.Holds.{Sized, Holds}
+use Rattle.shares.specs.Holds.{Sized, InShare}
 use Rattle.shares.proofs.Taken.{advance-last, advance-more}
 use Rattle.shares.proofs.Says.{used-most, spent-most}
 use Rattle.ring.specs.declared.Ring.{Ring}
@@ -22,7 +22,7 @@ use Rattle.ring.specs.Ring.{ringOf, Fitted, Ranged, used, wrapped, place
 use Rattle.ring.proofs.Laws.{wrapped-mod, rounds}
 
 -- all numbers of a store that is held are in their ranges
-pub ranged : (g : Geo) (s : Store) → Sized g → Holds g s → Ranged (ringOf g s)
+pub ranged : (g : Geo) (s : Store) → Sized g → InShare g s → Ranged (ringOf g s)
 unfolding rules.used capacity blockSize
 ranged g s o h =
     let n = blockSize (g .words) (g .factor) in
@@ -80,7 +80,7 @@ dividedUp-odd n m o z =
     div-eq-of-lt-le m (omega (arith, div-add-mod' n m, add-mul (n / m) 1 m)) (omega (arith, div-add-mod' n m, mod-lt n o, add-mul (n / m + 1) 1 m, add-mul (n / m) 1 m))
 
 -- where the next record goes
-module _ (g : Geo) (s : Store) (o : Sized g) (h : Holds g s) where
+module _ (g : Geo) (s : Store) (o : Sized g) (h : InShare g s) where
   full : rules.used s / g .factor ≤ g .blocks
   unfolding capacity
   full = rounds (g .factor) (g .blocks) (rules.used s) (used-most g s h)

@@ -1,5 +1,6 @@
 pub mod Split
 pub mod Fits
+pub mod Buffers
 pub mod All
 pub mod Vocabulary
 pub mod Script

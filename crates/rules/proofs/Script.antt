@@ -46,8 +46,8 @@ unfoldable pub played : List Exchange → Desk
 played l = after freshDesk (map call l)
 
 -- a fresh desk replies as the script says
-abbrev pub Holds : List Exchange → Type 0
-Holds l = map heard (replies freshDesk (map call l)) ≡ map expected l
+abbrev pub AsWritten : List Exchange → Type 0
+AsWritten l = map heard (replies freshDesk (map call l)) ≡ map expected l
 
 -- all that a script computes by
 unfoldable pub Plays : ℕ

@@ -10,7 +10,7 @@ use Rattle.rules.specs.Desk.{fileOf}
 use Rattle.rules.specs.Memories.{shareAt, blocks, bufferAt, buffers}
 use Rattle.rules.specs.Allocation.{placeOf}
 use Rattle.rules.proofs.All.{All}
-use Rattle.rules.proofs.Vocabulary.{said, builds, opens, reads, writes, collects, closes, bytes, built, opened, got, wrote, done, waiting, refused}
+use Rattle.rules.proofs.Vocabulary.{said, builds, opens, reads, writes, controls, collects, closes, passes, bytes, built, opened, got, wrote, done, waiting, refused}
 use Rattle.rules.proofs.Script.{Exchange, _⇒_, loads, played, Plays}
 
 -- n bytes that begin with these
@@ -106,3 +106,19 @@ pub handed-on : (bufferPlayed 0 1 handed-over ≡ zeros bufferBytes)
     × (bufferPlayed 0 2 (handed-over ++ (collects 0 2 ⇒ got 2 "4142" ∷ [])) ≡ zeros bufferBytes)
 unfolding All Plays bufferPlayed startsWith handed-over
 handed-on = (refl, refl, refl)
+
+-- it is zero again when the waiting write is aborted, times out, or goes with its accessor
+unfoldable pub offers : List Exchange
+offers =
+    builds 0 4 1 2 1 ⇒ built 4
+    ∷ opens 0 3 3 0 ⇒ opened 0 1
+    ∷ opens 0 3 3 0 ⇒ opened 1 2
+    ∷ controls 0 1 4 9 ⇒ done
+    ∷ writes 0 1 (bytes 3) "414243" ⇒ waiting
+    ∷ []
+
+pub taken-back : (bufferPlayed 0 1 (offers ++ (controls 0 1 43 0 ⇒ done ∷ [])) ≡ zeros bufferBytes)
+    × (bufferPlayed 0 1 (offers ++ (passes 9 ⇒ done ∷ [])) ≡ zeros bufferBytes)
+    × (bufferPlayed 0 1 (offers ++ (closes 0 1 ⇒ done ∷ [])) ≡ zeros bufferBytes)
+unfolding All Plays bufferPlayed offers
+taken-back = (refl, refl, refl)

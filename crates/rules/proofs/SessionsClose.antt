@@ -3,10 +3,10 @@ use mathlib.Core.Path.{_≡_, refl}
 use mathlib.Core.List.{List, [], _∷_}
 use Rattle.rules.proofs.All.{All}
 use Rattle.rules.proofs.Vocabulary.{builds, opens, reads, writes, controls, collects, closes, counts, built, opened, got, wrote, counted, done, waiting, end-of-file, refused}
-use Rattle.rules.proofs.Script.{_⇒_, Holds, Plays}
+use Rattle.rules.proofs.Script.{_⇒_, AsWritten, Plays}
 
 -- the waiting reader ends with status 2 before the close record is put: with 46 it would get it
-pub close-record-last : Holds (
+pub close-record-last : AsWritten (
     builds 0 4 1 1 1 ⇒ built 3
     ∷ opens 0 1 3 0 ⇒ opened 0 1
     ∷ opens 0 0 3 0 ⇒ opened 1 0
@@ -22,7 +22,7 @@ unfolding All Plays
 close-record-last = refl
 
 -- every waiting reader without extended wait ends, also one that waits after an extended one; an extended one waits on
-pub every-reader-ends : Holds (
+pub every-reader-ends : AsWritten (
     builds 0 4 1 10 1 ⇒ built 12
     ∷ opens 0 0 3 0 ⇒ opened 0 0
     ∷ opens 0 0 3 0 ⇒ opened 1 0
@@ -42,7 +42,7 @@ unfolding All Plays
 every-reader-ends = refl
 
 -- readers end for the last writer only, also one that waits by its first read
-pub last-writer-only : Holds (
+pub last-writer-only : AsWritten (
     builds 0 4 1 10 1 ⇒ built 12
     ∷ opens 0 0 3 0 ⇒ opened 0 0
     ∷ reads 0 0 1 ⇒ waiting
@@ -57,7 +57,7 @@ unfolding All Plays
 last-writer-only = refl
 
 -- a waiting request is cancelled; a completed one has to be collected first (33)
-pub waiting-is-cancelled : Holds (
+pub waiting-is-cancelled : AsWritten (
     builds 0 4 1 1 1 ⇒ built 3
     ∷ opens 0 0 3 0 ⇒ opened 0 0
     ∷ reads 0 0 1 ⇒ waiting
@@ -76,7 +76,7 @@ unfolding All Plays
 waiting-is-cancelled = refl
 
 -- waiting writers stay when the last reader goes; the last writer's own waiting write is lost
-pub writers-stay : Holds (
+pub writers-stay : AsWritten (
     builds 0 4 1 1 1 ⇒ built 3
     ∷ opens 0 3 3 0 ⇒ opened 0 1
     ∷ opens 0 0 3 0 ⇒ opened 1 0

@@ -3,10 +3,10 @@ use mathlib.Core.Path.{_≡_, refl}
 use mathlib.Core.List.{List, [], _∷_}
 use Rattle.rules.proofs.All.{All}
 use Rattle.rules.proofs.Vocabulary.{builds, opens, reads, writes, controls, collects, built, opened, got, wrote, done, waiting, end-of-file, refused}
-use Rattle.rules.proofs.Script.{_⇒_, Holds, Plays}
+use Rattle.rules.proofs.Script.{_⇒_, AsWritten, Plays}
 
 -- 4, 6, 43, 45, 46, 47; any other code, 48 too: 35; 45, 46, 47 with 0 or 1; 46 and 47 by a writer: 34, before 35
-pub codes : Holds (
+pub codes : AsWritten (
     builds 0 4 1 1 1 ⇒ built 3
     ∷ opens 0 3 3 0 ⇒ opened 0 1
     ∷ opens 0 0 3 0 ⇒ opened 1 0
@@ -29,7 +29,7 @@ unfolding All Plays
 codes = refl
 
 -- 33 while a request is outstanding, also for an unknown code, but not for 43
-pub while-outstanding : Holds (
+pub while-outstanding : AsWritten (
     builds 0 4 1 1 1 ⇒ built 3
     ∷ opens 0 3 3 0 ⇒ opened 0 1
     ∷ opens 0 0 3 0 ⇒ opened 1 0
@@ -45,7 +45,7 @@ unfolding All Plays
 while-outstanding = refl
 
 -- 43 on a completed request answers status 2 and leaves it for collection
-pub abort-of-a-completed : Holds (
+pub abort-of-a-completed : AsWritten (
     builds 0 4 1 1 1 ⇒ built 3
     ∷ opens 0 3 3 0 ⇒ opened 0 1
     ∷ opens 0 0 3 0 ⇒ opened 1 0

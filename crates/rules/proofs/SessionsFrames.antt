@@ -3,10 +3,10 @@ use mathlib.Core.Path.{_≡_, refl}
 use mathlib.Core.List.{List, [], _∷_}
 use Rattle.rules.proofs.All.{All}
 use Rattle.rules.proofs.Vocabulary.{builds, opens, reads, writes, controls, collects, closes, passes, counts, shorter, longer, line, bytes, built, refused, malformed}
-use Rattle.rules.proofs.Script.{_⇒_, Holds, Plays}
+use Rattle.rules.proofs.Script.{_⇒_, AsWritten, Plays}
 
 -- a frame of none of the nine shapes, or write data not as long as its count: 30, whatever its first byte
-pub shapes : Holds (
+pub shapes : AsWritten (
     line "" ⇒ malformed
     ∷ line "00" ⇒ malformed
     ∷ line "0A00" ⇒ malformed
@@ -37,7 +37,7 @@ unfolding All Plays
 shapes = refl
 
 -- lower case, an odd number of digits, other characters: an empty frame
-pub no-lines : Holds (
+pub no-lines : AsWritten (
     line "0100000401000a01" ⇒ malformed
     ∷ line "090" ⇒ malformed
     ∷ line "09OO" ⇒ malformed
@@ -48,7 +48,7 @@ unfolding All Plays
 no-lines = refl
 
 -- 30 before 31, 31 before 32, 32 before 33 to 35
-pub lowest-first : Holds (
+pub lowest-first : AsWritten (
     line "0408000001" ⇒ malformed
     ∷ writes 0 0 0 "" ⇒ refused 31
     ∷ reads 8 9 131 ⇒ refused 31

@@ -3,10 +3,10 @@ use mathlib.Core.Path.{_≡_, refl}
 use mathlib.Core.List.{List, [], _∷_}
 use Rattle.rules.proofs.All.{All}
 use Rattle.rules.proofs.Vocabulary.{builds, opens, reads, writes, controls, collects, passes, counts, built, opened, got, wrote, counted, done, waiting, timed-out}
-use Rattle.rules.proofs.Script.{_⇒_, looks, Holds, Plays}
+use Rattle.rules.proofs.Script.{_⇒_, looks, AsWritten, Plays}
 
 -- 31, 32, 34, 39; a reader of a file without a data record: 39
-pub statuses : Holds (
+pub statuses : AsWritten (
     looks 0 0 31 ""
     ∷ looks 8 0 31 ""
     ∷ builds 0 4 1 1 1 ⇒ built 3
@@ -25,7 +25,7 @@ unfolding All Plays
 statuses = refl
 
 -- the record in the reader's buffer as it will be answered, else the data bytes of the oldest data record, also under 46
-pub as-it-will-be-answered : Holds (
+pub as-it-will-be-answered : AsWritten (
     builds 0 4 1 10 1 ⇒ built 12
     ∷ opens 0 0 3 0 ⇒ opened 0 0
     ∷ opens 0 0 3 0 ⇒ opened 1 0
@@ -47,7 +47,7 @@ unfolding All Plays
 as-it-will-be-answered = refl
 
 -- a completed read that brought nothing shows the file's record; a zero-byte record is shown as nothing, with status 0
-pub of-a-failed-read : Holds (
+pub of-a-failed-read : AsWritten (
     builds 0 4 1 10 1 ⇒ built 12
     ∷ opens 0 0 3 0 ⇒ opened 0 0
     ∷ controls 0 0 4 1 ⇒ done

@@ -3,10 +3,10 @@ use mathlib.Core.Path.{_≡_, refl}
 use mathlib.Core.List.{List, [], _∷_}
 use Rattle.rules.proofs.All.{All}
 use Rattle.rules.proofs.Vocabulary.{builds, built, bytes, closes, collects, controls, counted, counts, done, end-of-file, got, opened, opens, passes, reads, refused, timed-out, waiting, writes, wrote}
-use Rattle.rules.proofs.Script.{_⇒_, Holds, Plays}
+use Rattle.rules.proofs.Script.{_⇒_, AsWritten, Plays}
 
 -- document 000, FCONTROL 45: it stays in effect until it is switched off (here for writes; for reads see `every-reader-ends`)
-pub lasts-until-off : Holds (
+pub lasts-until-off : AsWritten (
     builds 0 4 1 2 1 ⇒ built 4
     ∷ opens 0 3 3 0 ⇒ opened 0 1
     ∷ opens 0 3 3 0 ⇒ opened 1 2
@@ -24,7 +24,7 @@ unfolding All Plays
 lasts-until-off = refl
 
 -- FCONTROL 47 with FALSE: the next read deletes its record
-pub off-before-its-read : Holds (
+pub off-before-its-read : AsWritten (
     builds 0 4 1 4 1 ⇒ built 6
     ∷ opens 0 3 1 0 ⇒ opened 0 1
     ∷ writes 0 0 1 "4141" ⇒ wrote 1
@@ -38,7 +38,7 @@ unfolding All Plays
 off-before-its-read = refl
 
 -- FCONTROL 4: it stays until it is canceled, for reads and for writes; 43 keeps a request that timed out
-pub a-timeout-stays : Holds (
+pub a-timeout-stays : AsWritten (
     builds 0 4 1 1 1 ⇒ built 3
     ∷ opens 0 0 1 0 ⇒ opened 0 0
     ∷ opens 0 3 1 0 ⇒ opened 1 1
@@ -68,7 +68,7 @@ unfolding All Plays
 a-timeout-stays = refl
 
 -- FCONTROL 46 is the reader's own, though a table of document 000 has it among a file's global flags
-pub typed-is-the-readers-own : Holds (
+pub typed-is-the-readers-own : AsWritten (
     builds 0 4 1 8 1 ⇒ built 10
     ∷ opens 0 3 3 0 ⇒ opened 0 1
     ∷ opens 0 0 3 0 ⇒ opened 1 0
@@ -86,7 +86,7 @@ unfolding All Plays
 typed-is-the-readers-own = refl
 
 -- FCONTROL 6 by a reader: no end of file is written
-pub verified-by-a-reader : Holds (
+pub verified-by-a-reader : AsWritten (
     builds 0 4 1 4 1 ⇒ built 6
     ∷ opens 0 3 1 0 ⇒ opened 0 1
     ∷ writes 0 0 1 "4141" ⇒ wrote 1
@@ -100,7 +100,7 @@ unfolding All Plays
 verified-by-a-reader = refl
 
 -- document 000, the worked example: process one writes file 0 and reads file 1, process two the other way round. Its FCONTROL %45 is octal, and 37 is no code
-pub two-processes : Holds (
+pub two-processes : AsWritten (
     builds 0 40 1 10 1 ⇒ built 12
     ∷ builds 1 40 1 10 1 ⇒ built 12
     ∷ opens 1 0 1 1 ⇒ opened 0 0

@@ -3,10 +3,10 @@ use mathlib.Core.Path.{_≡_, refl}
 use mathlib.Core.List.{List, [], _∷_}
 use Rattle.rules.proofs.All.{All}
 use Rattle.rules.proofs.Vocabulary.{builds, opens, reads, writes, controls, collects, closes, passes, counts, built, opened, got, wrote, counted, done, waiting, end-of-file, refused}
-use Rattle.rules.proofs.Script.{_⇒_, Holds, Plays}
+use Rattle.rules.proofs.Script.{_⇒_, AsWritten, Plays}
 
 -- access, share and multiaccess from 0 to 3: 35; multiaccess 3: 40, after 35
-pub modes : Holds (
+pub modes : AsWritten (
     builds 0 4 1 10 1 ⇒ built 12
     ∷ opens 0 4 1 0 ⇒ refused 35
     ∷ opens 0 0 4 0 ⇒ refused 35
@@ -21,7 +21,7 @@ unfolding All Plays
 modes = refl
 
 -- share 0 counts as 1: one reader, one writer; all give the same share
-pub share-one : Holds (
+pub share-one : AsWritten (
     builds 0 4 1 10 1 ⇒ built 12
     ∷ opens 0 0 0 0 ⇒ opened 0 0
     ∷ opens 0 0 1 0 ⇒ refused 40
@@ -36,7 +36,7 @@ unfolding All Plays
 share-one = refl
 
 -- share 2: one reader, many writers
-pub share-two : Holds (
+pub share-two : AsWritten (
     builds 0 4 1 10 1 ⇒ built 12
     ∷ opens 0 0 2 0 ⇒ opened 0 0
     ∷ opens 0 0 2 0 ⇒ refused 40
@@ -48,7 +48,7 @@ unfolding All Plays
 share-two = refl
 
 -- share 3: many of both, eight in all; 40 comes before 41
-pub eight-accessors : Holds (
+pub eight-accessors : AsWritten (
     builds 0 4 1 10 1 ⇒ built 12
     ∷ opens 0 0 3 0 ⇒ opened 0 0
     ∷ opens 0 0 3 0 ⇒ opened 1 0
@@ -67,7 +67,7 @@ unfolding All Plays
 eight-accessors = refl
 
 -- "the smallest number from 1 that no open writer of the file holds", and the smallest free place
-pub smallest-id : Holds (
+pub smallest-id : AsWritten (
     builds 0 4 1 10 1 ⇒ built 12
     ∷ opens 0 3 3 0 ⇒ opened 0 1
     ∷ opens 0 3 3 0 ⇒ opened 1 2
@@ -82,7 +82,7 @@ unfolding All Plays
 smallest-id = refl
 
 -- access 1 purges with nobody open, and room is counted after it; 2 and 3 never do
-pub purges : Holds (
+pub purges : AsWritten (
     builds 0 4 1 1 1 ⇒ built 3
     ∷ opens 0 1 3 0 ⇒ opened 0 1
     ∷ writes 0 0 1 "4142" ⇒ wrote 1
@@ -98,7 +98,7 @@ unfolding All Plays
 purges = refl
 
 -- access 1 with an accessor open appends
-pub appends-beside-others : Holds (
+pub appends-beside-others : AsWritten (
     builds 0 4 1 10 1 ⇒ built 12
     ∷ opens 0 2 3 0 ⇒ opened 0 1
     ∷ writes 0 0 1 "4142" ⇒ wrote 1
@@ -111,7 +111,7 @@ unfolding All Plays
 appends-beside-others = refl
 
 -- settings start anew at each open
-pub settings-anew : Holds (
+pub settings-anew : AsWritten (
     builds 0 4 1 10 1 ⇒ built 12
     ∷ opens 0 0 3 0 ⇒ opened 0 0
     ∷ controls 0 0 46 1 ⇒ done

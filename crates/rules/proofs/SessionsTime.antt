@@ -3,10 +3,10 @@ use mathlib.Core.Path.{_≡_, refl}
 use mathlib.Core.List.{List, [], _∷_}
 use Rattle.rules.proofs.All.{All}
 use Rattle.rules.proofs.Vocabulary.{builds, opens, reads, writes, controls, collects, passes, built, opened, got, wrote, done, waiting, end-of-file, timed-out, refused}
-use Rattle.rules.proofs.Script.{_⇒_, Holds, Plays}
+use Rattle.rules.proofs.Script.{_⇒_, AsWritten, Plays}
 
 -- timeout 5: time 4 completes nothing, then 1 completes it
-pub timeout-five : Holds (
+pub timeout-five : AsWritten (
     builds 0 4 1 1 1 ⇒ built 3
     ∷ opens 0 0 1 0 ⇒ opened 0 0
     ∷ controls 0 0 4 5 ⇒ done
@@ -22,7 +22,7 @@ unfolding All Plays
 timeout-five = refl
 
 -- every request whose remaining timeout is at most e completes, the others lose e; the timer starts when the request waits
-pub each-its-own : Holds (
+pub each-its-own : AsWritten (
     builds 0 4 1 10 1 ⇒ built 12
     ∷ opens 0 0 3 0 ⇒ opened 0 0
     ∷ opens 0 0 3 0 ⇒ opened 1 0
@@ -47,7 +47,7 @@ unfolding All Plays
 each-its-own = refl
 
 -- the timer goes when the request completes, and when it is aborted
-pub goes-with-its-request : Holds (
+pub goes-with-its-request : AsWritten (
     builds 0 4 1 1 1 ⇒ built 3
     ∷ opens 0 0 3 0 ⇒ opened 0 0
     ∷ controls 0 0 4 5 ⇒ done
@@ -66,7 +66,7 @@ unfolding All Plays
 goes-with-its-request = refl
 
 -- a timeout of 0 disables; FFFF is 65,535 seconds
-pub zero-disables : Holds (
+pub zero-disables : AsWritten (
     builds 0 4 1 1 1 ⇒ built 3
     ∷ opens 0 0 1 0 ⇒ opened 0 0
     ∷ controls 0 0 4 5 ⇒ done
@@ -87,7 +87,7 @@ unfolding All Plays
 zero-disables = refl
 
 -- a waiting write times out too, and the one after it is served later
-pub a-write-times-out : Holds (
+pub a-write-times-out : AsWritten (
     builds 0 4 1 2 1 ⇒ built 4
     ∷ opens 0 3 3 0 ⇒ opened 0 1
     ∷ opens 0 3 3 0 ⇒ opened 1 2
@@ -105,7 +105,7 @@ unfolding All Plays
 a-write-times-out = refl
 
 -- time needs no file
-pub no-file : Holds (
+pub no-file : AsWritten (
     passes 0 ⇒ done
     ∷ passes 65535 ⇒ done
     ∷ [])

@@ -3,10 +3,10 @@ use mathlib.Core.Path.{_≡_, refl}
 use mathlib.Core.List.{List, [], _∷_}
 use Rattle.rules.proofs.All.{All}
 use Rattle.rules.proofs.Vocabulary.{builds, opens, reads, writes, controls, collects, closes, built, opened, got, wrote, done, waiting, end-of-file, refused}
-use Rattle.rules.proofs.Script.{_⇒_, Holds, Plays}
+use Rattle.rules.proofs.Script.{_⇒_, AsWritten, Plays}
 
 -- a first write waits with nobody to read; the next ends with status 2, unless 45 is on
-pub first-write : Holds (
+pub first-write : AsWritten (
     builds 0 4 1 2 1 ⇒ built 4
     ∷ opens 0 3 3 0 ⇒ opened 0 1
     ∷ opens 0 3 3 0 ⇒ opened 1 2
@@ -21,7 +21,7 @@ unfolding All Plays
 first-write = refl
 
 -- a first read waits with nobody to write; a refused one does not spend that, an abort does not give it back; 45 makes the next wait
-pub first-read : Holds (
+pub first-read : AsWritten (
     builds 0 4 1 1 1 ⇒ built 3
     ∷ opens 0 0 1 0 ⇒ opened 0 0
     ∷ reads 0 0 131 ⇒ refused 35
@@ -35,7 +35,7 @@ unfolding All Plays
 first-read = refl
 
 -- a first read that is served at once is spent too
-pub first-served : Holds (
+pub first-served : AsWritten (
     builds 0 4 1 1 1 ⇒ built 3
     ∷ opens 0 3 3 0 ⇒ opened 0 1
     ∷ writes 0 0 1 "4142" ⇒ wrote 1
@@ -48,7 +48,7 @@ unfolding All Plays
 first-served = refl
 
 -- a read waits while a writer is open, a write while a reader is
-pub other-side : Holds (
+pub other-side : AsWritten (
     builds 0 4 1 1 1 ⇒ built 3
     ∷ opens 0 0 1 0 ⇒ opened 0 0
     ∷ reads 0 0 1 ⇒ waiting
@@ -65,7 +65,7 @@ unfolding All Plays
 other-side = refl
 
 -- waiting readers are served in the order of coming
-pub readers-in-order : Holds (
+pub readers-in-order : AsWritten (
     builds 0 4 1 4 1 ⇒ built 6
     ∷ opens 0 0 3 0 ⇒ opened 0 0
     ∷ opens 0 0 3 0 ⇒ opened 1 0
@@ -81,7 +81,7 @@ unfolding All Plays
 readers-in-order = refl
 
 -- a read that discards two open records waits (1), and is served by the write that then fits; the second writer is served after it
-pub served-while-settling : Holds (
+pub served-while-settling : AsWritten (
     builds 0 4 1 2 1 ⇒ built 4
     ∷ opens 0 3 3 0 ⇒ opened 0 1
     ∷ opens 0 3 3 0 ⇒ opened 1 2
@@ -98,7 +98,7 @@ unfolding All Plays
 served-while-settling = refl
 
 -- one outstanding request an accessor, until collected: 33 for read, write and control, and 39 once it is collected
-pub one-outstanding : Holds (
+pub one-outstanding : AsWritten (
     builds 0 4 1 1 1 ⇒ built 3
     ∷ opens 0 0 3 0 ⇒ opened 0 0
     ∷ reads 0 0 1 ⇒ waiting

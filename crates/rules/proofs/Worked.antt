@@ -5,7 +5,7 @@ use Prim.Native.String.{String}
 use Rattle.rules.specs.Desk.{program}
 use Rattle.rules.proofs.All.{All}
 use Rattle.rules.proofs.Vocabulary.{line, prints}
-use Rattle.rules.proofs.Script.{lines, _⇒_, saves, loads, Holds, Plays}
+use Rattle.rules.proofs.Script.{lines, _⇒_, saves, loads, AsWritten, Plays}
 
 -- the event program, given on standard input .. prints ..
 pub worked : program (lines (
@@ -39,7 +39,7 @@ unfolding All Plays
 worked = refl
 
 -- "After the third line the sheet is"
-pub sheet-after-third : Holds (
+pub sheet-after-third : AsWritten (
     line "0100000401000101" ⇒ prints "01000003"
     ∷ line "0200030100" ⇒ prints "0200000001"
     ∷ line "040000000241424344" ⇒ prints "04000002"

@@ -24,20 +24,20 @@ controlFrame file acc code param =
     (Code file acc))))))
 
 -- the frame e if there are n bytes, else no shape
-unfoldable pub sized : ℕ → List ℕ → Frame → Frame
-sized n fr e = cond (eqb (length fr) n) e Shape
+unfoldable pub ofLength : ℕ → List ℕ → Frame → Frame
+ofLength n fr e = cond (eqb (length fr) n) e Shape
 
 unfoldable pub frameOf : List ℕ → Frame
 frameOf fr =
     let b : ℕ → ℕ = λ i. getD fr i 0 in
     let w : ℕ → ℕ = wordAt fr in
-    cond (eqb (b 0) 1) (sized 8 fr (Event (Build (b 1) (w 2) (b 4) (w 5) (b 7))))
-    (cond (eqb (b 0) 2) (sized 5 fr (Event (Open (b 1) (b 2) (b 3) (b 4))))
-    (cond (eqb (b 0) 3) (sized 5 fr (Event (Read (b 1) (b 2) (w 3))))
-    (cond (eqb (b 0) 4) (sized (writeHead + countBytes (w 3)) fr (Event (Write (b 1) (b 2) (w 3))))
-    (cond (eqb (b 0) 5) (sized 6 fr (controlFrame (b 1) (b 2) (b 3) (w 4)))
-    (cond (eqb (b 0) 6) (sized 3 fr (Event (Collect (b 1) (b 2))))
-    (cond (eqb (b 0) 7) (sized 3 fr (Event (Close (b 1) (b 2))))
-    (cond (eqb (b 0) 8) (sized 3 fr (Event (Time (w 1))))
-    (cond (eqb (b 0) 9) (sized 2 fr (Event (Counts (b 1))))
+    cond (eqb (b 0) 1) (ofLength 8 fr (Event (Build (b 1) (w 2) (b 4) (w 5) (b 7))))
+    (cond (eqb (b 0) 2) (ofLength 5 fr (Event (Open (b 1) (b 2) (b 3) (b 4))))
+    (cond (eqb (b 0) 3) (ofLength 5 fr (Event (Read (b 1) (b 2) (w 3))))
+    (cond (eqb (b 0) 4) (ofLength (writeHead + countBytes (w 3)) fr (Event (Write (b 1) (b 2) (w 3))))
+    (cond (eqb (b 0) 5) (ofLength 6 fr (controlFrame (b 1) (b 2) (b 3) (w 4)))
+    (cond (eqb (b 0) 6) (ofLength 3 fr (Event (Collect (b 1) (b 2))))
+    (cond (eqb (b 0) 7) (ofLength 3 fr (Event (Close (b 1) (b 2))))
+    (cond (eqb (b 0) 8) (ofLength 3 fr (Event (Time (w 1))))
+    (cond (eqb (b 0) 9) (ofLength 2 fr (Event (Counts (b 1))))
     Shape))))))))

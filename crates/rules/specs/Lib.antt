@@ -9,6 +9,7 @@ pub mod Allocation
 -- Geometry
 pub mod Geometry
 pub mod Store
+pub mod Buffers
 -- Room and order
 pub mod Requests
 pub mod Settle

@@ -1,11 +1,9 @@
 -- The exact bytes of blocks and record buffers.
-use mathlib.Core.List.{List, [], _∷_, _++_}
-use mathlib.Core.Option.{Option, none, some}
-use Prim.Native.Nat.{ℕ, zero, suc, _-_, _*_}
-use lib.ListN.{length}
+use mathlib.Core.List.{List, [], _++_}
+use Prim.Native.Nat.{ℕ, zero, suc, _*_}
 use Rattle.words.specs.Word.{zeros, part}
 use Rattle.rules.specs.Limits.{files, places, shareBytes, bufferBytes}
-use Rattle.rules.specs.State.{Req, idle, reading, writing, readDone, writeDone, Acc, File, unbuilt, built}
+use Rattle.rules.specs.State.{File, unbuilt, built}
 use Rattle.rules.specs.Desk.{Desk, fileOf}
 
 -- "blocks (eight shares of 4,096 bytes)": a file's share, starting at 4,096 × file
@@ -25,30 +23,13 @@ parts (suc m) g = g 0 ++ parts m (λ f. g (suc f))
 unfoldable pub blocks : Desk → List ℕ
 blocks d = parts files (λ f. shareOf (fileOf d f))
 
--- "A completed read's record, or a waiting write's data, lies at the start of the accessor's buffer, which is otherwise zero."
-unfoldable pub lies : Req → List ℕ
-lies idle = []
-lies (reading q) = []
-lies (writing q) = q .bytes
-lies (readDone q) = q .bytes
-lies (writeDone q) = []
-
-unfoldable pub buffer : Option Acc → List ℕ
-buffer none = zeros bufferBytes
-buffer (some a) = lies (a .req) ++ zeros (bufferBytes - length (lies (a .req)))
-
--- "64 record buffers of 260 bytes, one an accessor place": each starting at 260 × (8 × file + place)
-unfoldable pub fileBuffers : List (Option Acc) → List ℕ
-fileBuffers [] = []
-fileBuffers (a ∷ l) = buffer a ++ fileBuffers l
-
--- The record buffer of place i of the desk in a buffers memory.
+-- "64 record buffers of 260 bytes, one an accessor place", each starting at 260 × (8 × file + place): the buffer of place i of the desk
 abbrev pub bufferAt : ℕ → List ℕ → List ℕ
 bufferAt i xs = part bufferBytes i xs
 
 unfoldable pub buffersOf : File → List ℕ
 buffersOf unbuilt = zeros (places * bufferBytes)
-buffersOf (built b) = fileBuffers (b .accs)
+buffersOf (built b) = b .buffers
 
 unfoldable pub buffers : Desk → List ℕ
 buffers d = parts files (λ f. buffersOf (fileOf d f))

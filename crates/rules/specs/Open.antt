@@ -2,12 +2,13 @@
 use mathlib.Core.Bool.{Bool, true, false, cond, not, _&&_, _||_}
 use mathlib.Core.List.{List, [], _∷_}
 use mathlib.Core.Option.{Option, none, some}
-use Prim.Native.Nat.{ℕ, zero, suc, _+_}
+use Prim.Native.Nat.{ℕ, zero, suc, _+_, _*_}
 use lib.Dec.{ltb, leb, eqb}
 use lib.ListN.{set, replicate}
+use Rattle.words.specs.Word.{zeros}
 use Rattle.kinds.specs.declared.Answer.the-variants.{Opened, Status}
 use Rattle.kinds.specs.declared.Answer.the-variants as answer
-use Rattle.rules.specs.Limits.{places, mostMode}
+use Rattle.rules.specs.Limits.{places, bufferBytes, mostMode}
 use Rattle.rules.specs.Geometry.{dataBlocks, capacity, inRange, fitsShare}
 use Rattle.rules.specs.State.{Rec, idle, Acc, Geo, Store, made, purges, Built}
 use Rattle.rules.specs.Store.{used, emptyStore, purge}
@@ -15,9 +16,9 @@ use Rattle.rules.specs.Requests.{countAcc, writers, readers, opened, cap
 use Rattle.rules.specs.Settle.{settle}
 use Rattle.rules.specs.Reply.{answers, Out, answering, status, unmade}
 
--- a new file, with no accessor; its first happening is that it was made
+-- a new file, with no accessor and zero buffers; its first happening is that it was made
 unfoldable pub newFile : Geo → Store → Built
-newFile g s = record { geo = g; store = s; accs = replicate places none; rq = []; wq = []; timers = []; past = made g ∷ [] }
+newFile g s = record { geo = g; store = s; accs = replicate places none; buffers = zeros (places * bufferBytes); rq = []; wq = []; timers = []; past = made g ∷ [] }
 
 unfoldable pub geoOf : ℕ → ℕ → ℕ → Geo
 geoOf r b d = record { words = r; factor = b; blocks = d }

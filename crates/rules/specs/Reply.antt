@@ -19,7 +19,7 @@ pub record Out : Type 0 where
 
 -- the file as it is between calls, with no happenings kept
 unfoldable pub hushed : Built → Built
-hushed b = record { geo = b .geo; store = b .store; accs = b .accs; rq = b .rq; wq = b .wq; timers = b .timers; past = [] }
+hushed b = record { geo = b .geo; store = b .store; accs = b .accs; buffers = b .buffers; rq = b .rq; wq = b .wq; timers = b .timers; past = [] }
 
 unfoldable pub leaves : Reply → Built → Out
 leaves r b = record { reply = r; file = built (hushed b); haps = b .past }

@@ -6,6 +6,7 @@ use Prim.Native.Nat.{ℕ, zero, suc, _+_}
 use lib.Dec.{leb, eqb}
 use lib.ListN.{getD}
 use Rattle.rules.specs.Geometry.{capacity}
+use Rattle.rules.specs.Buffers.{refilled}
 use Rattle.rules.specs.State.{Rec, Req, idle, reading, writing, readDone, writeDone, Acc, Store, Timer, Hap, puts, takes, drops, waits, arms, ends, cancels, collects, Built}
 use Rattle.rules.specs.Store.{used, put, Found}
 
@@ -48,20 +49,23 @@ fits b = leb (used (b .store) + writers b + 1) (capacityOf b)
 -- the file with one part changed
 
 unfoldable pub withStore : Store → Built → Built
-withStore s b = record { geo = b .geo; store = s; accs = b .accs; rq = b .rq; wq = b .wq; timers = b .timers; past = b .past }
+withStore s b = record { geo = b .geo; store = s; accs = b .accs; buffers = b .buffers; rq = b .rq; wq = b .wq; timers = b .timers; past = b .past }
 
 unfoldable pub withAccs : List (Option Acc) → Built → Built
-withAccs l b = record { geo = b .geo; store = b .store; accs = l; rq = b .rq; wq = b .wq; timers = b .timers; past = b .past }
+withAccs l b = record { geo = b .geo; store = b .store; accs = l; buffers = b .buffers; rq = b .rq; wq = b .wq; timers = b .timers; past = b .past }
+
+unfoldable pub withBuffers : List ℕ → Built → Built
+withBuffers xs b = record { geo = b .geo; store = b .store; accs = b .accs; buffers = xs; rq = b .rq; wq = b .wq; timers = b .timers; past = b .past }
 
 unfoldable pub withQueues : List ℕ → List ℕ → Built → Built
-withQueues r w b = record { geo = b .geo; store = b .store; accs = b .accs; rq = r; wq = w; timers = b .timers; past = b .past }
+withQueues r w b = record { geo = b .geo; store = b .store; accs = b .accs; buffers = b .buffers; rq = r; wq = w; timers = b .timers; past = b .past }
 
 unfoldable pub withTimers : List Timer → Built → Built
-withTimers ts b = record { geo = b .geo; store = b .store; accs = b .accs; rq = b .rq; wq = b .wq; timers = ts; past = b .past }
+withTimers ts b = record { geo = b .geo; store = b .store; accs = b .accs; buffers = b .buffers; rq = b .rq; wq = b .wq; timers = ts; past = b .past }
 
 -- adds to what has happened
 unfoldable pub say : List Hap → Built → Built
-say hs b = record { geo = b .geo; store = b .store; accs = b .accs; rq = b .rq; wq = b .wq; timers = b .timers; past = b .past ++ hs }
+say hs b = record { geo = b .geo; store = b .store; accs = b .accs; buffers = b .buffers; rq = b .rq; wq = b .wq; timers = b .timers; past = b .past ++ hs }
 
 -- changes the accessor at a place, if there is one
 unfoldable pub alter : (Acc → Acc) → List (Option Acc) → ℕ → List (Option Acc)
@@ -114,9 +118,13 @@ unfoldable pub armIn : Timer → List Timer → List Timer
 armIn t [] = t ∷ []
 armIn t (u ∷ l) = cond (leb (u .left) (t .left)) (u ∷ armIn t l) (t ∷ u ∷ l)
 
+-- sets the request at p to q; the buffer of p then has what lies there, and zeros after it
+unfoldable pub request : ℕ → Req → Built → Built
+request p q b = withBuffers (refilled p q (b .buffers)) (alterAcc p (withReq q) b)
+
 -- sets the request at p, which begins or ceases to wait, to q, and the queues to r and w
 unfoldable pub requeue : ℕ → Req → List ℕ → List ℕ → Built → Built
-requeue p q r w b = alterAcc p (withReq q) (withQueues r w b)
+requeue p q r w b = request p q (withQueues r w b)
 
 -- takes the request at p out of its queue and sets it to q; its timer "goes when it completes"
 unfoldable pub leave : ℕ → Req → Built → Built
@@ -162,4 +170,4 @@ wait false p n q b = arm p n (say (waits p ∷ []) (requeue p q (b .rq ++ (p ∷
 
 -- collects a completed request
 unfoldable pub freed : ℕ → Built → Built
-freed p b = say (collects p ∷ []) (alterAcc p (withReq idle) b)
+freed p b = say (collects p ∷ []) (request p idle b)

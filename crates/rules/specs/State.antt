@@ -96,6 +96,8 @@ pub record Built : Type 0 where
   pub store : Store
   -- eight accessor places
   pub accs : List (Option Acc)
+  -- the bytes of their eight record buffers, one after another
+  pub buffers : List ℕ
   -- the places of the waiting readers, and of the waiting writers, first come first
   pub rq : List ℕ
   pub wq : List ℕ

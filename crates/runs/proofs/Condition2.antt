@@ -11,6 +11,7 @@ use Rattle.promises.specs.Promise.{HostCall, fresh, Given, said, sized, Promise
 use Rattle.runs.specs.Run.{Run, ended, then, Meant, anew, unfit, asks, meant, gives, Holds}
 use Rattle.runs.specs.Condition2.{stretch, heard, since, Condition2}
 use Rattle.runs.proofs.Holds.{holds-bodies}
+use Rattle.runs.proofs.Shown.{desk-shown, records-are}
 use Rattle.runs.proofs.Steps.{Comes, step-comes, fresh-first}
 use Rattle.memory.specs.Memories.{Memories, memories}
 
@@ -78,4 +79,11 @@ condition-2 m n xs (g ∷ gs) h (then {n = k} P R) =
     let (e, H) = fresh-first m k g h P in
     let (es, K) = run-says xs gs [] k n (since-none k H) R in
     let (b, u) = holds-bodies n _ _ K in
-    record { given = ap₂ {C = List Given} (λ (a : Given) (l : List Given). a ∷ l) e (unfold after in es); memories = K; blocks = b; buffers = u }
+    record {
+      given = ap₂ {C = List Given} (λ (a : Given) (l : List Given). a ∷ l) e (unfold after in es);
+      records = records-are n _ _ (K .stands);
+      shown = desk-shown n _ _ (K .stands);
+      memories = K;
+      blocks = b;
+      buffers = u;
+    }

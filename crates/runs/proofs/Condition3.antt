@@ -20,7 +20,7 @@ use Rattle.promises.proofs.Fits.{FineDesk}
 use Rattle.runs.specs.Run.{Run, meant, Holds}
 use Rattle.runs.specs.Condition2.{stretch, heard}
 use Rattle.runs.specs.OneFile.{fileIn}
-use Rattle.runs.specs.Condition3.{sortOf, namesFile, ours, unmade, Found, found, finds, Condition3}
+use Rattle.runs.specs.Condition3.{sortOf, namesFile, ours, neverFresh, Found, found, finds, Condition3}
 use Rattle.runs.proofs.Condition2.{condition-2}
 use Rattle.runs.proofs.OneFile.{imageOf, file-is}
 use Rattle.runs.proofs.Stays.{run-stays}
@@ -33,18 +33,20 @@ fine-fresh : FineDesk freshDesk
 unfolding OnFile
 fine-fresh g h = rw (fresh-file g) tt
 
-module _ (f : ℕ) (m n : Memories) (xs : List HostCall) (gs : List Given) (z : sized m ≡ true) (u : unmade xs ≡ true) (R : Run m (fresh ∷ xs) gs n) where
+module _ (f : ℕ) (m n : Memories) (xs : List HostCall) (gs : List Given) (z : sized m ≡ true) (u : neverFresh xs ≡ true) (R : Run m (fresh ∷ xs) gs n) where
   found-ours : finds f (fresh ∷ xs) gs ≡ foundAll f (ours f xs) (theirs f (stretch xs) (replies freshDesk (stretch xs)))
   unfolding finds heard meant sortOf namesFile
   found-ours = ap (finds f (fresh ∷ xs)) (condition-2 m n xs gs z R .given) ∙ finds-ours f xs freshDesk eight-fresh fine-fresh u
 
   file-ours : f < files → fileIn f n ≡ imageOf f (fileOf (after freshDesk (stretch xs)) f)
-  file-ours h = file-is n _ _ (condition-2 m n xs gs z R .memories) f h ∙ ap (λ (cs : List Call). imageOf f (fileOf (after freshDesk cs) f)) (since-all xs [] u)
+  file-ours h =
+      let H = condition-2 m n xs gs z R .memories in
+      file-is n _ _ (H .stands) f h (H .blank f h) ∙ ap (λ (cs : List Call). imageOf f (fileOf (after freshDesk cs) f)) (since-all xs [] u)
 
 -- for every file number, also above 7
 pub condition-3 : (f : ℕ) (m n p q : Memories) (xs ys : List HostCall) (gs hs : List Given)
-    → sized m ≡ true → unmade xs ≡ true → Run m (fresh ∷ xs) gs n
-    → sized p ≡ true → unmade ys ≡ true → Run p (fresh ∷ ys) hs q
+    → sized m ≡ true → neverFresh xs ≡ true → Run m (fresh ∷ xs) gs n
+    → sized p ≡ true → neverFresh ys ≡ true → Run p (fresh ∷ ys) hs q
     → ours f xs ≡ ours f ys → Condition3 f xs ys gs hs n q
 condition-3 f m n p q xs ys gs hs z u R w v Q e =
     let same : only f (stretch xs) ≡ only f (stretch ys) = only-ours f xs u ∙ ap (asksAll f) e ∙ sym (only-ours f ys v) in

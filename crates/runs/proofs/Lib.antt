@@ -1,9 +1,12 @@
 pub mod Holds
 pub mod Steps
+pub mod OneFile
+pub mod Naming
+pub mod Shown
 pub mod Condition2
+pub mod ZeroBytes
 pub mod Refusal29
 pub mod Sheets
-pub mod OneFile
 pub mod Stays
 pub mod isolation
 pub mod Condition3

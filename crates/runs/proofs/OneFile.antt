@@ -7,9 +7,10 @@ use native.Mathlib.Omega.{arith}
 use lib.Dec.{ltb, eqb}
 use lib.ListN.{length}
 use borrow.Author.Tests.{lt-ltb, le-ltb, eqb-true}
-use Rattle.rules.specs.Limits.{files, places, entries}
-use Rattle.rules.specs.State.{Timer, File}
-use Rattle.rules.specs.Memories.{shareOf, buffersOf}
+use Rattle.words.specs.Word.{zeros}
+use Rattle.rules.specs.Limits.{files, places, entries, shareBytes, bufferBytes}
+use Rattle.rules.specs.State.{Timer, File, unbuilt}
+use Rattle.rules.specs.Memories.{shareAt, shareOf, buffersOf}
 use Rattle.rules.specs.Desk.{Desk, fileOf}
 use Rattle.rules.specs.Allocation.{Alloc, placeOf, upFrom}
 use Rattle.rules.proofs.Split.{pick-true, pick-false}
@@ -23,14 +24,14 @@ use Rattle.segment.specs.Fields.{entryWords}
 use Rattle.ports.specs.Lists.{Chain}
 use Rattle.ports.proofs.Lists.{short}
 use Rattle.memory.specs.Memories.{Memories}
+use Rattle.memory.specs.Stands.{buffersAt}
 use Rattle.memory.specs.Image.{accOf, fileWords, placeWords, rqOf, wqOf, queueWords, portWords, timerWords, listOf, boxOf}
 use Rattle.laws.specs.Outstanding.{reqOf}
-use Rattle.memory.specs.Fine.{Fine}
+use Rattle.memory.specs.Fine.{Fine, StandsFor}
 use Rattle.memory.proofs.Boxes.{getD-listsOf, segment-boxes}
 use Rattle.memory.proofs.Image.{placeAcc-of, boxOf-read, boxOf-write, boxOf-port, boxOf-timers}
 use Rattle.memory.proofs.Segments.{segment-file, segment-place}
 use Rattle.memory.proofs.Once.{agreed-once}
-use Rattle.runs.specs.Run.{Holds}
 use Rattle.runs.specs.OneFile.{walk, listed, timersOn, OneFile, fileIn}
 use Rattle.memory.proofs.Bodies.{file-blank}
 
@@ -88,15 +89,15 @@ imageOf f x =
       timers = map (λ t. timerWords (placed f t)) (timersOf x);
     }
 
-module _ (m : Memories) (d : Desk) (s : Alloc) (H : Holds m d s) where
+module _ (m : Memories) (d : Desk) (s : Alloc) (S : StandsFor m d s) where
   -- what is read of list l
   listed-box : (l : ℕ) → l < listCount → listed (m .segment) l ≡ boxOf d s l
   unfolding listed
   listed-box l h =
-      let S = H .stands .stands .segment in
-      let once = agreed-once d s (H .stands .agreed) (λ f k. on-file Fine Agree (λ c i. i .queues) (fileOf d f) (H .stands .fine f k)) in
-      let few : length (listOf d s l) ≤ entries = rw (← getD-listsOf d s l h) (short (segment-boxes d s (m .segment) once S .lists) l h) in
-      walk-chain entries (m .segment) l (listOf d s l) (S .chains l h) few ∙ S .boxes l h
+      let T = S .stands .segment in
+      let once = agreed-once d s (S .agreed) (λ f k. on-file Fine Agree (λ c i. i .queues) (fileOf d f) (S .fine f k)) in
+      let few : length (listOf d s l) ≤ entries = rw (← getD-listsOf d s l h) (short (segment-boxes d s (m .segment) once T .lists) l h) in
+      walk-chain entries (m .segment) l (listOf d s l) (T .chains l h) few ∙ T .boxes l h
 
   module _ (f : ℕ) (h : f < files) where
     low : (p : ℕ) → p < places → placeOf f p < files * places
@@ -104,7 +105,7 @@ module _ (m : Memories) (d : Desk) (s : Alloc) (H : Holds m d s) where
     low p k = omega arith
 
     rows : (p : ℕ) → p < 0 + places → row (m .segment) (placeRowAt (placeOf f p)) placeWidth ≡ placeWords (accOf (fileOf d f) p)
-    rows p k = segment-place (H .stands .stands .segment) (placeOf f p) (omega (arith, low p k)) ∙ ap placeWords (placeAcc-of d f p k)
+    rows p k = segment-place (S .stands .segment) (placeOf f p) (omega (arith, low p k)) ∙ ap placeWords (placeAcc-of d f p k)
 
     ports : (p : ℕ) → p < 0 + places → listed (m .segment) (replyPort (placeOf f p)) ≡ portWords (placeOf f p) (reqOf (accOf (fileOf d f) p))
     ports p k =
@@ -113,13 +114,14 @@ module _ (m : Memories) (d : Desk) (s : Alloc) (H : Holds m d s) where
     timers : timersOn f (listed (m .segment) layout.timerList) ≡ map (λ t. timerWords (placed f t)) (timersOf (fileOf d f))
     timers =
         ap (timersOn f) (listed-box layout.timerList (omega arith) ∙ boxOf-timers d s) ∙ timers-sieve f (s .clock)
-        ∙ ap (map (λ t. timerWords (placed f t))) (H .stands .agreed .agrees f h .clock)
+        ∙ ap (map (λ t. timerWords (placed f t))) (S .agreed .agrees f h .clock)
 
-    pub file-is : fileIn f m ≡ imageOf f (fileOf d f)
+    -- the file, where its bytes are zero if it is not built
+    pub file-is : (fileOf d f ≡ unbuilt → (shareAt f (m .blocks) ≡ zeros shareBytes) × (buffersAt f (m .buffers) ≡ zeros (places * bufferBytes))) → fileIn f m ≡ imageOf f (fileOf d f)
     unfolding fileIn imageOf
-    file-is =
-        let own = segment-file (H .stands .stands .segment) f h in
-        let (share, buffers) = file-blank (fileOf d f) _ _ (H .stands .stands .bodies .each f h) (H .blank f h) in
+    file-is blank =
+        let own = segment-file (S .stands .segment) f h in
+        let (share, buffers) = file-blank (fileOf d f) _ _ (S .stands .bodies .each f h) blank in
         let reads = listed-box (readQueue f) (omega arith) ∙ boxOf-read d s f h in
         let writes = listed-box (writeQueue f) (omega arith) ∙ boxOf-write d s f h in
         one own (map-up _ _ places 0 rows) share buffers reads writes (map-up _ _ places 0 ports) timers

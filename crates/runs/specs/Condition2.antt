@@ -1,14 +1,17 @@
 -- Condition 2: every answer, stored record, waiting request and running timeout is what the manual and document 01 say for the calls made since the desk
 -- was fresh.
+use Prim.Native.Nat.{ℕ, _<_}
 use mathlib.Core.Path.{_≡_}
 use mathlib.Core.List.{List, [], _∷_, _++_}
 use lib.ListN.{getD, drop}
+use Rattle.rules.specs.Limits.{files}
 use Rattle.rules.specs.Reply.{Reply, shows}
-use Rattle.rules.specs.Desk.{Call, freshDesk, replies, after}
+use Rattle.rules.specs.Desk.{Call, freshDesk, fileOf, replies, after}
 use Rattle.rules.specs.Allocation.{freshAlloc, allocAfter}
 use Rattle.rules.specs.Memories as bytes
 use Rattle.promises.specs.Promise.{HostCall, fresh, Given}
 use Rattle.runs.specs.Run.{anew, unfit, asks, meant, gives, Holds}
+use Rattle.runs.specs.Shown.{recordsIn, recordsOf, deskShown}
 use Rattle.memory.specs.Memories.{Memories, memories}
 
 -- the calls of the rules until the desk is made fresh again
@@ -35,7 +38,11 @@ since cs (x ∷ xs) = elim (meant x) [ anew ↦ since [] xs | unfit ↦ since cs
 pub record Condition2 (xs : List HostCall) (gs : List Given) (m : Memories) : Type 0 where
   -- every status, every length and every byte of answer, record and output memory
   pub given : gs ≡ heard (fresh ∷ xs) []
-  -- the memories, to the last byte: every stored record, waiting request and running timeout
+  -- the records of each file, read back from its row and its share
+  pub records : (f : ℕ) → f < files → recordsIn f m ≡ recordsOf (fileOf (after freshDesk (since [] xs)) f)
+  -- the desk that the bytes show: its records, accessors, waiting and completed requests in their order, and remaining timeouts
+  pub shown : deskShown m ≡ after freshDesk (since [] xs)
+  -- the memories, to the last byte
   pub memories : Holds m (after freshDesk (since [] xs)) (allocAfter freshDesk (since [] xs) freshAlloc)
   pub blocks : m .blocks ≡ bytes.blocks (after freshDesk (since [] xs))
   pub buffers : m .buffers ≡ bytes.buffers (after freshDesk (since [] xs))

@@ -63,9 +63,9 @@ ours f [] = []
 ours f (x ∷ xs) = elim (namesFile f (sortOf x) || passes (sortOf x)) [ true ↦ sortOf x ∷ ours f xs | false ↦ ours f xs ]
 
 -- whether no call makes the desk fresh again
-unfoldable pub unmade : List HostCall → Bool
-unmade [] = true
-unmade (x ∷ xs) = elim (meant x) [ anew ↦ false | unfit ↦ unmade xs | asks c ↦ unmade xs ]
+unfoldable pub neverFresh : List HostCall → Bool
+neverFresh [] = true
+neverFresh (x ∷ xs) = elim (meant x) [ anew ↦ false | unfit ↦ neverFresh xs | asks c ↦ neverFresh xs ]
 
 -- an answer: status, length, and the bytes up to the length
 pub record Found : Type 0 where

@@ -9,7 +9,7 @@ use Rattle.occurrences.proofs.Counts.{bit-le}
 use Rattle.rules.specs.Limits.{places}
 use Rattle.rules.specs.State.{Rec, Req, Built}
 use Rattle.rules.specs.Store.{Found}
-use Rattle.rules.specs.Requests.{isWriter, writers, accAt, withStore, withAccs, withQueues, withTimers, alterAcc, say, putRec, behind, without, requeue, leave, finish}
+use Rattle.rules.specs.Requests.{isWriter, writers, accAt, withStore, withAccs, withQueues, withTimers, alterAcc, say, putRec, behind, without, requeue, leave, finish, withBuffers, request}
 use Rattle.rules.specs.Settle.{Turn, still, onward, serveReader, serveWriter, atHead}
 use Rattle.laws.specs.Queues.{Agree}
 use Rattle.laws.specs.Sides.{Sides, Fitting}
@@ -51,7 +51,7 @@ unfolding putRec say withStore writers
 kept-put r b = (refl, λ e. e)
 
 kept-finish : (p st : ℕ) (q : Req) (b : Built) → Kept b (finish p st q b)
-unfolding finish leave say withTimers requeue alterAcc withAccs withQueues writers without
+unfolding finish leave say withTimers requeue request withBuffers alterAcc withAccs withQueues writers without
 kept-finish p st q b = (writers-withReq q b p, λ e. ap (without p) e)
 
 kept-on : (b c d : Built) → Kept b c → Kept c d → Kept b d

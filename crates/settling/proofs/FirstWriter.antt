@@ -1,22 +1,21 @@
 -- The first waiting writer: what the segment and its buffer say of it.
-use Prim.Native.Nat.{ℕ, _-_, _*_, _≤_, _<_}
+use Prim.Native.Nat.{ℕ, _*_, _≤_, _<_}
 use mathlib.Core.Path.{_≡_, refl, sym, ap, _∙_, subst}
 use mathlib.Core.Bool.{true}
-use mathlib.Core.List.{List, [], _∷_, _++_}
-use mathlib.Core.Option.{Option, none, some}
+use mathlib.Core.List.{List, [], _∷_}
+use mathlib.Core.Option.{Option, some}
 use native.Mathlib.Omega.{arith}
-use lib.ListN.{length, take, getD}
-use lib.Seq.{take-append-seam}
+use lib.ListN.{length, take}
 use Rattle.occurrences.specs.Count.{bit}
-use Rattle.words.specs.Word.{zeros}
 use Rattle.rules.specs.Limits.{places, entries, bufferBytes}
 use Rattle.rules.specs.State.{Offered, Req, writing, Acc, Built}
 use Rattle.rules.specs.Requests.{accAt}
 use Rattle.rules.specs.Allocation.{placeOf}
-use Rattle.rules.specs.Memories.{bufferAt, lies, buffer}
+use Rattle.rules.specs.Memories.{bufferAt}
+use Rattle.rules.specs.Buffers.{lies}
 use Rattle.laws.specs.Outstanding.{reqOf}
 use Rattle.laws.specs.Bounds.{Bounded}
-use Rattle.laws.proofs.Bounds.{bounds-at, length-buffer}
+use Rattle.laws.proofs.Bounds.{bounds-at}
 use Rattle.laws.proofs.Happenings.{place-of-desk}
 use Rattle.segment.specs.declared.Entry.{Entry}
 use Rattle.segment.specs.declared.PlaceRow.{PlaceRow}
@@ -26,7 +25,7 @@ use Rattle.segment.specs.Fields.{entryWords, waitingWrite, entryOf, entryAt, pl
 use Rattle.memory.specs.Memories.{Memories}
 use Rattle.memory.specs.Image.{reqWords, placeWords}
 use Rattle.memory.specs.Fine.{Fine}
-use Rattle.memory.proofs.Frames.{bufferAt-is}
+use Rattle.memory.proofs.Frames.{lies-there}
 use Rattle.midst.specs.declared.File as hand
 use Rattle.midst.specs.Mid.{Start, Mid}
 use Rattle.midst.proofs.Begins.{mid-place}
@@ -90,11 +89,11 @@ module _ {f : ℕ} {o : Start} {ms : Memories} {x : hand.File} {b : Built} (M : 
     writer-short = bounds-at (r .place) (r .acc) _ b (r .opens) (r .asks) (M .good .bounds)
 
     -- the waiting writer's data lie in its buffer
-    writer-buffer : bufferAt (placeOf f (r .place)) (ms .buffers) ≡ buffer (accAt b (r .place))
-    unfolding accAt placeOf
-    writer-buffer =
-        bufferAt-is f (ms .buffers) (b .accs) (M .allots .matches .agrees .eight)
-        (λ y k. length-buffer (b .geo .words) (getD (b .accs) y none) (M .good .room .geo .words-high) (M .good .bounds y)) (M .buffer) (r .place) writer-below
+    writer-lies : take (length (r .offered .bytes)) (bufferAt (placeOf f (r .place)) (ms .buffers)) ≡ r .offered .bytes
+    unfolding accAt reqOf lies
+    writer-lies =
+        subst (λ (q : Req). take (length (lies q)) (bufferAt (placeOf f (r .place)) (ms .buffers)) ≡ lies q) (ap reqOf (r .opens) ∙ r .asks)
+        (lies-there f (r .place) (ms .buffers) b (M .good .buffers) (M .buffer) writer-below)
 
     module _ (e : ℕ) (m : Entry) (at : e ≡ nth (ms .segment) (writeQueue f)) (em : m ≡ entryAt (ms .segment) e) where
       pub writer-is : m ≡ waitingWrite (placeOf f (r .place)) (bit (r .offered .byWords)) (length (r .offered .bytes))
@@ -107,8 +106,4 @@ module _ {f : ℕ} {o : Start} {ms : Memories} {x : hand.File} {b : Built} (M : 
       writer-size = omega (arith, ap (λ (n : Entry). n .size) writer-is, writer-short, M .good .room .geo .words-high)
 
       pub writer-data : dataOf m (ms .buffers) ≡ r .offered .bytes
-      unfolding buffer lies
-      writer-data =
-          ap (λ (n : Entry). take (n .size) (bufferAt (n .place) (ms .buffers))) writer-is
-          ∙ ap (take (length (r .offered .bytes))) (writer-buffer ∙ ap buffer (r .opens) ∙ ap (λ (q : Req). lies q ++ zeros (bufferBytes - length (lies q))) (r .asks))
-          ∙ take-append-seam (r .offered .bytes) (zeros (bufferBytes - length (r .offered .bytes)))
+      writer-data = ap (λ (n : Entry). take (n .size) (bufferAt (n .place) (ms .buffers))) writer-is ∙ writer-lies

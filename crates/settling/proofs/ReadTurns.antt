@@ -16,7 +16,7 @@ use Rattle.rules.specs.Store.{fetch}
 use Rattle.rules.specs.Requests.{accAt, behind, finish, withStore, say}
 use Rattle.rules.specs.Settle.{handed, readResult, still, onward, serveReader, atHead}
 use Rattle.rules.specs.Allocation.{placeOf}
-use Rattle.rules.specs.Memories.{shareAt, lies}
+use Rattle.rules.specs.Memories.{shareAt}
 use Rattle.laws.specs.Outstanding.{waitsRead}
 use Rattle.laws.specs.Changes.{Ends, readEnds}
 use Rattle.laws.proofs.Walk.{behind-at, length-handed}
@@ -26,14 +26,14 @@ use Rattle.segment.specs.Layout.{readQueue}
 use Rattle.segment.specs.Table.{nth}
 use Rattle.segment.specs.Fields.{entryWords, waitingRead, entryAt, placeAt}
 use Rattle.requests.specs.Moves.{completed}
-use Rattle.buffers.specs.Buffer.{filled}
+use Rattle.rules.specs.Buffers.{lies, filled}
 use Rattle.shares.specs.Back.{recAt}
 use Rattle.memory.specs.Memories.{Memories, memories}
 use Rattle.memory.specs.Image.{reqWords}
 use Rattle.memory.specs.Fine.{Fine}
 use Rattle.midst.specs.declared.File as hand
 use Rattle.midst.specs.Mid.{Start, Mid}
-use Rattle.midst.proofs.Changes.{fine-knows, put}
+use Rattle.midst.proofs.Changes.{fine-knows}
 use Rattle.midst.proofs.Terms.{waitsAt}
 use Rattle.midst.proofs.Requests.{step-finish}
 use Rattle.midst.proofs.Walks.{fine-walks}
@@ -131,7 +131,7 @@ module _ {f : ℕ} {o : Start} {ms : Memories} {x : hand.File} {b : Built} (M : 
           (subst (λ (zs : List ℕ). Mid Fine f o (memories zs (ms .blocks) buffers′) (z .file) (finish (r .place) 0 q B)) (sym (ex ∙ entry-words))
           (step-finish fine-knows mid-fetched (r .place) (r .acc) open-behind false 0 (reading (r .wanted)) q
           (r .asks) waits ends [] (r .rest) (unfold behind withStore say in r .first) (unfold occurrences.count in refl) buffers′
-          (fine-walks .finishes (r .place) 0 q (r .acc) (reading (r .wanted)) B open-behind (r .asks) ends (mid-fetched .good)) (put laid))))
+          (fine-walks .finishes (r .place) 0 q (r .acc) (reading (r .wanted)) B open-behind (r .asks) ends (mid-fetched .good)) laid)))
         where
           waits : waitsAt false (reading (r .wanted)) ≡ 1
           waits = unfold waitsRead in refl

@@ -14,7 +14,8 @@ use Rattle.rules.specs.State.{Rec, Req, writing, Built}
 use Rattle.rules.specs.Requests.{accAt, fits, withStore, say, putRec, finish}
 use Rattle.rules.specs.Settle.{writeResult, dataRec, serveWriter, atHead}
 use Rattle.rules.specs.Allocation.{placeOf}
-use Rattle.rules.specs.Memories.{shareAt, lies}
+use Rattle.rules.specs.Memories.{shareAt}
+use Rattle.rules.specs.Buffers.{lies}
 use Rattle.laws.specs.Outstanding.{waitsWrite}
 use Rattle.laws.specs.Changes.{Ends, writeEnds}
 use Rattle.laws.proofs.Walk.{put-at}
@@ -99,7 +100,7 @@ module _ {f : ℕ} {o : Start} {ms : Memories} {x : hand.File} {b : Built} (M : 
             (onward-served f o ms′ y (finish (r .place) 0 q B)
             (subst (λ (zs : List ℕ). Mid Fine f o (memories zs (ms′ .blocks) (ms′ .buffers)) y (finish (r .place) 0 q B)) (sym (ex ∙ entry-words))
             (step-finish fine-knows put-mid (r .place) (r .acc) open-put true 0 (writing (r .offered)) q (r .asks) waits ends [] (r .rest) (unfold putRec say withStore in r .first) (unfold count in refl) (ms′ .buffers)
-            (fine-walks .finishes (r .place) 0 q (r .acc) (writing (r .offered)) B open-put (r .asks) ends fine-put) (clear none-lies laid))))
+            (fine-walks .finishes (r .place) 0 q (r .acc) (writing (r .offered)) B open-put (r .asks) ends fine-put) (clear f (r .place) q (ms .buffers) none-lies laid))))
           where
             put-mid : Mid Fine f o (memories (ms .segment) (ms′ .blocks) (ms .buffers)) y B
             put-mid = through M (putRec d) (ms′ .blocks) y (subst (λ (z : Rec). Keeps f (putRec z) (ms .blocks) x (ms′ .blocks) y) rec-is keeps) (fine-stored (M .good)) fine-put

@@ -1,9 +1,7 @@
 // Serves the first waiting writer.
 ghost use mathlib.Core.Path.{_≡_};
-ghost use Prim.Native.Nat.{_*_, _≤_, _<_};
+ghost use Prim.Native.Nat.{_≤_, _<_};
 ghost use lib.ListN.{length};
-ghost use lib.Seq.{sets};
-ghost use Rattle.words.specs.Word.{zeros};
 ghost use Rattle.segment.specs.Layout.{segmentBytes, writeQueue, deskPlaces};
 ghost use Rattle.segment.specs.Table.{nth};
 ghost use Rattle.rules.specs.Limits.{files, entries, bufferBytes};
@@ -14,7 +12,7 @@ ghost use Rattle.rules.specs.Memories.{shareAt};
 ghost use Rattle.requests.specs.Moves.{completed};
 ghost use Rattle.blocks.specs.Writing.{recOf, Ready};
 ghost use Rattle.blocks.specs.Memory.{blocksBytes};
-ghost use Rattle.buffers.specs.Buffer.{buffersBytes};
+ghost use Rattle.buffers.specs.Buffer.{buffersBytes, emptied};
 ghost use Rattle.memory.specs.Memories.{lent, was, left};
 ghost use Rattle.memory.specs.Fine.{Fine};
 ghost use Rattle.midst.specs.Mid.{Start, Mid};
@@ -45,7 +43,7 @@ fn take(
     requires { ⌜ (m .place < deskPlaces) × (m .size ≤ bufferBytes) × (nth (now segment) (writeQueue f) < entries) ⌝ }
     requires { ⌜ Ready (file .words) (file .ring) (shareAt f (now blocks)) (length (dataOf m (now buffers))) ⌝ }
     ensures put { λ r. ⌜ Keeps f (putRec (recOf 0 id (dataOf m (now (buffers .entry))))) (now (blocks .entry)) file (now (blocks .exit)) r ⌝ }
-    ensures buffers { λ _. ⌜ now (buffers .exit) ≡ sets (now (buffers .entry)) (bufferBytes * m .place) (zeros bufferBytes) ⌝ }
+    ensures buffers { λ _. ⌜ now (buffers .exit) ≡ emptied (m .place) (now (buffers .entry)) ⌝ }
     ensures segment { λ _. ⌜ now (segment .exit) ≡ completed (now (segment .entry)) (writeQueue f) (m .place) (wroteWords m) ⌝ }
 {
     let place = m.place as usize;

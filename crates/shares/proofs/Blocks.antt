@@ -9,12 +9,12 @@ use lib.ListN.{length, take, drop, length-drop, length-take, drop-of-length-le}
 use lib.Seq.{take-all, take-at, drop-at, drop-drop}
 use borrow.Author.Tests.{ltb-true, ltb-false}
 use Rattle.words.specs.Word.{wordAt}
-use Rattle.words.proofs.Stands.{Stands}
+use Rattle.words.proofs.Stands.{BytesAt}
 use Rattle.rules.specs.State.{Rec, Geo, Store}
 use Rattle.rules.specs.Store.{used, recordWords, blockBytes, tail}
 use Rattle.shares.specs.Image.{wordsOf, image}
 use Rattle.shares.specs.Groups.{Small, flat, Shape}
-use Rattle.shares.specs.Holds.{Sized, At, Holds}
+use Rattle.shares.specs.Holds.{Sized, At, InShare}
 use Rattle.shares.specs.Back.{usedRecs, groupAt}
 use Rattle.rules.proofs.Split.{by-cases}
 use Rattle.shares.proofs.Image.{image-put, image-used}
@@ -37,7 +37,7 @@ shape-drop b q qs s = by-cases (ltb (length q) b)
     (λ e. let v : b ≤ length q = ltb-false (length q) b e in drop-at q (flat qs) b (omega (arith, s .1)))
 
 at-block : (g : Geo) (xs : List ℕ) (qs : List (List Rec)) (k j : ℕ) → Shape (g .factor) qs → At g xs k qs → j * g .factor < length (flat qs)
-    → Stands xs ((k + j) % g .blocks * blockBytes g) (image (blockBytes g) (take (g .factor) (drop (j * g .factor) (flat qs))))
+    → BytesAt xs ((k + j) % g .blocks * blockBytes g) (image (take (g .factor) (drop (j * g .factor) (flat qs))))
 unfolding At flat Shape
 at-block g xs [] k j s a h = absurd (omega arith)
 at-block g xs (q ∷ qs) k zero s a h =
@@ -51,8 +51,8 @@ at-block g xs (q ∷ qs) k (suc j) s a h =
     ap (λ (n : ℕ). drop n (flat (q ∷ qs))) f ∙ (sym (drop-drop (j * b) b (flat (q ∷ qs))) ∙ ap (drop (j * b)) (shape-drop b q qs s)) in
     rw (e, d) (at-block g xs qs (suc k) j (s .3) (a .2) (omega (arith, ap length (shape-drop b q qs s), length-drop b (q ++ flat qs))))
 
-pub block-stands : (g : Geo) (s : Store) → Sized g → Holds g s → (j : ℕ) → j * g .factor < used s
-    → Stands (s .share) ((s .block + j) % g .blocks * blockBytes g) (image (blockBytes g) (groupAt g s j))
+pub block-stands : (g : Geo) (s : Store) → Sized g → InShare g s → (j : ℕ) → j * g .factor < used s
+    → BytesAt (s .share) ((s .block + j) % g .blocks * blockBytes g) (image (groupAt g s j))
 unfolding groupAt
 block-stands g s o h j l = rw (usedRecs-flat g s o h) (at-block g (s .share) (h .groups) (s .block) j (h .shape) (h .at) (omega (arith, used-flat g s h)))
 
@@ -60,13 +60,13 @@ pub length-groupAt : (g : Geo) (s : Store) (j : ℕ) → length (groupAt g s j) 
 unfolding groupAt
 length-groupAt g s j = omega (arith, length-take (g .factor) (drop (j * g .factor) (usedRecs g s)))
 
-pub small-groupAt : (g : Geo) (s : Store) → Sized g → Holds g s → (j : ℕ) → Small (g .words + 3) (groupAt g s j)
+pub small-groupAt : (g : Geo) (s : Store) → Sized g → InShare g s → (j : ℕ) → Small (g .words + 3) (groupAt g s j)
 unfolding groupAt
 small-groupAt g s o h j =
     rw (usedRecs-flat g s o h) (all-take _ (g .factor) (drop (j * g .factor) (flat (h .groups))) (all-drop _ (j * g .factor) (flat (h .groups)) (small-flat g s h)))
 
 -- the last block, where it is begun
-pub length-groupAt-last : (g : Geo) (s : Store) → Sized g → Holds g s → length (groupAt g s (used s / g .factor)) ≡ used s % g .factor
+pub length-groupAt-last : (g : Geo) (s : Store) → Sized g → InShare g s → length (groupAt g s (used s / g .factor)) ≡ used s % g .factor
 unfolding groupAt
 length-groupAt-last g s o h =
     let b = g .factor in
@@ -75,19 +75,26 @@ length-groupAt-last g s o h =
     length-drop (j * b) (usedRecs g s) ∙ omega (arith, length-usedRecs g s o h, div-add-mod' (used s) b) in
     ap length (take-all b (drop (j * b) (usedRecs g s)) (omega (arith, mod-lt (used s) (o .factor)))) ∙ d
 
-pub tail-put : (g : Geo) (s : Store) → Sized g → Holds g s → 1 ≤ used s % g .factor → wordAt (s .share) (tail g s) ≡ used s % g .factor
+pub tail-put : (g : Geo) (s : Store) → Sized g → InShare g s → 1 ≤ used s % g .factor → wordAt (s .share) (tail g s) ≡ used s % g .factor
 unfolding tail
 tail-put g s o h z =
     let j = used s / g .factor in
     let a = (s .block + j) % g .blocks * blockBytes g in
-    image-put (s .share) a (blockBytes g) (groupAt g s j) (block-stands g s o h j (omega (arith, div-add-mod' (used s) (g .factor)))) ∙ length-groupAt-last g s o h
+    image-put (s .share) a (groupAt g s j) (block-stands g s o h j (omega (arith, div-add-mod' (used s) (g .factor)))) ∙ length-groupAt-last g s o h
 
-pub tail-room : (g : Geo) (s : Store) (r : Rec) → Sized g → Holds g s → recordWords r ≤ g .words + 3 → 1 ≤ used s % g .factor
+pub tail-used : (g : Geo) (s : Store) → Sized g → InShare g s → 1 ≤ used s % g .factor → 2 ≤ wordAt (s .share) (tail g s + 2)
+unfolding tail
+tail-used g s o h z =
+    let j = used s / g .factor in
+    let a = (s .block + j) % g .blocks * blockBytes g in
+    omega (arith, image-used (s .share) a (groupAt g s j) (block-stands g s o h j (omega (arith, div-add-mod' (used s) (g .factor)))))
+
+pub tail-room : (g : Geo) (s : Store) (r : Rec) → Sized g → InShare g s → recordWords r ≤ g .words + 3 → 1 ≤ used s % g .factor
     → 2 * (wordAt (s .share) (tail g s + 2) + recordWords r) ≤ blockBytes g
 unfolding tail
 tail-room g s r o h w z =
     let j = used s / g .factor in
     let a = (s .block + j) % g .blocks * blockBytes g in
     let q = groupAt g s j in
-    let e : wordAt (s .share) (a + 2) ≡ 2 + wordsOf q = image-used (s .share) a (blockBytes g) q (block-stands g s o h j (omega (arith, div-add-mod' (used s) (g .factor)))) in
+    let e : wordAt (s .share) (a + 2) ≡ 2 + wordsOf q = image-used (s .share) a q (block-stands g s o h j (omega (arith, div-add-mod' (used s) (g .factor)))) in
     rw e (omega (arith, block-fits-more g q r (omega (arith, length-groupAt-last g s o h, mod-lt (used s) (o .factor))) (small-groupAt g s o h j) w))

@@ -4,19 +4,14 @@ use mathlib.Core.Path.{_≡_, refl, sym}
 use mathlib.Core.List.{List, [], _∷_, _++_, append-nil, append-assoc}
 use native.Mathlib.Omega.{arith}
 use lib.Dec.{eqb}
-use lib.ListN.{length, length-append, replicate-append-replicate}
+use lib.ListN.{length, length-append}
 use borrow.Author.Tests.{eqb-true, eqb-false}
 use Rattle.words.specs.Word.{word, wordAt, zeros}
-use Rattle.words.proofs.Runs.{length-zeros}
-use Rattle.words.proofs.Stands.{Stands, join, left, right, word-read}
+use Rattle.words.proofs.Stands.{BytesAt, join, left, right, word-read}
 use Rattle.rules.specs.State.{Rec}
 use Rattle.rules.specs.Store.{pad, recordBytes, recordWords, zeroed}
 use Rattle.shares.specs.Image.{bytesOf, wordsOf, image}
 use Rattle.rules.proofs.Split.{by-cases}
-
-pub zeros-append : (n m : ℕ) → zeros (n + m) ≡ zeros n ++ zeros m
-unfolding zeros
-zeros-append n m = sym (replicate-append-replicate n m 0)
 
 pub length-pad : (n : ℕ) → length (pad n) ≡ n % 2
 unfolding pad
@@ -56,56 +51,45 @@ pub wordsOf-snoc : (rs : List Rec) (r : Rec) → wordsOf (rs ++ (r ∷ [])) ≡ 
 unfolding wordsOf
 wordsOf-snoc rs r = omega (arith, wordsOf-append rs (r ∷ []))
 
-pub length-image : (n : ℕ) (rs : List Rec) → 4 + 2 * wordsOf rs ≤ n → length (image n rs) ≡ n
+pub length-image : (rs : List Rec) → length (image rs) ≡ 4 + 2 * wordsOf rs
 unfolding image
-length-image n rs h =
-    let z = n - (4 + 2 * wordsOf rs) in
-    let e : length (bytesOf rs ++ zeros z) ≡ length (bytesOf rs) + length (zeros z) = length-append (bytesOf rs) (zeros z) in
-    omega (arith, length-bytesOf rs, length-zeros z)
+length-image rs = omega (arith, length-bytesOf rs)
 
-pub image-nil : (n : ℕ) → image n [] ≡ zeroed n
+pub image-nil : (n : ℕ) → zeroed n ≡ image [] ++ zeros (n - 4)
 unfolding image zeroed wordsOf bytesOf
 image-nil n = refl
 
--- The pieces of an image: records put, words used, the records' bytes, the zero rest.
+-- The pieces of an image: records put, words used, the records' bytes.
 
-pub record Parts (xs : List ℕ) (a c w : ℕ) (bs : List ℕ) (z : ℕ) : Type 0 where
-  pub put : Stands xs a (word c)
-  pub used : Stands xs (a + 2) (word (2 + w))
-  pub recs : Stands xs (a + 4) bs
-  pub rest : Stands xs (a + 4 + 2 * w) (zeros z)
+pub record Parts (xs : List ℕ) (a c w : ℕ) (bs : List ℕ) : Type 0 where
+  pub put : BytesAt xs a (word c)
+  pub used : BytesAt xs (a + 2) (word (2 + w))
+  pub recs : BytesAt xs (a + 4) bs
 
 -- an image apart, and whole again
-pub apart : (xs : List ℕ) (a n : ℕ) (rs : List Rec) → Stands xs a (image n rs)
-    → Parts xs a (length rs) (wordsOf rs) (bytesOf rs) (n - (4 + 2 * wordsOf rs))
+pub apart : (xs : List ℕ) (a : ℕ) (rs : List Rec) → BytesAt xs a (image rs)
+    → Parts xs a (length rs) (wordsOf rs) (bytesOf rs)
 unfolding image
-apart xs a n rs h =
+apart xs a rs h =
     let c = word (length rs) in
     let u = word (2 + wordsOf rs) in
-    let z = zeros (n - (4 + 2 * wordsOf rs)) in
-    let h₁ : Stands xs (a + 2) (u ++ (bytesOf rs ++ z)) = right c (u ++ (bytesOf rs ++ z)) xs a (a + 2) refl h in
-    let h₂ : Stands xs (a + 4) (bytesOf rs ++ z) = right u (bytesOf rs ++ z) xs (a + 2) (a + 4) (omega arith) h₁ in
+    let h₁ : BytesAt xs (a + 2) (u ++ bytesOf rs) = right c (u ++ bytesOf rs) xs a (a + 2) refl h in
     record {
-      put = left c (u ++ (bytesOf rs ++ z)) xs a h;
-      used = left u (bytesOf rs ++ z) xs (a + 2) h₁;
-      recs = left (bytesOf rs) z xs (a + 4) h₂;
-      rest = right (bytesOf rs) z xs (a + 4) (a + 4 + 2 * wordsOf rs) (omega (arith, length-bytesOf rs)) h₂;
+      put = left c (u ++ bytesOf rs) xs a h;
+      used = left u (bytesOf rs) xs (a + 2) h₁;
+      recs = right u (bytesOf rs) xs (a + 2) (a + 4) (omega arith) h₁;
     }
 
-pub whole : (xs : List ℕ) (a n : ℕ) (rs : List Rec) → Parts xs a (length rs) (wordsOf rs) (bytesOf rs) (n - (4 + 2 * wordsOf rs))
-    → Stands xs a (image n rs)
+pub whole : (xs : List ℕ) (a : ℕ) (rs : List Rec) → Parts xs a (length rs) (wordsOf rs) (bytesOf rs) → BytesAt xs a (image rs)
 unfolding image
-whole xs a n rs p =
+whole xs a rs p =
     let c = word (length rs) in
     let u = word (2 + wordsOf rs) in
-    let z = zeros (n - (4 + 2 * wordsOf rs)) in
-    join c (u ++ (bytesOf rs ++ z)) xs a (a + 2) refl (p .put)
-    (join u (bytesOf rs ++ z) xs (a + 2) (a + 4) (omega arith) (p .used)
-    (join (bytesOf rs) z xs (a + 4) (a + 4 + 2 * wordsOf rs) (omega (arith, length-bytesOf rs)) (p .recs) (p .rest)))
+    join c (u ++ bytesOf rs) xs a (a + 2) refl (p .put) (join u (bytesOf rs) xs (a + 2) (a + 4) (omega arith) (p .used) (p .recs))
 
 -- the first two words of a block that holds rs
-pub image-put : (xs : List ℕ) (a n : ℕ) (rs : List Rec) → Stands xs a (image n rs) → wordAt xs a ≡ length rs
-image-put xs a n rs h = word-read xs a (length rs) (apart xs a n rs h .put)
+pub image-put : (xs : List ℕ) (a : ℕ) (rs : List Rec) → BytesAt xs a (image rs) → wordAt xs a ≡ length rs
+image-put xs a rs h = word-read xs a (length rs) (apart xs a rs h .put)
 
-pub image-used : (xs : List ℕ) (a n : ℕ) (rs : List Rec) → Stands xs a (image n rs) → wordAt xs (a + 2) ≡ 2 + wordsOf rs
-image-used xs a n rs h = word-read xs (a + 2) (2 + wordsOf rs) (apart xs a n rs h .used)
+pub image-used : (xs : List ℕ) (a : ℕ) (rs : List Rec) → BytesAt xs a (image rs) → wordAt xs (a + 2) ≡ 2 + wordsOf rs
+image-used xs a rs h = word-read xs (a + 2) (2 + wordsOf rs) (apart xs a rs h .used)

@@ -10,9 +10,8 @@ use lib.Dec.{leb, eqb}
 use lib.ListN.{length, getD, take, drop, length-drop}
 use lib.Seq.{length-take-le, drop-cons}
 use borrow.Author.Tests.{le-leb, leb-true, eqb-true, eqb-false, eq-eqb, ne-eqb}
-use Rattle.words.specs.Word.{word, wordAt, zeros, quiet, Bytes}
-use Rattle.words.proofs.Stands.{Stands, join, left, right}
-use Rattle.words.proofs.Zeros.{quiet-stands, quiet-true}
+use Rattle.words.specs.Word.{word, wordAt, Bytes}
+use Rattle.words.proofs.Stands.{BytesAt, join, left, right}
 use Rattle.rules.specs.Limits.{mostType}
 use Rattle.rules.specs.State.{Rec, Geo}
 use Rattle.rules.specs.Store.{pad, recordBytes, recordWords, blockBytes}
@@ -26,14 +25,14 @@ use Rattle.shares.proofs.Back.{fields, next-stands}
 
 -- What stands.
 
-word-stands : (xs : List ℕ) (p : ℕ) → Bytes xs → Stands xs p (word (wordAt xs p))
-unfolding Stands Bytes
+word-stands : (xs : List ℕ) (p : ℕ) → Bytes xs → BytesAt xs p (word (wordAt xs p))
+unfolding BytesAt Bytes
 word-stands xs p b =
     let e : getD xs (suc p) 0 ≡ getD xs (p + 1) 0 = ap (λ (i : ℕ). getD xs i 0) (sym (add-one p)) in
     (omega (arith, b (p + 1)), (omega (arith, b (p + 1)), tt))
 
-part-stands : (xs : List ℕ) (n p : ℕ) → p + n ≤ length xs → Stands xs p (take n (drop p xs))
-unfolding Stands
+part-stands : (xs : List ℕ) (n p : ℕ) → p + n ≤ length xs → BytesAt xs p (take n (drop p xs))
+unfolding BytesAt
 part-stands xs zero p h = tt
 part-stands xs (suc n) p h = rw (drop-cons xs p 0 (omega arith)) (refl, part-stands xs n (suc p) (omega arith))
 
@@ -76,8 +75,8 @@ fair-says words xs e p h =
       even = or-equal (wordAt xs p % 2) 0 (getD xs (p + 2 + wordAt xs p) 0) 0 (q₇ .1);
     }
 
-pad-stands : (xs : List ℕ) (p w n : ℕ) → w ≡ 4 + n → (w % 2 ≡ 0) ⊎ (getD xs (p + 2 + w) 0 ≡ 0) → Stands xs (p + 6 + n) (pad n)
-unfolding pad Stands
+pad-stands : (xs : List ℕ) (p w n : ℕ) → w ≡ 4 + n → (w % 2 ≡ 0) ⊎ (getD xs (p + 2 + w) 0 ≡ 0) → BytesAt xs (p + 6 + n) (pad n)
+unfolding pad BytesAt
 pad-stands xs p w n e h = by-cases (eqb (n % 2) 0) (λ t. rw t tt) (λ t. rw t (odd (eqb-false (n % 2) 0 t) h, tt))
   where
     odd : (n % 2 ≡ 0 → ⊥) → (w % 2 ≡ 0) ⊎ (getD xs (p + 2 + w) 0 ≡ 0) → getD xs (p + 6 + n) 0 ≡ 0
@@ -86,7 +85,7 @@ pad-stands xs p w n e h = by-cases (eqb (n % 2) 0) (λ t. rw t tt) (λ t. rw t (
 
 -- a record that passes stands there
 fair-stands : (words : ℕ) (xs : List ℕ) (e p : ℕ) → Bytes xs → e ≤ length xs → Fair words xs e p
-    → Stands xs p (recordBytes (recAt xs p)) × (recordWords (recAt xs p) ≤ words + 3) × (next xs p ≡ p + 2 * recordWords (recAt xs p)) × GoodRec (recAt xs p)
+    → BytesAt xs p (recordBytes (recAt xs p)) × (recordWords (recAt xs p) ≤ words + 3) × (next xs p ≡ p + 2 * recordWords (recAt xs p)) × GoodRec (recAt xs p)
 unfolding recAt recordBytes recordWords next
 fair-stands words xs e p b l f =
     let n = wordAt xs p - 4 in
@@ -94,13 +93,13 @@ fair-stands words xs e p b l f =
     let c : wordAt xs p ≡ 4 + n = omega (arith, f .low) in
     let k : length t ≡ n = length-take-le n (drop (p + 6) xs) (rw length-drop (omega (arith, f .inside))) in
     let z = t ++ pad (length t) in
-    let s₃ : Stands xs (p + 6) z = join t (pad (length t)) xs (p + 6) (p + 6 + n) (omega arith)
+    let s₃ : BytesAt xs (p + 6) z = join t (pad (length t)) xs (p + 6) (p + 6 + n) (omega arith)
     (part-stands xs n (p + 6) (omega (arith, f .inside))) (rw k (pad-stands xs p (wordAt xs p) n c (f .even))) in
-    let s₂ : Stands xs (p + 4) (word (wordAt xs (p + 4)) ++ z) = join (word (wordAt xs (p + 4))) z xs (p + 4) (p + 6) (omega arith) (word-stands xs (p + 4) b) s₃ in
-    let s₁ : Stands xs (p + 2) (word (wordAt xs (p + 2)) ++ (word (wordAt xs (p + 4)) ++ z)) =
+    let s₂ : BytesAt xs (p + 4) (word (wordAt xs (p + 4)) ++ z) = join (word (wordAt xs (p + 4))) z xs (p + 4) (p + 6) (omega arith) (word-stands xs (p + 4) b) s₃ in
+    let s₁ : BytesAt xs (p + 2) (word (wordAt xs (p + 2)) ++ (word (wordAt xs (p + 4)) ++ z)) =
     join (word (wordAt xs (p + 2))) (word (wordAt xs (p + 4)) ++ z) xs (p + 2) (p + 4) (omega arith) (word-stands xs (p + 2) b) s₂ in
     let d : 4 + length t ≡ wordAt xs p = omega arith in
-    let s₀ : Stands xs p (word (4 + length t)) = rw d (word-stands xs p b) in (
+    let s₀ : BytesAt xs p (word (4 + length t)) = rw d (word-stands xs p b) in (
       join (word (4 + length t)) (word (wordAt xs (p + 2)) ++ (word (wordAt xs (p + 4)) ++ z)) xs p (p + 2) refl s₀ s₁,
       omega (arith, f .high),
       omega arith,
@@ -113,19 +112,17 @@ fair-stands words xs e p b l f =
 
 -- what a row of records that passes says
 record Walked (words : ℕ) (xs : List ℕ) (e end p n : ℕ) : Type 0 where
-  recs : Stands xs p (bytesOf (recsAt xs p n))
+  recs : BytesAt xs p (bytesOf (recsAt xs p n))
   small : Small (words + 3) (recsAt xs p n)
   proper : All GoodRec (recsAt xs p n)
   ends : p + 2 * wordsOf (recsAt xs p n) ≡ end
-  rest : Stands xs end (zeros (e - end))
 
 walk-stands : (words : ℕ) (xs : List ℕ) (e end : ℕ) → Bytes xs → e ≤ length xs → (n p : ℕ) → walk words xs e end p n ≡ true
     → Walked words xs e end p n
-unfolding walk recsAt bytesOf wordsOf All Stands
+unfolding walk recsAt bytesOf wordsOf All BytesAt
 walk-stands words xs e end b l zero p h =
-    let q = and-true (eqb p end) (quiet xs p (e - p)) h in
-    let v : p ≡ end = eqb-true p end (q .0) in
-    record { recs = tt; small = tt; proper = tt; ends = omega arith; rest = rw (← v) (quiet-stands xs (e - p) p (q .1)) }
+    let v : p ≡ end = eqb-true p end h in
+    record { recs = tt; small = tt; proper = tt; ends = omega arith }
 walk-stands words xs e end b l (suc n) p h =
     let q = pass-true (fair words xs e p) (walk words xs e end (next xs p) n) h in
     let f = fair-stands words xs e p b l (fair-says words xs e p (q .0)) in
@@ -135,7 +132,6 @@ walk-stands words xs e end b l (suc n) p h =
       small = (f .1, y .small);
       proper = (f .3, y .proper);
       ends = omega (arith, y .ends, f .2);
-      rest = y .rest;
     }
 
 pub length-recsAt : (xs : List ℕ) (n p : ℕ) → length (recsAt xs p n) ≡ n
@@ -148,7 +144,7 @@ unfolding blockRecs
 length-blockRecs xs a = length-recsAt xs (wordAt xs a) (a + 4)
 
 pub laid-stands : (g : Geo) (xs : List ℕ) (a : ℕ) → Bytes xs → a + blockBytes g ≤ length xs → laid g xs a ≡ true
-    → Stands xs a (image (blockBytes g) (blockRecs xs a)) × Small (g .words + 3) (blockRecs xs a) × All GoodRec (blockRecs xs a)
+    → BytesAt xs a (image (blockRecs xs a)) × Small (g .words + 3) (blockRecs xs a) × All GoodRec (blockRecs xs a)
 unfolding laid blockRecs
 laid-stands g xs a b l h =
     let n = blockBytes g in
@@ -156,15 +152,13 @@ laid-stands g xs a b l h =
     let y = walk-stands (g .words) xs (a + n) (a + 2 * wordAt xs (a + 2)) b l (wordAt xs a) (a + 4) h in
     let c : length rs ≡ wordAt xs a = length-recsAt xs (wordAt xs a) (a + 4) in
     let w : 2 + wordsOf rs ≡ wordAt xs (a + 2) = omega (arith, y .ends) in
-    let u : a + 4 + 2 * wordsOf rs ≡ a + 2 * wordAt xs (a + 2) = omega arith in
-    let z : n - (4 + 2 * wordsOf rs) ≡ a + n - (a + 2 * wordAt xs (a + 2)) = omega arith in
-    (whole xs a n rs (record { put = rw c (word-stands xs a b); used = rw w (word-stands xs (a + 2) b); recs = y .recs; rest = rw (u, z) (y .rest) }), y .small, y .proper)
+    (whole xs a rs (record { put = rw c (word-stands xs a b); used = rw w (word-stands xs (a + 2) b); recs = y .recs }), y .small, y .proper)
 
 -- What passes.
 
-pad-zero : (xs : List ℕ) (p n : ℕ) → (n % 2 ≡ 0 → ⊥) → Stands xs p (pad n) → getD xs p 0 ≡ 0
-unfolding pad Stands
-pad-zero xs p n f h = let s : Stands xs p (0 ∷ []) = rw (ne-eqb (n % 2) 0 f) at h in s .0
+pad-zero : (xs : List ℕ) (p n : ℕ) → (n % 2 ≡ 0 → ⊥) → BytesAt xs p (pad n) → getD xs p 0 ≡ 0
+unfolding pad BytesAt
+pad-zero xs p n f h = let s : BytesAt xs p (0 ∷ []) = rw (ne-eqb (n % 2) 0 f) at h in s .0
 
 equal-or : (a b c d : ℕ) → (a ≡ b) ⊎ (c ≡ d) → eqb a b || eqb c d ≡ true
 equal-or a b c d (inl e) = true-or (eqb a b) (eqb c d) (λ q. absurd (eqb-false a b q e))
@@ -183,7 +177,7 @@ fair-made words xs e p f =
     (equal-or (wordAt xs (p + 2)) 0 (wordAt xs p) 4 (f .bare)))
     (equal-or (wordAt xs p % 2) 0 (getD xs (p + 2 + wordAt xs p) 0) 0 (f .even))
 
-fair-true : (words : ℕ) (xs : List ℕ) (e p : ℕ) (r : Rec) → Stands xs p (recordBytes r) → p + 2 * recordWords r ≤ e → recordWords r ≤ words + 3
+fair-true : (words : ℕ) (xs : List ℕ) (e p : ℕ) (r : Rec) → BytesAt xs p (recordBytes r) → p + 2 * recordWords r ≤ e → recordWords r ≤ words + 3
     → GoodRec r
     → fair words xs e p ≡ true
 unfolding recordWords
@@ -206,28 +200,27 @@ fair-true words xs e p r h k w t =
           (λ q. inr (rw i (pad-zero xs (p + 6 + n) n (λ z. eqb-false (wordAt xs p % 2) 0 q (omega (arith, f .size))) (f .rest))));
     })
 
-walk-true : (words : ℕ) (xs : List ℕ) (e end : ℕ) (rs : List Rec) (p : ℕ) → Stands xs p (bytesOf rs) → Small (words + 3) rs → All GoodRec rs
-    → p + 2 * wordsOf rs ≡ end → end ≤ e → Stands xs end (zeros (e - end))
+walk-true : (words : ℕ) (xs : List ℕ) (e end : ℕ) (rs : List Rec) (p : ℕ) → BytesAt xs p (bytesOf rs) → Small (words + 3) rs → All GoodRec rs
+    → p + 2 * wordsOf rs ≡ end → end ≤ e
     → walk words xs e end p (length rs) ≡ true
 unfolding walk bytesOf wordsOf All
-walk-true words xs e end [] p h s t d l z =
+walk-true words xs e end [] p h s t d l =
     let f : p ≡ end = omega arith in
-    true-and (eqb p end) (quiet xs p (e - p)) (eq-eqb p end f) (quiet-true xs (e - p) p (rw f z))
-walk-true words xs e end (r ∷ rs) p h s t d l z =
+    eq-eqb p end f
+walk-true words xs e end (r ∷ rs) p h s t d l =
     let a = left (recordBytes r) (bytesOf rs) xs p h in
     let b : next xs p ≡ p + 2 * recordWords r = next-stands xs p r a in
     let y = right (recordBytes r) (bytesOf rs) xs p (p + 2 * recordWords r) (omega (arith, length-recordBytes r)) h in
     pick-true (fair words xs e p) (walk words xs e end (next xs p) (length rs)) false (fair-true words xs e p r a (omega arith) (s .0) (t .0))
-    ∙ rw b (walk-true words xs e end rs (p + 2 * recordWords r) y (s .1) (t .1) (omega arith) l z)
+    ∙ rw b (walk-true words xs e end rs (p + 2 * recordWords r) y (s .1) (t .1) (omega arith) l)
 
 pub laid-true : (g : Geo) (xs : List ℕ) (a : ℕ) (rs : List Rec) → 4 + 2 * wordsOf rs ≤ blockBytes g → Small (g .words + 3) rs → All GoodRec rs
-    → Stands xs a (image (blockBytes g) rs)
+    → BytesAt xs a (image rs)
     → laid g xs a ≡ true
 unfolding laid
 laid-true g xs a rs f s t h =
     let n = blockBytes g in
-    let q = apart xs a n rs h in
+    let q = apart xs a rs h in
     let u : a + 4 + 2 * wordsOf rs ≡ a + 2 * (2 + wordsOf rs) = omega arith in
-    let z : n - (4 + 2 * wordsOf rs) ≡ a + n - (a + 2 * (2 + wordsOf rs)) = omega arith in
-    rw (image-put xs a n rs h, image-used xs a n rs h)
-    (walk-true (g .words) xs (a + n) (a + 2 * (2 + wordsOf rs)) rs (a + 4) (q .recs) s t u (omega arith) (rw (← z, ← u) (q .rest)))
+    rw (image-put xs a rs h, image-used xs a rs h)
+    (walk-true (g .words) xs (a + n) (a + 2 * (2 + wordsOf rs)) rs (a + 4) (q .recs) s t u (omega arith))

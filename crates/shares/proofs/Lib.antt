@@ -14,3 +14,5 @@ pub mod Blocks
 pub mod Places
 pub mod Laid
 pub mod Sound
+pub mod Tails
+mod Examples

@@ -8,13 +8,13 @@ use lib.Dec.{leb}
 use lib.ListN.{length, getD, take, drop, length-append, length-take, length-drop, take-append-drop}
 use lib.Seq.{split-at, length-take-le, getD-take, getD-drop}
 use borrow.Author.Tests.{le-leb}
-use Rattle.words.proofs.Stands.{Stands, left, right}
+use Rattle.words.proofs.Stands.{BytesAt, left, right}
 use Rattle.rules.specs.State.{Rec, Geo, Store}
 use Rattle.rules.specs.Store.{used, recordBytes, recordWords, blockBytes}
 use Rattle.words.specs.Word.{wordAt}
 use Rattle.shares.specs.Groups.{Small, Shape, Begun}
 use Rattle.shares.specs.Image.{bytesOf, wordsOf, image}
-use Rattle.shares.specs.Holds.{Sized, At, Holds}
+use Rattle.shares.specs.Holds.{Sized, At, InShare}
 use Rattle.shares.specs.Back.{recAt, next, usedRecs, groupAt}
 use Rattle.shares.specs.Places.{skip, placeIn, placeOf, headAt}
 use Rattle.rules.proofs.Split.{pick-true}
@@ -28,10 +28,10 @@ use Rattle.shares.proofs.Blocks.{block-stands, length-groupAt, small-gr
 
 -- a record that ends no later than at e
 unfoldable pub Whole : List ℕ → ℕ → ℕ → Rec → Type 0
-Whole xs p e r = Stands xs p (recordBytes r) × (p + 2 * recordWords r ≤ e)
+Whole xs p e r = BytesAt xs p (recordBytes r) × (p + 2 * recordWords r ≤ e)
 
-skip-stands : (xs : List ℕ) (e : ℕ) (f t : List Rec) (p : ℕ) → p + 2 * wordsOf f ≤ e → Stands xs p (bytesOf (f ++ t))
-    → (skip xs e p (length f) ≡ p + 2 * wordsOf f) × Stands xs (p + 2 * wordsOf f) (bytesOf t)
+skip-stands : (xs : List ℕ) (e : ℕ) (f t : List Rec) (p : ℕ) → p + 2 * wordsOf f ≤ e → BytesAt xs p (bytesOf (f ++ t))
+    → (skip xs e p (length f) ≡ p + 2 * wordsOf f) × BytesAt xs (p + 2 * wordsOf f) (bytesOf t)
 unfolding skip wordsOf bytesOf
 skip-stands xs e [] t p l h = let z : p + 2 * 0 ≡ p = omega arith in rw z (refl, h)
 skip-stands xs e (r ∷ f) t p l h =
@@ -42,7 +42,7 @@ skip-stands xs e (r ∷ f) t p l h =
     rw (pick-true (leb (p + 6) e) (skip xs e (next xs p) (length f)) e (le-leb (p + 6) e (omega (arith, recordWords-least r))), q, z) y
 
 -- in a block that holds rs
-skip-image : (xs : List ℕ) (a n : ℕ) (rs : List Rec) (i : ℕ) (d : Rec) → 4 + 2 * wordsOf rs ≤ n → Stands xs a (image n rs) → i < length rs
+skip-image : (xs : List ℕ) (a n : ℕ) (rs : List Rec) (i : ℕ) (d : Rec) → 4 + 2 * wordsOf rs ≤ n → BytesAt xs a (image rs) → i < length rs
     → Whole xs (skip xs (a + n) (a + 4) i) (a + n) (getD rs i d)
 unfolding Whole wordsOf bytesOf
 skip-image xs a n rs i d l h k =
@@ -52,13 +52,13 @@ skip-image xs a n rs i d l h k =
     let e : rs ≡ f ++ (r ∷ t) = split-at rs i d k in
     let m : length f ≡ i = length-take-le i rs (omega arith) in
     let w : wordsOf rs ≡ wordsOf f + (recordWords r + wordsOf t) = ap wordsOf e ∙ wordsOf-append f (r ∷ t) in
-    let b : Stands xs (a + 4) (bytesOf (f ++ (r ∷ t))) = rw e at (apart xs a n rs h .recs) in
+    let b : BytesAt xs (a + 4) (bytesOf (f ++ (r ∷ t))) = rw e at (apart xs a rs h .recs) in
     let y = skip-stands xs (a + n) f (r ∷ t) (a + 4) (omega arith) b in
     let s : skip xs (a + n) (a + 4) i ≡ a + 4 + 2 * wordsOf f = ap (skip xs (a + n) (a + 4)) (sym m) ∙ y .0 in
     rw s (left (recordBytes r) (bytesOf t) xs (a + 4 + 2 * wordsOf f) (y .1), omega arith)
 
 -- the record that has u before it since the start of the oldest block
-pub placeOf-stands : (g : Geo) (s : Store) → Sized g → Holds g s → (u : ℕ) (d : Rec) → u < used s
+pub placeOf-stands : (g : Geo) (s : Store) → Sized g → InShare g s → (u : ℕ) (d : Rec) → u < used s
     → Whole (s .share) (placeOf g (s .share) (s .block) u) ((s .block + u / g .factor) % g .blocks * blockBytes g + blockBytes g) (getD (usedRecs g s) u d)
 unfolding placeOf placeIn groupAt
 placeOf-stands g s o h u d l =
@@ -75,7 +75,7 @@ placeOf-stands g s o h u d l =
     rw e at y
 
 -- the record that has i before it among those held
-pub placeOf-held : (g : Geo) (s : Store) → Sized g → Holds g s → (i : ℕ) (d : Rec) → i < length (s .recs)
+pub placeOf-held : (g : Geo) (s : Store) → Sized g → InShare g s → (i : ℕ) (d : Rec) → i < length (s .recs)
     → recAt (s .share) (placeOf g (s .share) (s .block) (s .spent + i)) ≡ getD (s .recs) i d
 unfolding used Whole
 placeOf-held g s o h i d l =
@@ -84,14 +84,14 @@ placeOf-held g s o h i d l =
     let y = placeOf-stands g s o h u d (omega arith) in
     recAt-stands (s .share) (placeOf g (s .share) (s .block) u) (getD (usedRecs g s) u d) (omega (arith, y .1, h .long, ring-inside g o (s .block + u / g .factor))) (y .0) ∙ e
 
-placeOf-head : (g : Geo) (s : Store) → Sized g → Holds g s → placeOf g (s .share) (s .block) (s .spent) ≡ headAt g s
+placeOf-head : (g : Geo) (s : Store) → Sized g → InShare g s → placeOf g (s .share) (s .block) (s .spent) ≡ headAt g s
 unfolding placeOf headAt
 placeOf-head g s o h =
     let v : s .spent < g .factor = spent-most g s o h in
     rw (div-eq-of-lt v, mod-eq-of-lt v, add-zero, mod-eq-of-lt (h .block))
 
 -- the oldest record held stands whole in the oldest block
-pub headAt-stands : (g : Geo) (s : Store) (r : Rec) (rest : List Rec) → Sized g → Holds g s → s .recs ≡ r ∷ rest
+pub headAt-stands : (g : Geo) (s : Store) (r : Rec) (rest : List Rec) → Sized g → InShare g s → s .recs ≡ r ∷ rest
     → Whole (s .share) (headAt g s) (s .block * blockBytes g + blockBytes g) r
 unfolding used
 headAt-stands g s r rest o h e =
@@ -102,7 +102,7 @@ headAt-stands g s r rest o h e =
     let y = placeOf-stands g s o h (s .spent) r (omega (arith, ap length e)) in
     rw (placeOf-head g s o h, z, div-eq-of-lt v, add-zero (s .block), mod-eq-of-lt (h .block)) at y
 
-pub headAt-read : (g : Geo) (s : Store) (r : Rec) (rest : List Rec) → Sized g → Holds g s → s .recs ≡ r ∷ rest → recAt (s .share) (headAt g s) ≡ r
+pub headAt-read : (g : Geo) (s : Store) (r : Rec) (rest : List Rec) → Sized g → InShare g s → s .recs ≡ r ∷ rest → recAt (s .share) (headAt g s) ≡ r
 unfolding Whole
 headAt-read g s r rest o h e =
     let y = headAt-stands g s r rest o h e in
@@ -126,15 +126,15 @@ full-at g xs k i (q ∷ qs) l c b a e =
     let f = take i q in
     let t = drop i q in
     let z : f ++ t ≡ q = take-append-drop i q in
-    let y : Stands xs p (image (blockBytes g) q) = rw (mod-eq-of-lt l) at (a .1) in
+    let y : BytesAt xs p (image q) = rw (mod-eq-of-lt l) at (a .1) in
     let n : length f ≡ i = length-take-le i q (omega arith) in
-    let u : wordsOf q ≡ length q * m = omega (arith, e, image-used xs p (blockBytes g) q y, ap (λ (x : ℕ). x * m) (image-put xs p (blockBytes g) q y)) in
+    let u : wordsOf q ≡ length q * m = omega (arith, e, image-used xs p q y, ap (λ (x : ℕ). x * m) (image-put xs p q y)) in
     let v : wordsOf f ≡ length f * m = full-part m f t (rw z u) (all-take (λ (r : Rec). recordWords r ≤ m) i q (a .0)) (all-drop (λ (r : Rec). recordWords r ≤ m) i q (a .0)) in
     let w : wordsOf q ≡ wordsOf f + wordsOf t = ap wordsOf (sym z) ∙ wordsOf-append f t in
-    let r = skip-stands xs (p + blockBytes g) f t (p + 4) (omega (arith, block-fits g q (c .1) (a .0))) (rw z (apart xs p (blockBytes g) q y .recs)) in
+    let r = skip-stands xs (p + blockBytes g) f t (p + 4) (omega (arith, block-fits g q (c .1) (a .0))) (rw z (apart xs p q y .recs)) in
     ap (skip xs (p + blockBytes g) (p + 4)) (sym n) ∙ (r .0 ∙ omega (arith, v, ap (λ (x : ℕ). x * m) n))
 
-pub headAt-full : (g : Geo) (s : Store) → Holds g s
+pub headAt-full : (g : Geo) (s : Store) → InShare g s
     → wordAt (s .share) (s .block * blockBytes g + 2) ≡ 2 + wordAt (s .share) (s .block * blockBytes g) * (g .words + 3)
     → headAt g s ≡ s .block * blockBytes g + 4 + s .spent * (2 * (g .words + 3))
 unfolding headAt

@@ -2,13 +2,14 @@
 use Prim.Native.Nat.{ℕ, zero, suc, _+_, _*_, _/_, _%_, _≤_, _<_}
 use mathlib.Core.Path.{_≡_, refl, sym, ap, _∙_}
 use mathlib.Core.List.{List, [], _∷_, _++_}
+use mathlib.Core.Logic.{_⊎_, inl, inr}
 use native.Mathlib.Omega.{arith}
 use native.Mathlib.Nat.{suc-mul, mul-comm, mod-lt, div-add-mod', div-lt-iff-lt-mul}
 use lib.Dec.{ltb, eqb}
 use lib.ListN.{length, drop}
 use lib.Seq.{sets, length-sets, drop-append-le}
 use borrow.Author.Tests.{lt-ltb, le-ltb, ne-eqb}
-use Rattle.words.proofs.Stands.{Stands, Within, within-then, kept}
+use Rattle.words.proofs.Stands.{BytesAt, Within, within-then, kept}
 use Rattle.rules.specs.Limits.{shareBytes}
 use Rattle.rules.specs.State.{Rec, Geo, Store}
 use Rattle.rules.specs.Geometry.{capacity}
@@ -16,7 +17,7 @@ use Rattle.rules.specs.Store.{used, recordWords, blockBytes, zeroed, added, tai
 use Rattle.shares.specs.Image.{wordsOf, image}
 use Rattle.shares.specs.Inscribed.{inscribedAt}
 use Rattle.shares.specs.Groups.{All, flat, Shape, addTo}
-use Rattle.shares.specs.Holds.{Sized, At, Holds}
+use Rattle.shares.specs.Holds.{Sized, At, InShare}
 use Rattle.rules.proofs.Split.{both, pick-true, pick-false}
 use Rattle.shares.proofs.Added.{zeroed-stands, zeroed-within, length-added, added-stands, added-within}
 use Rattle.shares.proofs.Says.{used-flat}
@@ -29,7 +30,7 @@ length-inscribedAt n xs a i r = length-added _ a r ∙ both (λ (ys : List ℕ).
 
 -- all that a put changes lies in its block, which then holds the record
 unfoldable pub Inscribed : ℕ → List ℕ → List ℕ → ℕ → List Rec → Type 0
-Inscribed n xs ys a rs = Stands ys a (image n rs) × Within xs ys a n
+Inscribed n xs ys a rs = BytesAt ys a (image rs) × Within xs ys a n
 
 -- a block's first record
 pub inscribed-first : (n : ℕ) (xs : List ℕ) (a : ℕ) (r : Rec) → 4 + 2 * recordWords r ≤ n → a + n ≤ length xs
@@ -37,7 +38,7 @@ pub inscribed-first : (n : ℕ) (xs : List ℕ) (a : ℕ) (r : Rec) → 4 + 2 * 
 unfolding inscribedAt wordsOf Inscribed
 inscribed-first n xs a r f h =
     let ys = sets xs a (zeroed n) in
-    let o : Stands ys a (image n []) = zeroed-stands n a xs (omega arith) h in
+    let o : BytesAt ys a (image []) = zeroed-stands n a xs (omega arith) h in
     let l : length ys ≡ length xs = length-sets xs a (zeroed n) in (
       added-stands ys a n [] r (omega arith) (omega arith) o,
       within-then xs ys (added ys a r) a n (zeroed-within n a xs (omega arith)) (added-within ys a n [] r (omega arith) o),
@@ -45,12 +46,17 @@ inscribed-first n xs a r f h =
 
 -- a record put after others
 pub inscribed-next : (n : ℕ) (xs : List ℕ) (a i : ℕ) (rs : List Rec) (r : Rec) → 1 ≤ i → 4 + 2 * (wordsOf rs + recordWords r) ≤ n → a + n ≤ length xs
-    → Stands xs a (image n rs)
+    → BytesAt xs a (image rs)
     → Inscribed n xs (inscribedAt n xs a i r) a (rs ++ (r ∷ []))
 unfolding inscribedAt Inscribed
 inscribed-next n xs a i rs r z f h s =
     rw (pick-false (eqb i 0) (sets xs a (zeroed n)) xs (ne-eqb i 0 (λ e. omega arith)))
     (added-stands xs a n rs r f h s, added-within xs a n rs r f s)
+
+-- what is no longer than a block stands apart from another block
+shorter : (b m n a : ℕ) → m ≤ n → (b + n ≤ a) ⊎ (a + n ≤ b) → (b + m ≤ a) ⊎ (a + n ≤ b)
+shorter b m n a h (inl k) = inl (omega arith)
+shorter b m n a h (inr k) = inr k
 
 -- Where the groups have j * factor + i records, one more goes to the block j further on.
 module _ (g : Geo) (o : Sized g) (r : Rec) (w : recordWords r ≤ g .words + 3) (xs : List ℕ) (l : length xs ≡ shareBytes) (i : ℕ) (p : i < g .factor) where
@@ -81,10 +87,10 @@ module _ (g : Geo) (o : Sized g) (r : Rec) (w : recordWords r ≤ g .words + 3) 
       let f : k + suc j ≡ suc k + j = omega arith in
       let c = shape-full (g .factor) j i t qs s u in
       let y = at-put qs (suc k) j (c .1) (s .3) (omega arith) (a .2) in
-      let z : length (image (blockBytes g) t) ≡ blockBytes g = length-block g t (s .1) (a .0) in
+      let z : length (image t) ≤ blockBytes g = length-block g t (s .1) (a .0) in
       let d = ring-apart (g .blocks) (blockBytes g) k (suc k + j) (omega arith) (omega arith) in
       rw (f, pick-false (ltb (length t) (g .factor)) ((t ++ (r ∷ [])) ∷ qs) (t ∷ addTo (g .factor) qs r) (le-ltb (length t) (g .factor) (omega (arith, c .0)))) (
-        (a .0, kept (image (blockBytes g) t) xs (after (suc k + j)) (place k) (place (suc k + j)) (blockBytes g) (y .1) (rw z d) (a .1), y .0),
+        (a .0, kept (image t) xs (after (suc k + j)) (place k) (place (suc k + j)) (blockBytes g) (y .1) (shorter (place k) (length (image t)) (blockBytes g) (place (suc k + j)) z d) (a .1), y .0),
         y .1,
       )
 
@@ -96,14 +102,14 @@ pub length-inscribed : (g : Geo) (r : Rec) (s : Store) → length (inscribed g r
 length-inscribed g r s = ap length (inscribed-at g r s) ∙ length-inscribedAt (blockBytes g) (s .share) (tail g s) (used s % g .factor) r
 
 -- a store to which r was put
-pub record Grown (g : Geo) (r : Rec) (s : Store) (h : Holds g s) : Type 0 where
-  pub holds : Holds g (put g r s)
+pub record Grown (g : Geo) (r : Rec) (s : Store) (h : InShare g s) : Type 0 where
+  pub holds : InShare g (put g r s)
   pub more : flat (holds .groups) ≡ flat (h .groups) ++ (r ∷ [])
   -- all that changed lies in the block that took it
   pub within : Within (s .share) (inscribed g r s) (tail g s) (blockBytes g)
 
 pub grown-put : (g : Geo) (r : Rec) (s : Store) → Sized g → recordWords r ≤ g .words + 3 → used s < capacity (g .factor) (g .blocks)
-    → (h : Holds g s)
+    → (h : InShare g s)
     → Grown g r s h
 unfolding put inscribed readied inscribedAt tail capacity
 grown-put g r s o w c h =
@@ -131,6 +137,6 @@ grown-put g r s o w c h =
     }
 
 -- where the ring has a place for one more
-pub holds-put : (g : Geo) (r : Rec) (s : Store) → Sized g → recordWords r ≤ g .words + 3 → used s < capacity (g .factor) (g .blocks) → Holds g s
-    → Holds g (put g r s)
+pub holds-put : (g : Geo) (r : Rec) (s : Store) → Sized g → recordWords r ≤ g .words + 3 → used s < capacity (g .factor) (g .blocks) → InShare g s
+    → InShare g (put g r s)
 holds-put g r s o w c h = grown-put g r s o w c h .holds

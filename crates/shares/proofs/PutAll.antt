@@ -8,7 +8,7 @@ use Rattle.rules.specs.State.{Rec, Geo, Store}
 use Rattle.rules.specs.Geometry.{capacity}
 use Rattle.rules.specs.Store.{used, emptyStore, put, putAll}
 use Rattle.shares.specs.Groups.{All, Small}
-use Rattle.shares.specs.Holds.{Sized, Holds}
+use Rattle.shares.specs.Holds.{Sized, InShare}
 use Rattle.shares.proofs.Holds.{holds-empty}
 use Rattle.shares.proofs.Put.{holds-put}
 
@@ -17,8 +17,8 @@ unfolding used put
 used-put g r s = omega (arith, length-append (s .recs) (r ∷ []))
 
 pub holds-putAll : (g : Geo) (rs : List Rec) (s : Store) → Sized g → Small (g .words + 3) rs → used s + length rs ≤ capacity (g .factor) (g .blocks)
-    → Holds g s
-    → Holds g (putAll g rs s)
+    → InShare g s
+    → InShare g (putAll g rs s)
 unfolding putAll All
 holds-putAll g [] s o m c h = h
 holds-putAll g (r ∷ rs) s o m c h = holds-putAll g rs (put g r s) o (m .1) (omega (arith, used-put g r s)) (holds-put g r s o (m .0) (omega arith) h)
@@ -40,6 +40,6 @@ spent-putAll g (r ∷ rs) s = spent-putAll g rs (put g r s)
 
 -- "Load packs the records from the share's first block"
 pub holds-loaded : (g : Geo) (rs : List Rec) → Sized g → Small (g .words + 3) rs → length rs ≤ capacity (g .factor) (g .blocks)
-    → Holds g (putAll g rs emptyStore)
+    → InShare g (putAll g rs emptyStore)
 unfolding emptyStore used
 holds-loaded g rs o m c = holds-putAll g rs emptyStore o m (omega arith) (holds-empty g o)

@@ -79,8 +79,8 @@ block-fits-more g rs r k s w =
     let e : suc (length rs) * m ≤ g .factor * m = mul-le-mul-right m k in
     omega (arith, wordsOf-small m rs s, suc-mul (length rs) m, blockBytes-places g)
 
-pub length-block : (g : Geo) (rs : List Rec) → length rs ≤ g .factor → Small (g .words + 3) rs → length (image (blockBytes g) rs) ≡ blockBytes g
-length-block g rs k s = length-image (blockBytes g) rs (block-fits g rs k s)
+pub length-block : (g : Geo) (rs : List Rec) → length rs ≤ g .factor → Small (g .words + 3) rs → length (image rs) ≤ blockBytes g
+length-block g rs k s = omega (arith, length-image rs, block-fits g rs k s)
 
 -- the count of blocks begins anew
 pub at-mod : (g : Geo) (xs : List ℕ) (k l : ℕ) (qs : List (List Rec)) → k % g .blocks ≡ l % g .blocks → At g xs k qs → At g xs l qs

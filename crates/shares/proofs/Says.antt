@@ -9,10 +9,10 @@ use Rattle.rules.specs.State.{Rec, Geo, Store}
 use Rattle.rules.specs.Geometry.{capacity}
 use Rattle.rules.specs.Store.{used}
 use Rattle.shares.specs.Groups.{All, Small, flat, Shape, Begun}
-use Rattle.shares.specs.Holds.{Sized, At, Holds}
+use Rattle.shares.specs.Holds.{Sized, At, InShare}
 use Rattle.shares.proofs.Groups.{begun-flat, all-append, all-drop}
 
-pub used-flat : (g : Geo) (s : Store) (h : Holds g s) → used s ≡ length (flat (h .groups))
+pub used-flat : (g : Geo) (s : Store) (h : InShare g s) → used s ≡ length (flat (h .groups))
 unfolding used
 used-flat g s h = omega (arith, ap length (h .recs), length-drop (s .spent) (flat (h .groups)), begun-flat (s .spent) (h .groups) (h .begun))
 
@@ -21,7 +21,7 @@ unfolding Shape flat
 length-flat b [] s = omega arith
 length-flat b (q ∷ qs) s = omega (arith, length-append q (flat qs), length-flat b qs (s .3), s .1, suc-mul (length qs) b)
 
-pub used-most : (g : Geo) (s : Store) → Holds g s → used s ≤ capacity (g .factor) (g .blocks)
+pub used-most : (g : Geo) (s : Store) → InShare g s → used s ≤ capacity (g .factor) (g .blocks)
 unfolding capacity
 used-most g s h =
     let e : length (h .groups) * g .factor ≤ g .blocks * g .factor = mul-le-mul-right (g .factor) (h .few) in
@@ -32,7 +32,7 @@ unfolding Shape Begun
 spent-groups b sp [] o s h = omega arith
 spent-groups b sp (q ∷ qs) o s h = omega (arith, s .1)
 
-pub spent-most : (g : Geo) (s : Store) → Sized g → Holds g s → s .spent < g .factor
+pub spent-most : (g : Geo) (s : Store) → Sized g → InShare g s → s .spent < g .factor
 spent-most g s o h = spent-groups (g .factor) (s .spent) (h .groups) (o .factor) (h .shape) (h .begun)
 
 spent-gone : (sp : ℕ) (qs : List (List Rec)) → Begun sp qs → length (flat qs) ≤ sp → sp ≡ 0
@@ -41,7 +41,7 @@ spent-gone sp [] h l = h
 spent-gone sp (q ∷ qs) h l = absurd (omega (arith, length-append q (flat qs)))
 
 -- "A file that becomes empty has used = 0"
-pub spent-empty : (g : Geo) (s : Store) → Holds g s → s .recs ≡ [] → s .spent ≡ 0
+pub spent-empty : (g : Geo) (s : Store) → InShare g s → s .recs ≡ [] → s .spent ≡ 0
 spent-empty g s h e = spent-gone (s .spent) (h .groups) (h .begun) (omega (arith, length-drop (s .spent) (flat (h .groups)), ap length (h .recs ∙ e)))
 
 all-flat : (g : Geo) (xs : List ℕ) (k : ℕ) (qs : List (List Rec)) → At g xs k qs → Small (g .words + 3) (flat qs)
@@ -50,8 +50,8 @@ all-flat g xs k [] a = tt
 all-flat g xs k (q ∷ qs) a = all-append _ q (flat qs) (a .0) (all-flat g xs (suc k) qs (a .2))
 
 -- no record in a held block is longer than its place
-pub small-flat : (g : Geo) (s : Store) (h : Holds g s) → Small (g .words + 3) (flat (h .groups))
+pub small-flat : (g : Geo) (s : Store) (h : InShare g s) → Small (g .words + 3) (flat (h .groups))
 small-flat g s h = all-flat g (s .share) (s .block) (h .groups) (h .at)
 
-pub small-recs : (g : Geo) (s : Store) → Holds g s → Small (g .words + 3) (s .recs)
+pub small-recs : (g : Geo) (s : Store) → InShare g s → Small (g .words + 3) (s .recs)
 small-recs g s h = rw (← h .recs) (all-drop _ (s .spent) (flat (h .groups)) (small-flat g s h))

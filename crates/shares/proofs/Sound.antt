@@ -14,7 +14,7 @@ use Rattle.rules.specs.Limits.{shareBytes}
 use Rattle.rules.specs.State.{Rec, Geo, Store}
 use Rattle.rules.specs.Store.{used, blockBytes}
 use Rattle.shares.specs.Groups.{All, flat, Shape, Begun}
-use Rattle.shares.specs.Holds.{Sized, At, Holds}
+use Rattle.shares.specs.Holds.{Sized, At, InShare}
 use Rattle.shares.specs.Back.{blockRecs, ringRecs, usedRecs, readBack}
 use Rattle.shares.specs.Laid.{GoodRec, laid}
 use Rattle.shares.specs.Sound.{sweep, sound, storeAt}
@@ -86,7 +86,7 @@ sweep-true g xs (q ∷ qs) k (suc n) left s f c a t =
     ∙ true-and (laid g xs p && eqb (wordAt xs p) (min left (g .factor))) (sweep g xs (suc k) n (left - g .factor))
     (true-and (laid g xs p) (eqb (wordAt xs p) (min left (g .factor)))
     (laid-true g xs p q (block-fits g q (s .1) (a .0)) (a .0) tq (a .1))
-    (eq-eqb (wordAt xs p) (min left (g .factor)) (image-put xs p (blockBytes g) q (a .1) ∙ e .0)))
+    (eq-eqb (wordAt xs p) (min left (g .factor)) (image-put xs p q (a .1) ∙ e .0)))
     (sweep-true g xs qs (suc k) n (left - g .factor) (s .3) (omega arith) (e .1) (a .2) tqs)
 
 -- the count of blocks may begin anew
@@ -109,7 +109,7 @@ swept-begun b spent held (q ∷ qs) s c (inr e) = by-cases (ltb (length q) b)
 
 -- the store that a share stands for which passes
 pub sound-holds : (g : Geo) (xs : List ℕ) (block spent held : ℕ) → Sized g → Bytes xs → length xs ≡ shareBytes → sound g xs block spent held ≡ true
-    → Holds g (storeAt g xs block spent held) × All GoodRec (usedRecs g (storeAt g xs block spent held)) × (length (readBack g xs block spent held) ≡ held)
+    → InShare g (storeAt g xs block spent held) × All GoodRec (usedRecs g (storeAt g xs block spent held)) × (length (readBack g xs block spent held) ≡ held)
 unfolding sound storeAt readBack
 sound-holds g xs block spent held o b l h =
     let p = and-true (ltb block (g .blocks) && (eqb spent 0 || (ltb spent (g .factor) && ltb 0 held))) (sweep g xs block (g .blocks) (spent + held)) h in
@@ -122,7 +122,7 @@ sound-holds g xs block spent held o b l h =
     let r : take held (drop spent (ringRecs g xs block (g .blocks))) ≡ drop spent (flat (y .groups)) =
     ap (λ (rs : List Rec). take held (drop spent rs)) (ringRecs-at g o xs l (y .groups) block (g .blocks) e (omega (arith, y .few)) (y .shape) (y .at))
     ∙ (ap (take held) (drop-append-le spent (flat (y .groups)) z (omega (arith, y .count))) ∙ take-at (drop spent (flat (y .groups))) z held m) in
-    let k : Holds g (storeAt g xs block spent held) = record {
+    let k : InShare g (storeAt g xs block spent held) = record {
       long = l;
       block = ltb-true block (g .blocks) (q .0);
       groups = y .groups;
@@ -141,7 +141,7 @@ sound-holds g xs block spent held o b l h =
         inr (ltb-true spent (g .factor) (y .0), ltb-true 0 held (y .1))
 
 -- all that holds proper records passes
-pub holds-sound : (g : Geo) (s : Store) → Sized g → Holds g s → All GoodRec (usedRecs g s)
+pub holds-sound : (g : Geo) (s : Store) → Sized g → InShare g s → All GoodRec (usedRecs g s)
     → sound g (s .share) (s .block) (s .spent) (length (s .recs)) ≡ true
 unfolding sound used
 holds-sound g s o h t =

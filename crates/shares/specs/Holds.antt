@@ -3,7 +3,7 @@ use Prim.Native.Nat.{ℕ, suc, _+_, _*_, _%_, _≤_, _<_}
 use mathlib.Core.Path.{_≡_}
 use mathlib.Core.List.{List, [], _∷_}
 use lib.ListN.{length, drop}
-use Rattle.words.proofs.Stands.{Stands}
+use Rattle.words.proofs.Stands.{BytesAt}
 use Rattle.rules.specs.Limits.{shareWords, shareBytes}
 use Rattle.rules.specs.State.{Rec, Geo, Store}
 use Rattle.rules.specs.Geometry.{blockSize}
@@ -20,10 +20,10 @@ pub record Sized (g : Geo) : Type 0 where
 -- the groups lie in the blocks of the ring, starting at block k modulo the number of blocks, no record longer than its place
 unfoldable pub At : Geo → List ℕ → ℕ → List (List Rec) → Type 0
 At g xs k [] = Unit {0}
-At g xs k (q ∷ qs) = Small (g .words + 3) q × Stands xs (k % g .blocks * blockBytes g) (image (blockBytes g) q) × At g xs (suc k) qs
+At g xs k (q ∷ qs) = Small (g .words + 3) q × BytesAt xs (k % g .blocks * blockBytes g) (image q) × At g xs (suc k) qs
 
 -- the share holds the store: `groups` are the records held, and before them those of the oldest block that are spent
-pub record Holds (g : Geo) (s : Store) : Type 0 where
+pub record InShare (g : Geo) (s : Store) : Type 0 where
   pub long : length (s .share) ≡ shareBytes
   pub block : s .block < g .blocks
   pub groups : List (List Rec)

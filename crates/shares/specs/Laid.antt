@@ -1,11 +1,11 @@
 -- Whether a block's bytes are laid out as document 01 says: a test of the bytes alone.
-use Prim.Native.Nat.{ℕ, zero, suc, _+_, _-_, _*_, _%_, _≤_}
+use Prim.Native.Nat.{ℕ, zero, suc, _+_, _*_, _%_, _≤_}
 use mathlib.Core.Bool.{Bool, true, false, _&&_, _||_}
 use mathlib.Core.Path.{_≡_}
 use mathlib.Core.List.{List, []}
 use lib.Dec.{leb, eqb}
 use lib.ListN.{getD}
-use Rattle.words.specs.Word.{wordAt, quiet}
+use Rattle.words.specs.Word.{wordAt}
 use Rattle.rules.specs.Limits.{mostType}
 use Rattle.rules.specs.State.{Rec, Geo}
 use Rattle.rules.specs.Store.{blockBytes}
@@ -29,9 +29,9 @@ fair words xs e p =
     && (eqb (wordAt xs (p + 2)) 0 || eqb (wordAt xs p) 4)
     && (eqb (wordAt xs p % 2) 0 || eqb (getD xs (p + 2 + wordAt xs p) 0) 0)
 
--- whether n proper records lie one after another from p, the last ends at `end`, and all is zero from there to e
+-- whether n proper records lie one after another from p, each whole before e, and the last ends at `end`
 unfoldable pub walk : ℕ → List ℕ → ℕ → ℕ → ℕ → ℕ → Bool
-walk words xs e end p zero = eqb p end && quiet xs p (e - p)
+walk words xs e end p zero = eqb p end
 walk words xs e end p (suc n) = elim (fair words xs e p) [ true ↦ walk words xs e end (next xs p) n | false ↦ false ]
 
 -- whether the block that begins at `at` is laid out so: "word 0 records put, word 1 words used with these two"

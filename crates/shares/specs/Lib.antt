@@ -6,3 +6,4 @@ pub mod Back
 pub mod Places
 pub mod Laid
 pub mod Sound
+pub mod Tails

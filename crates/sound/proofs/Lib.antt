@@ -1,5 +1,4 @@
 pub mod Bytes
 pub mod Steps
 pub mod Geometries
-pub mod Unused
 pub mod Whole

@@ -8,13 +8,12 @@ use native.Mathlib.Numerals.{add-one}
 use borrow.Author.Tests.{lt-ltb, le-ltb, eq-eqb, ne-eqb, not-true, not-false, ltb-true}
 use lib.Dec.{eqb}
 use lib.ListN.{getD, set}
-use Rattle.words.specs.Word.{quiet}
-use Rattle.rules.specs.Limits.{files, places, entries, bufferBytes}
+use Rattle.rules.specs.Limits.{files, places, entries}
 use Rattle.segment.specs.Layout.{nil, linkAt, dataAt, replyPort}
 use Rattle.segment.specs.Table.{nth}
 use Rattle.accessors.specs.Outstanding.{queueOf}
 use Rattle.sound.specs.Rows.{zeroWords, placeOk, placesOk}
-use Rattle.sound.specs.Walks.{Walked, entryWord, placeIn, restZero, walked, freeEntry, readEntry, writeEntry, portEntry, timerEntry, freeWalk, queueWalk, timerWalk, portWalk, andThen, queueWalks, portWalks, allMet}
+use Rattle.sound.specs.Walks.{Walked, entryWord, placeIn, walked, freeEntry, readEntry, writeEntry, portEntry, timerEntry, freeWalk, queueWalk, timerWalk, portWalk, andThen, queueWalks, portWalks, allMet}
 use Rattle.sound.specs.Parts.{owned}
 
 -- what a test says that was called, and held or did not
@@ -61,11 +60,6 @@ unfolding owned placeIn entryWord
 owned-place s busy side f e v k h =
     rw (k) (ltb-true (nth s (dataAt e + 0)) (files * places) (and-first _ _ (and-first _ _ (and-first _ _ h))))
 
--- the rest of a buffer after its end
-pub rest-none : (bufs : List ℕ) (i n : ℕ) → bufferBytes < n → restZero bufs i n ≡ true
-unfolding restZero quiet
-rest-none bufs i n h = let z : bufferBytes - n ≡ 0 = omega arith in rw z
-
 -- The walks of lists. They have one shape: the entry v at slot p is past the entries, was met or fails its list's test, or passes it.
 
 module _ (s : List ℕ) (p : ℕ) (seen busy : List ℕ) where
@@ -94,30 +88,30 @@ module _ (s : List ℕ) (p : ℕ) (seen busy : List ℕ) where
     pub free-step : (n : ℕ) → 0 < n → v < entries → (eqb (getD seen v 0) 0 && freeEntry s v) ≡ true → freeWalk s p seen busy n ≡ freeWalk s (linkAt v) (set seen v 1) busy (n - 1)
     free-step n a h d = rw e (free-step′ n a (rw e at h) (rw e at d))
 
-module _ (s bufs : List ℕ) (side f p : ℕ) (seen busy : List ℕ) where
-  queue-end′ : (n : ℕ) → 0 < n → entries ≤ nth s p → queueWalk s bufs side f p seen busy n ≡ walked (eqb (nth s p) nil) seen busy
+module _ (s : List ℕ) (side f p : ℕ) (seen busy : List ℕ) where
+  queue-end′ : (n : ℕ) → 0 < n → entries ≤ nth s p → queueWalk s side f p seen busy n ≡ walked (eqb (nth s p) nil) seen busy
   unfolding queueWalk
   queue-end′ zero a h = absurd (omega arith)
   queue-end′ (suc n) a h = rw (le-ltb (nth s p) entries h, queueWalk)
 
-  queue-bad′ : (n : ℕ) → 0 < n → nth s p < entries → (eqb (getD seen (nth s p) 0) 0 && cond (eqb side 1) (readEntry s bufs busy f (nth s p)) (writeEntry s bufs busy f (nth s p))) ≡ false → queueWalk s bufs side f p seen busy n ≡ walked false seen busy
+  queue-bad′ : (n : ℕ) → 0 < n → nth s p < entries → (eqb (getD seen (nth s p) 0) 0 && cond (eqb side 1) (readEntry s busy f (nth s p)) (writeEntry s busy f (nth s p))) ≡ false → queueWalk s side f p seen busy n ≡ walked false seen busy
   unfolding queueWalk
   queue-bad′ zero a h d = absurd (omega arith)
   queue-bad′ (suc n) a h d = rw (lt-ltb (nth s p) entries h, d, queueWalk)
 
-  queue-step′ : (n : ℕ) → 0 < n → nth s p < entries → (eqb (getD seen (nth s p) 0) 0 && cond (eqb side 1) (readEntry s bufs busy f (nth s p)) (writeEntry s bufs busy f (nth s p))) ≡ true → queueWalk s bufs side f p seen busy n ≡ queueWalk s bufs side f (linkAt (nth s p)) (set seen (nth s p) 1) (set busy (placeIn s (nth s p)) 1) (n - 1)
+  queue-step′ : (n : ℕ) → 0 < n → nth s p < entries → (eqb (getD seen (nth s p) 0) 0 && cond (eqb side 1) (readEntry s busy f (nth s p)) (writeEntry s busy f (nth s p))) ≡ true → queueWalk s side f p seen busy n ≡ queueWalk s side f (linkAt (nth s p)) (set seen (nth s p) 1) (set busy (placeIn s (nth s p)) 1) (n - 1)
   unfolding queueWalk
   queue-step′ zero a h d = absurd (omega arith)
   queue-step′ (suc n) a h d = let m : suc n - 1 ≡ n = omega arith in rw (m, lt-ltb (nth s p) entries h, d, queueWalk)
 
   module _ (v : ℕ) (e : v ≡ nth s p) where
-    pub queue-end : (n : ℕ) → 0 < n → entries ≤ v → queueWalk s bufs side f p seen busy n ≡ walked (eqb v nil) seen busy
+    pub queue-end : (n : ℕ) → 0 < n → entries ≤ v → queueWalk s side f p seen busy n ≡ walked (eqb v nil) seen busy
     queue-end n a h = rw e (queue-end′ n a (rw e at h))
 
-    pub queue-bad : (n : ℕ) → 0 < n → v < entries → (eqb (getD seen v 0) 0 && cond (eqb side 1) (readEntry s bufs busy f v) (writeEntry s bufs busy f v)) ≡ false → queueWalk s bufs side f p seen busy n ≡ walked false seen busy
+    pub queue-bad : (n : ℕ) → 0 < n → v < entries → (eqb (getD seen v 0) 0 && cond (eqb side 1) (readEntry s busy f v) (writeEntry s busy f v)) ≡ false → queueWalk s side f p seen busy n ≡ walked false seen busy
     queue-bad n a h d = queue-bad′ n a (rw e at h) (rw e at d)
 
-    pub queue-step : (n : ℕ) → 0 < n → v < entries → (eqb (getD seen v 0) 0 && cond (eqb side 1) (readEntry s bufs busy f v) (writeEntry s bufs busy f v)) ≡ true → queueWalk s bufs side f p seen busy n ≡ queueWalk s bufs side f (linkAt v) (set seen v 1) (set busy (placeIn s v) 1) (n - 1)
+    pub queue-step : (n : ℕ) → 0 < n → v < entries → (eqb (getD seen v 0) 0 && cond (eqb side 1) (readEntry s busy f v) (writeEntry s busy f v)) ≡ true → queueWalk s side f p seen busy n ≡ queueWalk s side f (linkAt v) (set seen v 1) (set busy (placeIn s v) 1) (n - 1)
     queue-step n a h d = rw e (queue-step′ n a (rw e at h) (rw e at d))
 
 module _ (s : List ℕ) (low p : ℕ) (seen busy : List ℕ) where
@@ -168,15 +162,15 @@ met-step seen (suc n) a d = let m : suc n - 1 ≡ n = omega arith in rw (m, eq-e
 
 -- the place that an entry names was tested
 
-pub queue-place : (s bufs busy : List ℕ) (side f e v : ℕ) → v ≡ nth s (dataAt e + 0)
-    → cond (eqb side 1) (readEntry s bufs busy f e) (writeEntry s bufs busy f e) ≡ true
+pub queue-place : (s busy : List ℕ) (side f e v : ℕ) → v ≡ nth s (dataAt e + 0)
+    → cond (eqb side 1) (readEntry s busy f e) (writeEntry s busy f e) ≡ true
     → v < files * places
 unfolding readEntry writeEntry owned
-queue-place s bufs busy side f e v k h = go (eqb side 1) h
+queue-place s busy side f e v k h = go (eqb side 1) h
   where
-    go : (t : Bool) → cond t (readEntry s bufs busy f e) (writeEntry s bufs busy f e) ≡ true → v < files * places
-    go true r = owned-place s busy 1 f e v k (and-first _ _ (and-first _ _ (and-first _ _ (and-first _ _ (and-first _ _ r)))))
-    go false r = owned-place s busy 2 f e v k (and-first _ _ (and-first _ _ (and-first _ _ (and-first _ _ (and-first _ _ r)))))
+    go : (t : Bool) → cond t (readEntry s busy f e) (writeEntry s busy f e) ≡ true → v < files * places
+    go true r = owned-place s busy 1 f e v k (and-first _ _ (and-first _ _ (and-first _ _ (and-first _ _ r))))
+    go false r = owned-place s busy 2 f e v k (and-first _ _ (and-first _ _ (and-first _ _ (and-first _ _ r))))
 
 pub timer-place : (s busy : List ℕ) (low e v : ℕ) → v ≡ nth s (dataAt e + 0) → timerEntry s busy low e ≡ true → v < files * places
 unfolding timerEntry placeIn entryWord
@@ -207,57 +201,57 @@ then-off w next seen busy e = rw e (then-false next seen busy)
 
 -- the queues of all files
 
-module _ (s bufs : List ℕ) (side f h : ℕ) (e : h ≡ queueOf f side) (seen busy seen′ busy′ : List ℕ) where
-  pub queues-bad : (n : ℕ) → 0 < n → queueWalk s bufs side f h seen busy (entries + 1) ≡ walked false seen′ busy′ → queueWalks s bufs side f seen busy n ≡ walked false seen′ busy′
+module _ (s : List ℕ) (side f h : ℕ) (e : h ≡ queueOf f side) (seen busy seen′ busy′ : List ℕ) where
+  pub queues-bad : (n : ℕ) → 0 < n → queueWalk s side f h seen busy (entries + 1) ≡ walked false seen′ busy′ → queueWalks s side f seen busy n ≡ walked false seen′ busy′
   unfolding queueWalks
   queues-bad zero a w = absurd (omega arith)
   queues-bad (suc n) a w = then-off _ _ seen′ busy′ (rw e at w)
 
-  pub queues-step : (n : ℕ) → 0 < n → queueWalk s bufs side f h seen busy (entries + 1) ≡ walked true seen′ busy′
-      → queueWalks s bufs side f seen busy n ≡ queueWalks s bufs side (f + 1) seen′ busy′ (n - 1)
+  pub queues-step : (n : ℕ) → 0 < n → queueWalk s side f h seen busy (entries + 1) ≡ walked true seen′ busy′
+      → queueWalks s side f seen busy n ≡ queueWalks s side (f + 1) seen′ busy′ (n - 1)
   unfolding queueWalks
   queues-step zero a w = absurd (omega arith)
   queues-step (suc n) a w = let m : suc n - 1 ≡ n = omega arith in rw (m, add-one f) (then-on _ _ seen′ busy′ (rw e at w))
 
 -- the ports of all places
 
-module _ (s bufs : List ℕ) (i : ℕ) (seen busy seen′ busy′ : List ℕ) where
-  pub ports-bad : (n : ℕ) → 0 < n → portWalk s bufs i seen busy ≡ walked false seen′ busy′ → portWalks s bufs i seen busy n ≡ walked false seen′ busy′
+module _ (s : List ℕ) (i : ℕ) (seen busy seen′ busy′ : List ℕ) where
+  pub ports-bad : (n : ℕ) → 0 < n → portWalk s i seen busy ≡ walked false seen′ busy′ → portWalks s i seen busy n ≡ walked false seen′ busy′
   unfolding portWalks
   ports-bad zero a w = absurd (omega arith)
   ports-bad (suc n) a w = then-off _ _ seen′ busy′ w
 
-  pub ports-step : (n : ℕ) → 0 < n → portWalk s bufs i seen busy ≡ walked true seen′ busy′ → portWalks s bufs i seen busy n ≡ portWalks s bufs (i + 1) seen′ busy′ (n - 1)
+  pub ports-step : (n : ℕ) → 0 < n → portWalk s i seen busy ≡ walked true seen′ busy′ → portWalks s i seen busy n ≡ portWalks s (i + 1) seen′ busy′ (n - 1)
   unfolding portWalks
   ports-step zero a w = absurd (omega arith)
   ports-step (suc n) a w = let m : suc n - 1 ≡ n = omega arith in rw (m, add-one i) (then-on _ _ seen′ busy′ w)
 
 -- one port: past the entries; met, unfit or not alone; or as it should be
 
-module _ (s bufs : List ℕ) (i : ℕ) (seen busy : List ℕ) where
-  port-end′ : entries ≤ nth s (replyPort i) → portWalk s bufs i seen busy ≡ walked (eqb (nth s (replyPort i)) nil) seen busy
+module _ (s : List ℕ) (i : ℕ) (seen busy : List ℕ) where
+  port-end′ : entries ≤ nth s (replyPort i) → portWalk s i seen busy ≡ walked (eqb (nth s (replyPort i)) nil) seen busy
   unfolding portWalk
   port-end′ h = rw (le-ltb (nth s (replyPort i)) entries h, portWalk)
 
   port-bad′ : nth s (replyPort i) < entries
-      → (eqb (getD seen (nth s (replyPort i)) 0) 0 && portEntry s bufs busy i (nth s (replyPort i)) && eqb (nth s (linkAt (nth s (replyPort i)))) nil) ≡ false
-      → portWalk s bufs i seen busy ≡ walked false seen busy
+      → (eqb (getD seen (nth s (replyPort i)) 0) 0 && portEntry s busy i (nth s (replyPort i)) && eqb (nth s (linkAt (nth s (replyPort i)))) nil) ≡ false
+      → portWalk s i seen busy ≡ walked false seen busy
   unfolding portWalk
   port-bad′ h d = rw (lt-ltb (nth s (replyPort i)) entries h, d, portWalk)
 
   port-good′ : nth s (replyPort i) < entries
-      → (eqb (getD seen (nth s (replyPort i)) 0) 0 && portEntry s bufs busy i (nth s (replyPort i)) && eqb (nth s (linkAt (nth s (replyPort i)))) nil) ≡ true
-      → portWalk s bufs i seen busy ≡ walked true (set seen (nth s (replyPort i)) 1) (set busy i 2)
+      → (eqb (getD seen (nth s (replyPort i)) 0) 0 && portEntry s busy i (nth s (replyPort i)) && eqb (nth s (linkAt (nth s (replyPort i)))) nil) ≡ true
+      → portWalk s i seen busy ≡ walked true (set seen (nth s (replyPort i)) 1) (set busy i 2)
   unfolding portWalk
   port-good′ h d = rw (lt-ltb (nth s (replyPort i)) entries h, d, portWalk)
 
   module _ (v : ℕ) (e : v ≡ nth s (replyPort i)) where
-    pub port-end : entries ≤ v → portWalk s bufs i seen busy ≡ walked (eqb v nil) seen busy
+    pub port-end : entries ≤ v → portWalk s i seen busy ≡ walked (eqb v nil) seen busy
     port-end h = rw e (port-end′ (rw e at h))
 
-    pub port-bad : v < entries → (eqb (getD seen v 0) 0 && portEntry s bufs busy i v && eqb (nth s (linkAt v)) nil) ≡ false → portWalk s bufs i seen busy ≡ walked false seen busy
+    pub port-bad : v < entries → (eqb (getD seen v 0) 0 && portEntry s busy i v && eqb (nth s (linkAt v)) nil) ≡ false → portWalk s i seen busy ≡ walked false seen busy
     port-bad h d = port-bad′ (rw e at h) (rw e at d)
 
-    pub port-good : v < entries → (eqb (getD seen v 0) 0 && portEntry s bufs busy i v && eqb (nth s (linkAt v)) nil) ≡ true
-        → portWalk s bufs i seen busy ≡ walked true (set seen v 1) (set busy i 2)
+    pub port-good : v < entries → (eqb (getD seen v 0) 0 && portEntry s busy i v && eqb (nth s (linkAt v)) nil) ≡ true
+        → portWalk s i seen busy ≡ walked true (set seen v 1) (set busy i 2)
     port-good h d = rw e (port-good′ (rw e at h) (rw e at d))

@@ -1,7 +1,8 @@
-pub mod Joined
 pub mod Entry
 pub mod Onward
 pub mod Settings
-pub mod Resting
 pub mod Nils
 pub mod Ample
+pub mod Ends
+pub mod Enough
+pub mod Strides

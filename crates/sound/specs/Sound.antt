@@ -1,9 +1,9 @@
--- Which memories are sound: a test of their bytes.
+-- Which memories are sound: a test of their bytes. Of the record buffers only the length is tested: what lies in them may be anything.
 use Prim.Native.Nat.{ℕ, zero, suc, _+_, _*_}
 use mathlib.Core.Bool.{Bool, true, false, _&&_}
 use mathlib.Core.List.{List}
 use lib.Dec.{leb, eqb}
-use lib.ListN.{length, getD}
+use lib.ListN.{length}
 use Rattle.rules.specs.Limits.{files, places, entries, shareBytes, bufferBytes}
 use Rattle.rules.specs.Geometry.{capacity}
 use Rattle.rules.specs.State.{Geo}
@@ -13,7 +13,7 @@ use Rattle.shares.specs.Sound.{sound}
 use Rattle.memory.specs.Memories.{Memories}
 use Rattle.accessors.specs.Sides.{countSide}
 use Rattle.sound.specs.Rows.{fileWord, builtAt, geoAt, goodGeo, placesOk, unbuiltOk}
-use Rattle.sound.specs.Walks.{Walked, restZero, allWalks, allMet}
+use Rattle.sound.specs.Walks.{Walked, allWalks, allMet}
 
 -- whether there is room: "one place is kept for each close record", and the open writers alone leave room for a record
 abbrev pub roomOk : List ℕ → ℕ → Bool
@@ -41,26 +41,9 @@ unfoldable pub filesOk : List ℕ → List ℕ → ℕ → ℕ → Bool
 filesOk s blocks f zero = true
 filesOk s blocks f (suc n) = elim (fileOk s blocks f) [ true ↦ filesOk s blocks (suc f) n | false ↦ false ]
 
--- whether the buffers that no request uses are zero, among those of n places of a built file, starting at place i
-unfoldable pub idleZero : List ℕ → List ℕ → ℕ → ℕ → Bool
-idleZero bufs busy i zero = true
-idleZero bufs busy i (suc n) =
-    elim (eqb (getD busy i 0) 0) [
-      | false ↦ idleZero bufs busy (suc i) n
-      | true ↦ elim (restZero bufs i 0) [ true ↦ idleZero bufs busy (suc i) n | false ↦ false ]
-    ]
-
-unfoldable pub idlesZero : List ℕ → List ℕ → List ℕ → ℕ → ℕ → Bool
-idlesZero s bufs busy f zero = true
-idlesZero s bufs busy f (suc n) =
-    elim (builtAt s f) [
-      | false ↦ idlesZero s bufs busy (suc f) n
-      | true ↦ elim (idleZero bufs busy (places * f) places) [ true ↦ idlesZero s bufs busy (suc f) n | false ↦ false ]
-    ]
-
--- whether the lists are sound, with each entry on exactly one, and the buffers that no request uses are zero
-unfoldable pub listsOk : List ℕ → List ℕ → Bool
-listsOk s bufs = let w : Walked = allWalks s bufs in w .ok && allMet (w .seen) entries && idlesZero s bufs (w .busy) 0 files
+-- whether the lists are sound, with each entry on exactly one
+unfoldable pub listsOk : List ℕ → Bool
+listsOk s = let w : Walked = allWalks s in w .ok && allMet (w .seen) entries
 
 unfoldable pub soundly : Memories → Bool
 soundly m =
@@ -68,4 +51,4 @@ soundly m =
     && eqb (length (m .blocks)) (shareBytes * files)
     && eqb (length (m .buffers)) (places * bufferBytes * files)
     && filesOk (m .segment) (m .blocks) 0 files
-    && listsOk (m .segment) (m .buffers)
+    && listsOk (m .segment)

@@ -1,5 +1,5 @@
 -- The walk of each list: every entry is met once, holds what its list asks of it, and belongs to a place that has no other request.
-use Prim.Native.Nat.{ℕ, zero, suc, _+_, _-_, _*_, _/_}
+use Prim.Native.Nat.{ℕ, zero, suc, _+_, _*_, _/_}
 use mathlib.Core.Bool.{Bool, true, false, cond, _&&_}
 use mathlib.Core.List.{List}
 use lib.Dec.{ltb, leb, eqb}
@@ -8,7 +8,6 @@ use Rattle.rules.specs.Limits.{files, places, entries, bufferBytes}
 use Rattle.segment.specs.Layout.{nil, linkAt, dataAt, dataWords, freeList, replyPort, timerList}
 use Rattle.accessors.specs.Outstanding.{queueOf}
 use Rattle.segment.specs.Table.{nth}
-use Rattle.words.specs.Word.{quiet}
 use Rattle.laws.specs.Bounds.{leastRefusal}
 use Rattle.sound.specs.Rows.{fileWord, sideAt, zeroWords}
 
@@ -31,17 +30,13 @@ placeIn s e = entryWord s e 0
 unfoldable pub sizeIn : List ℕ → ℕ → ℕ
 sizeIn s e = entryWord s e 6
 
--- whether the buffer of place i is zero from its byte n to its end
-unfoldable pub restZero : List ℕ → ℕ → ℕ → Bool
-restZero bufs i n = quiet bufs (bufferBytes * i + n) (bufferBytes - n)
-
 -- "Freed entries are zeroed but for the link"
 unfoldable pub freeEntry : List ℕ → ℕ → Bool
 freeEntry s e = zeroWords s (dataAt e) dataWords
 
 -- a waiting read of file f: place, unit, limit, keep, and zeros
-unfoldable pub readEntry : List ℕ → List ℕ → List ℕ → ℕ → ℕ → Bool
-readEntry s bufs busy f e =
+unfoldable pub readEntry : List ℕ → List ℕ → ℕ → ℕ → Bool
+readEntry s busy f e =
     ltb (placeIn s e) (files * places)
     && eqb (placeIn s e / places) f
     && eqb (getD busy (placeIn s e) 0) 0
@@ -50,11 +45,10 @@ readEntry s bufs busy f e =
     && leb (entryWord s e 2) bufferBytes
     && leb (entryWord s e 3) 1
     && zeroWords s (dataAt e + 4) 5
-    && restZero bufs (placeIn s e) 0
 
 -- a waiting write of file f: place, unit, size, and zeros
-unfoldable pub writeEntry : List ℕ → List ℕ → List ℕ → ℕ → ℕ → Bool
-writeEntry s bufs busy f e =
+unfoldable pub writeEntry : List ℕ → List ℕ → ℕ → ℕ → Bool
+writeEntry s busy f e =
     ltb (placeIn s e) (files * places)
     && eqb (placeIn s e / places) f
     && eqb (getD busy (placeIn s e) 0) 0
@@ -63,11 +57,10 @@ writeEntry s bufs busy f e =
     && zeroWords s (dataAt e + 2) 4
     && leb (sizeIn s e) (2 * fileWord s f 0)
     && zeroWords s (dataAt e + 7) 2
-    && restZero bufs (placeIn s e) (sizeIn s e)
 
 -- a completed request of place i: place, status, which is no refusal number, log, for a read the size, and zeros
-unfoldable pub portEntry : List ℕ → List ℕ → List ℕ → ℕ → ℕ → Bool
-portEntry s bufs busy i e =
+unfoldable pub portEntry : List ℕ → List ℕ → ℕ → ℕ → Bool
+portEntry s busy i e =
     eqb (placeIn s e) i
     && eqb (getD busy i 0) 0
     && leb 1 (sideAt s i)
@@ -75,7 +68,6 @@ portEntry s bufs busy i e =
     && ltb (entryWord s e 4) leastRefusal
     && leb (sizeIn s e) (cond (eqb (sideAt s i) 1) bufferBytes 0)
     && zeroWords s (dataAt e + 7) 2
-    && restZero bufs i (sizeIn s e)
 
 -- a timer of a waiting place, with no less left than the one before; the first has at least one second
 unfoldable pub timerEntry : List ℕ → List ℕ → ℕ → ℕ → Bool
@@ -100,14 +92,14 @@ freeWalk s p seen busy (suc n) =
     ]
 
 -- the walk of a queue of file f from slot p; `side` is 1 for its read queue, 2 for its write queue
-unfoldable pub queueWalk : List ℕ → List ℕ → ℕ → ℕ → ℕ → List ℕ → List ℕ → ℕ → Walked
-queueWalk s bufs side f p seen busy zero = walked false seen busy
-queueWalk s bufs side f p seen busy (suc n) =
+unfoldable pub queueWalk : List ℕ → ℕ → ℕ → ℕ → List ℕ → List ℕ → ℕ → Walked
+queueWalk s side f p seen busy zero = walked false seen busy
+queueWalk s side f p seen busy (suc n) =
     elim (ltb (nth s p) entries) [
       | false ↦ walked (eqb (nth s p) nil) seen busy
-      | true ↦ elim (eqb (getD seen (nth s p) 0) 0 && cond (eqb side 1) (readEntry s bufs busy f (nth s p)) (writeEntry s bufs busy f (nth s p))) [
+      | true ↦ elim (eqb (getD seen (nth s p) 0) 0 && cond (eqb side 1) (readEntry s busy f (nth s p)) (writeEntry s busy f (nth s p))) [
         | false ↦ walked false seen busy
-        | true ↦ queueWalk s bufs side f (linkAt (nth s p)) (set seen (nth s p) 1) (set busy (placeIn s (nth s p)) 1) n
+        | true ↦ queueWalk s side f (linkAt (nth s p)) (set seen (nth s p) 1) (set busy (placeIn s (nth s p)) 1) n
       ]
     ]
 
@@ -123,12 +115,12 @@ timerWalk s low p seen busy (suc n) =
     ]
 
 -- the walk of the reply port of place i, which has at most one entry
-unfoldable pub portWalk : List ℕ → List ℕ → ℕ → List ℕ → List ℕ → Walked
-portWalk s bufs i seen busy =
+unfoldable pub portWalk : List ℕ → ℕ → List ℕ → List ℕ → Walked
+portWalk s i seen busy =
     let v : ℕ = nth s (replyPort i) in
     elim (ltb v entries) [
       | false ↦ walked (eqb v nil) seen busy
-      | true ↦ elim (eqb (getD seen v 0) 0 && portEntry s bufs busy i v && eqb (nth s (linkAt v)) nil) [
+      | true ↦ elim (eqb (getD seen v 0) 0 && portEntry s busy i v && eqb (nth s (linkAt v)) nil) [
         | false ↦ walked false seen busy
         | true ↦ walked true (set seen v 1) (set busy i 2)
       ]
@@ -139,23 +131,23 @@ unfoldable pub andThen : Walked → (List ℕ → List ℕ → Walked) → Walke
 andThen w next = elim (w .ok) [ true ↦ next (w .seen) (w .busy) | false ↦ w ]
 
 -- the walks of the queues of n files starting at file f, on one side
-unfoldable pub queueWalks : List ℕ → List ℕ → ℕ → ℕ → List ℕ → List ℕ → ℕ → Walked
-queueWalks s bufs side f seen busy zero = walked true seen busy
-queueWalks s bufs side f seen busy (suc n) =
-    andThen (queueWalk s bufs side f (queueOf f side) seen busy (entries + 1)) (λ seen′ busy′. queueWalks s bufs side (suc f) seen′ busy′ n)
+unfoldable pub queueWalks : List ℕ → ℕ → ℕ → List ℕ → List ℕ → ℕ → Walked
+queueWalks s side f seen busy zero = walked true seen busy
+queueWalks s side f seen busy (suc n) =
+    andThen (queueWalk s side f (queueOf f side) seen busy (entries + 1)) (λ seen′ busy′. queueWalks s side (suc f) seen′ busy′ n)
 
 -- the walks of the ports of n places starting at place i
-unfoldable pub portWalks : List ℕ → List ℕ → ℕ → List ℕ → List ℕ → ℕ → Walked
-portWalks s bufs i seen busy zero = walked true seen busy
-portWalks s bufs i seen busy (suc n) = andThen (portWalk s bufs i seen busy) (λ seen′ busy′. portWalks s bufs (suc i) seen′ busy′ n)
+unfoldable pub portWalks : List ℕ → ℕ → List ℕ → List ℕ → ℕ → Walked
+portWalks s i seen busy zero = walked true seen busy
+portWalks s i seen busy (suc n) = andThen (portWalk s i seen busy) (λ seen′ busy′. portWalks s (suc i) seen′ busy′ n)
 
 -- the walks of all lists
-unfoldable pub allWalks : List ℕ → List ℕ → Walked
-allWalks s bufs =
+unfoldable pub allWalks : List ℕ → Walked
+allWalks s =
     andThen (freeWalk s freeList (replicate entries 0) (replicate (files * places) 0) (entries + 1)) (λ seen busy.
-    andThen (queueWalks s bufs 1 0 seen busy files) (λ seen′ busy′.
-    andThen (queueWalks s bufs 2 0 seen′ busy′ files) (λ seen″ busy″.
-    andThen (portWalks s bufs 0 seen″ busy″ (files * places)) (λ seen‴ busy‴.
+    andThen (queueWalks s 1 0 seen busy files) (λ seen′ busy′.
+    andThen (queueWalks s 2 0 seen′ busy′ files) (λ seen″ busy″.
+    andThen (portWalks s 0 seen″ busy″ (files * places)) (λ seen‴ busy‴.
     timerWalk s 1 timerList seen‴ busy‴ (entries + 1)))))
 
 -- whether every one of n entries was met

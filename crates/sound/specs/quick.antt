@@ -1,2 +1,4 @@
 pub mod Ones
 pub mod Onward
+pub mod Ends
+pub mod Strides

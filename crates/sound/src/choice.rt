@@ -1,7 +1,6 @@
 // Chooses between the fast path and the plain test. Each function here has the name and the contract of the plain test in `rows` or `walks`. It tries the fast
 // path of `quick`, and asks the plain test if that cannot tell. Neither of the two uses the other.
 use crate::marks::ENTRY_COUNT;
-use crate::quick::bytes::eight;
 use crate::quick::heads::no_queues;
 use crate::quick::heads::no_replies;
 use crate::rows;
@@ -14,17 +13,21 @@ use crate::walks::timer_walk;
 use kinds::sides::READER;
 use kinds::sides::WRITER;
 use segment::layout;
+use words::joined::eight;
 ghost use mathlib.Core.Path.{_≡_};
 ghost use Prim.Native.Nat.{_+_, _*_, _≤_, _<_};
 ghost use lib.ListN.{length, replicate};
-ghost use Rattle.rules.specs.Limits.{files, places, entries, bufferBytes};
+ghost use Rattle.rules.specs.Limits.{files, places, entries};
 ghost use Rattle.segment.specs.Layout.{segmentBytes};
 ghost use Rattle.sound.specs.Rows.{placeOk, placesOk};
 ghost use Rattle.sound.specs.Walks.{walked, queueWalks, portWalks, allWalks};
 
+// The four settings of a place that neither read nor wrote yet, as one number, low byte first: `first`, the last of them, is 1, and the others are 0.
+const FIRST_ALONE: u64 = 72057594037927936;
+
 // Whether the row of place i is sound. Its fields are read as two numbers: one of side, ID, share and timeout, one of the settings. `closed-row` and `open-row`
 // (proofs/quick/Settings.antt): if the spare words are zero, the plain test of a place that is not open asks that both are 0; of an open place with no setting
-// on, it asks only side and ID.
+// on, or `first` alone, it asks only side and ID.
 fn place_ok(s: &[u8], i: usize) -> bool
     requires { ⌜ (length (now s) ≡ segmentBytes) × (i < files * places) ⌝ }
     ensures { λ r. ⌜ r ≡ placeOk (now (s .entry)) i ⌝ }
@@ -37,7 +40,8 @@ fn place_ok(s: &[u8], i: usize) -> bool
     if eight(s, at) == 0 {
         return eight(s, at + 8) == 0;
     }
-    if eight(s, at + 8) != 0 {
+    let settings = eight(s, at + 8);
+    if settings != 0 && settings != FIRST_ALONE {
         return rows::place_ok(s, i);
     }
     let side = place_word(s, i, layout::PLACE_SIDE);
@@ -65,57 +69,50 @@ pub fn places_ok(s: &[u8], i: usize, n: usize) -> bool
 // Walks the queues of all files on one side, unless all are empty.
 fn queue_walks(
     s: &[u8],
-    buffers: &[u8],
     side: u16,
     seen: &mut [u8; ENTRY_COUNT],
     busy: &mut [u8; layout::DESK_PLACES],
 ) -> bool
-    requires { ⌜ (length (now s) ≡ segmentBytes) × (length (now buffers) ≡ places * bufferBytes * files) ⌝ }
-    ensures { λ r. ⌜ walked r (now (seen .exit)) (now (busy .exit)) ≡ queueWalks (now (s .entry)) (now (buffers .entry)) side 0 (now (seen .entry)) (now (busy .entry)) files ⌝ }
+    requires { ⌜ length (now s) ≡ segmentBytes ⌝ }
+    ensures { λ r. ⌜ walked r (now (seen .exit)) (now (busy .exit)) ≡ queueWalks (now (s .entry)) side 0 (now (seen .entry)) (now (busy .entry)) files ⌝ }
 {
     if no_queues(s, side) {
         return true;
     }
-    walks::queue_walks(s, buffers, side, seen, busy)
+    walks::queue_walks(s, side, seen, busy)
 }
 
 // Walks the ports of all places, unless all are empty.
-fn port_walks(
-    s: &[u8],
-    buffers: &[u8],
-    seen: &mut [u8; ENTRY_COUNT],
-    busy: &mut [u8; layout::DESK_PLACES],
-) -> bool
-    requires { ⌜ (length (now s) ≡ segmentBytes) × (length (now buffers) ≡ places * bufferBytes * files) ⌝ }
-    ensures { λ r. ⌜ walked r (now (seen .exit)) (now (busy .exit)) ≡ portWalks (now (s .entry)) (now (buffers .entry)) 0 (now (seen .entry)) (now (busy .entry)) (files * places) ⌝ }
+fn port_walks(s: &[u8], seen: &mut [u8; ENTRY_COUNT], busy: &mut [u8; layout::DESK_PLACES]) -> bool
+    requires { ⌜ length (now s) ≡ segmentBytes ⌝ }
+    ensures { λ r. ⌜ walked r (now (seen .exit)) (now (busy .exit)) ≡ portWalks (now (s .entry)) 0 (now (seen .entry)) (now (busy .entry)) (files * places) ⌝ }
 {
     if no_replies(s) {
         return true;
     }
-    walks::port_walks(s, buffers, seen, busy)
+    walks::port_walks(s, seen, busy)
 }
 
 // Walks all lists, starting with no mark set.
 pub fn all_walks(
     s: &[u8],
-    buffers: &[u8],
     seen: &mut [u8; ENTRY_COUNT],
     busy: &mut [u8; layout::DESK_PLACES],
 ) -> bool
-    requires { ⌜ (length (now s) ≡ segmentBytes) × (length (now buffers) ≡ places * bufferBytes * files) ⌝ }
+    requires { ⌜ length (now s) ≡ segmentBytes ⌝ }
     requires { ⌜ (now seen ≡ replicate entries 0) × (now busy ≡ replicate (files * places) 0) ⌝ }
-    ensures { λ r. ⌜ walked r (now (seen .exit)) (now (busy .exit)) ≡ allWalks (now (s .entry)) (now (buffers .entry)) ⌝ }
+    ensures { λ r. ⌜ walked r (now (seen .exit)) (now (busy .exit)) ≡ allWalks (now (s .entry)) ⌝ }
 {
     if !free_walk(s, layout::FREE_LIST, seen) {
         return false;
     }
-    if !queue_walks(s, buffers, READER, seen, busy) {
+    if !queue_walks(s, READER, seen, busy) {
         return false;
     }
-    if !queue_walks(s, buffers, WRITER, seen, busy) {
+    if !queue_walks(s, WRITER, seen, busy) {
         return false;
     }
-    if !port_walks(s, buffers, seen, busy) {
+    if !port_walks(s, seen, busy) {
         return false;
     }
     timer_walk(s, layout::TIMER_LIST, seen, busy)

@@ -1,11 +1,11 @@
 // Tests what an entry holds on each kind of list. The place in an entry may be any word, so it is tested before it is used.
 use crate::marks::WAITING;
 use crate::quick::bytes::bare;
+use crate::quick::bytes::two_bare;
 use crate::rows::file_word;
 use crate::rows::place_word;
 use crate::rows::zero_words;
 use kinds::limits;
-use kinds::limits::BUFFER_BYTES;
 use kinds::limits::FILES;
 use kinds::limits::PLACES;
 use kinds::refusals;
@@ -20,7 +20,7 @@ ghost use lib.ListN.{length};
 ghost use Rattle.rules.specs.Limits.{files, places, entries, bufferBytes};
 ghost use Rattle.segment.specs.Layout.{segmentBytes};
 ghost use Rattle.sound.specs.Parts.{owned};
-ghost use Rattle.sound.specs.Walks.{restZero, freeEntry, readEntry, writeEntry, portEntry, timerEntry};
+ghost use Rattle.sound.specs.Walks.{freeEntry, readEntry, writeEntry, portEntry, timerEntry};
 
 const BUFFER_SIZE: u16 = limits::BUFFER_BYTES as u16;
 
@@ -28,29 +28,16 @@ const BUFFER_SIZE: u16 = limits::BUFFER_BYTES as u16;
 const LEAST_REFUSAL: u16 = refusals::UNSOUND as u16;
 
 // The number of words of an entry's data that are zero: of a read after its keep, of a write between its unit and its size, of a completed request between its
-// place and its status, of these two after the size, and of a timer between its place and its seconds.
+// place and its status, and of a timer between its place and its seconds. The two words after the size are zero too.
 const READ_REST: usize = layout::DATA_WORDS - layout::ENTRY_STATUS;
 
 const WRITE_MIDDLE: usize = layout::ENTRY_SIZE - layout::ENTRY_LIMIT;
 
 const PORT_MIDDLE: usize = layout::ENTRY_STATUS - layout::ENTRY_UNIT;
 
-const SIZE_REST: usize = layout::DATA_WORDS - layout::ENTRY_SECONDS;
-
 const TIMER_MIDDLE: usize = layout::ENTRY_SECONDS - layout::ENTRY_UNIT;
 
 const ENTRY_SPARE: usize = layout::ENTRY_SECONDS + 1;
-
-// Whether the buffer of place i is zero from its byte n upward.
-pub fn rest_zero(buffers: &[u8], i: usize, n: usize) -> bool
-    requires { ⌜ (length (now buffers) ≡ places * bufferBytes * files) × (i < files * places) ⌝ }
-    ensures { λ r. ⌜ r ≡ restZero (now (buffers .entry)) i n ⌝ }
-{
-    if n > BUFFER_BYTES {
-        return true;
-    }
-    words::quiet(buffers, BUFFER_BYTES * i + n, BUFFER_BYTES - n)
-}
 
 pub fn free_entry(s: &[u8], e: usize) -> bool
     requires { ⌜ (length (now s) ≡ segmentBytes) × (e < entries) ⌝ }
@@ -78,15 +65,9 @@ fn owned(s: &[u8], busy: &[u8; layout::DESK_PLACES], side: u16, f: usize, e: usi
     place_word(s, i, layout::PLACE_SIDE) == side
 }
 
-fn read_entry(
-    s: &[u8],
-    buffers: &[u8],
-    busy: &[u8; layout::DESK_PLACES],
-    f: usize,
-    e: usize,
-) -> bool
-    requires { ⌜ (length (now s) ≡ segmentBytes) × (length (now buffers) ≡ places * bufferBytes * files) × (e < entries) ⌝ }
-    ensures { λ r. ⌜ r ≡ readEntry (now (s .entry)) (now (buffers .entry)) (now (busy .entry)) f e ⌝ }
+fn read_entry(s: &[u8], busy: &[u8; layout::DESK_PLACES], f: usize, e: usize) -> bool
+    requires { ⌜ (length (now s) ≡ segmentBytes) × (e < entries) ⌝ }
+    ensures { λ r. ⌜ r ≡ readEntry (now (s .entry)) (now (busy .entry)) f e ⌝ }
 {
     if !owned(s, busy, READER, f, e) {
         return false;
@@ -101,22 +82,12 @@ fn read_entry(
     if segment::get(s, at + layout::ENTRY_KEEP) > 1 {
         return false;
     }
-    if !zero_words(s, at + layout::ENTRY_STATUS, READ_REST) {
-        return false;
-    }
-    let i = segment::get(s, at + layout::ENTRY_PLACE) as usize;
-    rest_zero(buffers, i, 0)
+    zero_words(s, at + layout::ENTRY_STATUS, READ_REST)
 }
 
-fn write_entry(
-    s: &[u8],
-    buffers: &[u8],
-    busy: &[u8; layout::DESK_PLACES],
-    f: usize,
-    e: usize,
-) -> bool
-    requires { ⌜ (length (now s) ≡ segmentBytes) × (length (now buffers) ≡ places * bufferBytes * files) × (f < files) × (e < entries) ⌝ }
-    ensures { λ r. ⌜ r ≡ writeEntry (now (s .entry)) (now (buffers .entry)) (now (busy .entry)) f e ⌝ }
+fn write_entry(s: &[u8], busy: &[u8; layout::DESK_PLACES], f: usize, e: usize) -> bool
+    requires { ⌜ (length (now s) ≡ segmentBytes) × (f < files) × (e < entries) ⌝ }
+    ensures { λ r. ⌜ r ≡ writeEntry (now (s .entry)) (now (busy .entry)) f e ⌝ }
 {
     if !owned(s, busy, WRITER, f, e) {
         return false;
@@ -132,29 +103,24 @@ fn write_entry(
     if size as u32 > 2 * file_word(s, f, layout::FILE_WORDS) as u32 {
         return false;
     }
-    if !zero_words(s, at + layout::ENTRY_SECONDS, SIZE_REST) {
-        return false;
-    }
-    let i = segment::get(s, at + layout::ENTRY_PLACE) as usize;
-    rest_zero(buffers, i, size as usize)
+    two_bare(s, at + layout::ENTRY_SECONDS)
 }
 
 // Whether entry e may wait in the queue of file f on that side.
 pub fn queue_entry(
     s: &[u8],
-    buffers: &[u8],
     busy: &[u8; layout::DESK_PLACES],
     side: u16,
     f: usize,
     e: usize,
 ) -> bool
-    requires { ⌜ (length (now s) ≡ segmentBytes) × (length (now buffers) ≡ places * bufferBytes * files) × (f < files) × (e < entries) ⌝ }
-    ensures { λ r. ⌜ r ≡ cond (eqb side 1) (readEntry (now (s .entry)) (now (buffers .entry)) (now (busy .entry)) f e) (writeEntry (now (s .entry)) (now (buffers .entry)) (now (busy .entry)) f e) ⌝ }
+    requires { ⌜ (length (now s) ≡ segmentBytes) × (f < files) × (e < entries) ⌝ }
+    ensures { λ r. ⌜ r ≡ cond (eqb side 1) (readEntry (now (s .entry)) (now (busy .entry)) f e) (writeEntry (now (s .entry)) (now (busy .entry)) f e) ⌝ }
 {
     if side == READER {
-        return read_entry(s, buffers, busy, f, e);
+        return read_entry(s, busy, f, e);
     }
-    write_entry(s, buffers, busy, f, e)
+    write_entry(s, busy, f, e)
 }
 
 // The most bytes that a completed request may have in its buffer; none for a write.
@@ -164,15 +130,9 @@ fn most_size(side: u16) -> u16
     if side == READER { BUFFER_SIZE } else { 0 }
 }
 
-pub fn port_entry(
-    s: &[u8],
-    buffers: &[u8],
-    busy: &[u8; layout::DESK_PLACES],
-    i: usize,
-    e: usize,
-) -> bool
-    requires { ⌜ (length (now s) ≡ segmentBytes) × (length (now buffers) ≡ places * bufferBytes * files) × (i < files * places) × (e < entries) ⌝ }
-    ensures { λ r. ⌜ r ≡ portEntry (now (s .entry)) (now (buffers .entry)) (now (busy .entry)) i e ⌝ }
+pub fn port_entry(s: &[u8], busy: &[u8; layout::DESK_PLACES], i: usize, e: usize) -> bool
+    requires { ⌜ (length (now s) ≡ segmentBytes) × (i < files * places) × (e < entries) ⌝ }
+    ensures { λ r. ⌜ r ≡ portEntry (now (s .entry)) (now (busy .entry)) i e ⌝ }
 {
     let at = layout::DATA + layout::ENTRY_WORDS * e;
     if segment::get(s, at + layout::ENTRY_PLACE) as usize != i {
@@ -195,10 +155,7 @@ pub fn port_entry(
     if size > most_size(side) {
         return false;
     }
-    if !zero_words(s, at + layout::ENTRY_SECONDS, SIZE_REST) {
-        return false;
-    }
-    rest_zero(buffers, i, size as usize)
+    two_bare(s, at + layout::ENTRY_SECONDS)
 }
 
 // Whether entry e may be a timer: it has at least `low` seconds left, as many as the one before it.

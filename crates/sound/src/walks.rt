@@ -9,6 +9,7 @@ use crate::marks::ENTRY_COUNT;
 use crate::marks::MET;
 use crate::marks::TIMED;
 use crate::marks::WAITING;
+use crate::quick::bytes::number;
 use crate::quick::order::in_order;
 use accessors::outstanding::queue_of;
 use kinds::limits::FILES;
@@ -17,18 +18,11 @@ ghost use mathlib.Core.Path.{_≡_};
 ghost use mathlib.Core.List.{List};
 ghost use Prim.Native.Nat.{ℕ, _+_, _*_, _<_};
 ghost use lib.ListN.{length};
-ghost use Rattle.rules.specs.Limits.{files, places, entries, bufferBytes};
+ghost use Rattle.rules.specs.Limits.{files, places, entries};
 ghost use Rattle.segment.specs.Layout.{segmentBytes, fileRows};
 ghost use Rattle.sound.specs.Walks.{walked, freeWalk, queueWalk, timerWalk, portWalk, queueWalks, portWalks, allMet};
 
 const TURNS: usize = ENTRY_COUNT + 1;
-
-// A byte as a number.
-fn number(x: u8) -> usize
-    ensures { λ r. ⌜ (r ≡ x) × (r < 256) ⌝ }
-{
-    x as usize
-}
 
 // Walks the free list. The marks on places stay as they are. An entry's number is one byte, and entries in order are passed at once.
 pub fn free_walk(s: &[u8], head: usize, seen: &mut [u8; ENTRY_COUNT]) -> bool
@@ -64,15 +58,14 @@ pub fn free_walk(s: &[u8], head: usize, seen: &mut [u8; ENTRY_COUNT]) -> bool
 // Walks the queue of file f on that side.
 fn queue_walk(
     s: &[u8],
-    buffers: &[u8],
     side: u16,
     f: usize,
     head: usize,
     seen: &mut [u8; ENTRY_COUNT],
     busy: &mut [u8; layout::DESK_PLACES],
 ) -> bool
-    requires { ⌜ (length (now s) ≡ segmentBytes) × (length (now buffers) ≡ places * bufferBytes * files) × (f < files) × (head < fileRows) ⌝ }
-    ensures { λ r. ⌜ walked r (now (seen .exit)) (now (busy .exit)) ≡ queueWalk (now (s .entry)) (now (buffers .entry)) side f head (now (seen .entry)) (now (busy .entry)) (entries + 1) ⌝ }
+    requires { ⌜ (length (now s) ≡ segmentBytes) × (f < files) × (head < fileRows) ⌝ }
+    ensures { λ r. ⌜ walked r (now (seen .exit)) (now (busy .exit)) ≡ queueWalk (now (s .entry)) side f head (now (seen .entry)) (now (busy .entry)) (entries + 1) ⌝ }
 {
     let mut p = head;
     let mut left = TURNS;
@@ -85,7 +78,7 @@ fn queue_walk(
         if seen[e] != 0 {
             return false;
         }
-        if !queue_entry(s, buffers, busy, side, f, e) {
+        if !queue_entry(s, busy, side, f, e) {
             return false;
         }
         let at = layout::DATA + layout::ENTRY_WORDS * e;
@@ -137,13 +130,12 @@ pub fn timer_walk(
 // Tests the reply port of place i, which has at most one entry.
 fn port_walk(
     s: &[u8],
-    buffers: &[u8],
     i: usize,
     seen: &mut [u8; ENTRY_COUNT],
     busy: &mut [u8; layout::DESK_PLACES],
 ) -> bool
-    requires { ⌜ (length (now s) ≡ segmentBytes) × (length (now buffers) ≡ places * bufferBytes * files) × (i < files * places) ⌝ }
-    ensures { λ r. ⌜ walked r (now (seen .exit)) (now (busy .exit)) ≡ portWalk (now (s .entry)) (now (buffers .entry)) i (now (seen .entry)) (now (busy .entry)) ⌝ }
+    requires { ⌜ (length (now s) ≡ segmentBytes) × (i < files * places) ⌝ }
+    ensures { λ r. ⌜ walked r (now (seen .exit)) (now (busy .exit)) ≡ portWalk (now (s .entry)) i (now (seen .entry)) (now (busy .entry)) ⌝ }
 {
     let v = segment::get(s, layout::REPLY_PORTS + i);
     if layout::ENTRIES <= v {
@@ -153,7 +145,7 @@ fn port_walk(
     if seen[e] != 0 {
         return false;
     }
-    if !port_entry(s, buffers, busy, i, e) {
+    if !port_entry(s, busy, i, e) {
         return false;
     }
     if segment::get(s, layout::LINKS + layout::ENTRY_WORDS * e) != layout::NIL {
@@ -167,18 +159,17 @@ fn port_walk(
 // Walks the queues of all files on that side.
 pub fn queue_walks(
     s: &[u8],
-    buffers: &[u8],
     side: u16,
     seen: &mut [u8; ENTRY_COUNT],
     busy: &mut [u8; layout::DESK_PLACES],
 ) -> bool
-    requires { ⌜ (length (now s) ≡ segmentBytes) × (length (now buffers) ≡ places * bufferBytes * files) ⌝ }
-    ensures { λ r. ⌜ walked r (now (seen .exit)) (now (busy .exit)) ≡ queueWalks (now (s .entry)) (now (buffers .entry)) side 0 (now (seen .entry)) (now (busy .entry)) files ⌝ }
+    requires { ⌜ length (now s) ≡ segmentBytes ⌝ }
+    ensures { λ r. ⌜ walked r (now (seen .exit)) (now (busy .exit)) ≡ queueWalks (now (s .entry)) side 0 (now (seen .entry)) (now (busy .entry)) files ⌝ }
 {
     let mut f = 0;
     while f < FILES {
         let head = queue_of(f, side);
-        if !queue_walk(s, buffers, side, f, head, seen, busy) {
+        if !queue_walk(s, side, f, head, seen, busy) {
             return false;
         }
         f += 1;
@@ -189,16 +180,15 @@ pub fn queue_walks(
 // Tests the reply ports of all places.
 pub fn port_walks(
     s: &[u8],
-    buffers: &[u8],
     seen: &mut [u8; ENTRY_COUNT],
     busy: &mut [u8; layout::DESK_PLACES],
 ) -> bool
-    requires { ⌜ (length (now s) ≡ segmentBytes) × (length (now buffers) ≡ places * bufferBytes * files) ⌝ }
-    ensures { λ r. ⌜ walked r (now (seen .exit)) (now (busy .exit)) ≡ portWalks (now (s .entry)) (now (buffers .entry)) 0 (now (seen .entry)) (now (busy .entry)) (files * places) ⌝ }
+    requires { ⌜ length (now s) ≡ segmentBytes ⌝ }
+    ensures { λ r. ⌜ walked r (now (seen .exit)) (now (busy .exit)) ≡ portWalks (now (s .entry)) 0 (now (seen .entry)) (now (busy .entry)) (files * places) ⌝ }
 {
     let mut i = 0;
     while i < layout::DESK_PLACES {
-        if !port_walk(s, buffers, i, seen, busy) {
+        if !port_walk(s, i, seen, busy) {
             return false;
         }
         i += 1;

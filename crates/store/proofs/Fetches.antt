@@ -9,7 +9,7 @@ use Rattle.rules.specs.State.{Rec, Geo, Store, Built}
 use Rattle.rules.specs.Store.{fetch}
 use Rattle.rules.specs.Requests.{withStore, say, behind}
 use Rattle.rules.specs.Memories.{shareAt}
-use Rattle.shares.specs.Holds.{Sized, Holds}
+use Rattle.shares.specs.Holds.{Sized, InShare}
 use Rattle.shares.specs.Back.{recAt}
 use Rattle.shares.specs.Places.{headAt}
 use Rattle.shares.proofs.Places.{headAt-read}
@@ -17,7 +17,7 @@ use Rattle.laws.proofs.Room.{good-sized}
 use Rattle.ring.specs.declared.Ring.{Ring}
 use Rattle.ring.specs.Ring.{geo, ringOf}
 use Rattle.records.specs.declared.cursor.Cursor.{Cursor}
-use Rattle.records.specs.Cursor.{Stands}
+use Rattle.records.specs.Cursor.{AtRecord}
 use Rattle.records.specs.Reading.{Readable}
 use Rattle.records.specs.Fetch.{Stores, ahead}
 use Rattle.records.proofs.cursor.Laws.{stands-readable}
@@ -35,7 +35,7 @@ no-clash : false ≡ true → ⊥
 no-clash e = subst (λ (t : Bool). elim t as (λ (t : Bool). Type 0) [ true ↦ ⊥ | false ↦ Unit {0} ]) e tt
 
 -- the record at the head of what is ahead
-got-read : (g : Geo) (typed keep : Bool) (s : Store) → Sized g → Holds g s
+got-read : (g : Geo) (typed keep : Bool) (s : Store) → Sized g → InShare g s
     → fetch g typed keep s .got ≡ elim (isSome (fetch g typed keep s .got)) [ true ↦ some (recAt (s .share) (headAt g (ahead g typed s))) | false ↦ none ]
 unfolding isSome
 got-read g typed keep s o h = go (ahead g typed s .recs) refl
@@ -76,7 +76,7 @@ module _ (f : ℕ) (typed keep : Bool) (blocks : List ℕ) (x : hand.File) (r : 
   fetch-gets = λ o xs buffers b M. got-is M ∙ ap (λ (q : Fetched). gotAt q (b .store .share)) (sym (own M)) ∙ ap (gotAt r) (sym (M .share))
 
 -- what the code of fetch has: the share, and the cursor there
-module _ (f : ℕ) (typed keep : Bool) (blocks own : List ℕ) (share : own ≡ shareAt f blocks) (x : hand.File) (k : Cursor) (stands : Stands (x .words) own k)
+module _ (f : ℕ) (typed keep : Bool) (blocks own : List ℕ) (share : own ≡ shareAt f blocks) (x : hand.File) (k : Cursor) (stands : AtRecord (x .words) own k)
     (found : (s : Store) → Stores (x .words) (x .ring) own s → k .ring ≡ ringOf (geo (x .words) (x .ring)) (ahead (geo (x .words) (x .ring)) typed s)) where
   abbrev Says : Fetched → Type 0
   Says r =

@@ -7,14 +7,14 @@ use native.Mathlib.Omega.{arith}
 use lib.ListN.{length}
 use Rattle.rules.specs.State.{Rec, Geo, Store}
 use Rattle.rules.specs.Store.{advance}
-use Rattle.shares.specs.Holds.{Holds}
+use Rattle.shares.specs.Holds.{InShare}
 use Rattle.shares.specs.Places as shares
 use Rattle.shares.proofs.Holds.{holds-discard, share-discard}
 use Rattle.ring.specs.declared.Ring.{Ring}
 use Rattle.ring.specs.Ring.{geo, ringOf}
 use Rattle.ring.proofs.Stores.{ring-advance}
 use Rattle.records.specs.declared.cursor.Cursor.{Cursor}
-use Rattle.records.specs.Cursor.{headPlace, Stands}
+use Rattle.records.specs.Cursor.{headPlace, AtRecord}
 use Rattle.records.specs.Fetch.{Stores, ahead}
 use Rattle.records.proofs.fetch.Laws.{empty-or}
 use Rattle.records.proofs.fetch.Finds.{fetch-none, fetch-some}
@@ -22,7 +22,7 @@ use Rattle.midst.specs.declared.File as hand
 use Rattle.store.specs.declared.Fetched.{Fetched}
 use Rattle.store.specs.Door.{takenRing, isSome, fetchedOf}
 
-pub holds-ahead : (g : Geo) (typed : Bool) (s : Store) → Holds g s → Holds g (ahead g typed s)
+pub holds-ahead : (g : Geo) (typed : Bool) (s : Store) → InShare g s → InShare g (ahead g typed s)
 unfolding ahead
 holds-ahead g true s h = h
 holds-ahead g false s h = holds-discard g s h
@@ -35,7 +35,7 @@ share-ahead g false s = share-discard g s
 same : (w : ℕ) (t u : Bool) (p q : ℕ) (y z : Ring) → t ≡ u → p ≡ q → y ≡ z → _≡_ {A = Fetched} (record { got = t; at = p; file = record { words = w; ring = y } }) (record { got = u; at = q; file = record { words = w; ring = z } })
 same w t u p q y z e h k = rw (e, h, k) refl
 
-module _ (x : hand.File) (xs : List ℕ) (typed keep : Bool) (k : Cursor) (stands : Stands (x .words) xs k) (s : Store) (S : Stores (x .words) (x .ring) xs s)
+module _ (x : hand.File) (xs : List ℕ) (typed keep : Bool) (k : Cursor) (stands : AtRecord (x .words) xs k) (s : Store) (S : Stores (x .words) (x .ring) xs s)
     (found : k .ring ≡ ringOf (geo (x .words) (x .ring)) (ahead (geo (x .words) (x .ring)) typed s)) where
   abbrev g : Geo
   g = geo (x .words) (x .ring)

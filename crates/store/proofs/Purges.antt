@@ -47,4 +47,4 @@ pub purge-keeps : (x y : hand.File) → y ≡ purgedOf x → (f : ℕ) (blocks :
 unfolding emptied say withStore purge
 purge-keeps x y e = λ f blocks o xs buffers b M.
     subst (λ (z : hand.File). Mid Bare f o (memories xs blocks buffers) z (emptied b)) (sym (e ∙ ap purgedOf (M .row) ∙ sym (hand-is b (M .good))))
-    (mid-storing {J = Bare} M (emptied b) blocks (record { accs = refl; reads = refl; writes = refl }) tt (allots f (o .alloc) b (M .allots)) (purges-same f (b .past) (o .alloc)) (M .share) refl (λ g n. refl))
+    (mid-storing {J = Bare} M (emptied b) blocks (record { accs = refl; buffers = refl; reads = refl; writes = refl }) tt (allots f (o .alloc) b (M .allots)) (purges-same f (b .past) (o .alloc)) (M .share) refl (λ g n. refl))

@@ -10,7 +10,7 @@ use Rattle.rules.specs.Store.{purge, fetch}
 use Rattle.rules.specs.Geometry.{capacity}
 use Rattle.rules.specs.Requests.{withStore, say, behind}
 use Rattle.rules.specs.Memories.{shareAt}
-use Rattle.shares.specs.Holds.{Holds}
+use Rattle.shares.specs.Holds.{InShare}
 use Rattle.shares.specs.Back.{recAt}
 use Rattle.shares.specs.Places.{headAt}
 use Rattle.laws.specs.Changes.{GoodGeo}
@@ -25,7 +25,7 @@ use Rattle.memory.specs.Memories.{memories}
 
 -- what the door asks of the file in hand; `Bare`: it says nothing of the next file, and leaves that to its caller
 abbrev pub Stored : Built → Type 0
-Stored b = GoodGeo (b .geo) × Holds (b .geo) (b .store)
+Stored b = GoodGeo (b .geo) × InShare (b .geo) (b .store)
 
 abbrev pub Bare : Built → Type 0
 Bare b = Unit {0}

@@ -8,7 +8,7 @@ use Rattle.rules.specs.Limits.{files, places, shareBytes, bufferBytes}
 use Rattle.segment.specs.Layout.{segmentBytes}
 use Rattle.memory.specs.Memories.{Memories, memories}
 use Rattle.memory.specs.Fresh.{freshMemories}
-use Rattle.fresh.specs.Made.{Made, unmade, made}
+use Rattle.fresh.specs.Made.{Made, nothingMade, made}
 use Rattle.promises.specs.Promise.{fresh, status, sized, Promise}
 
 -- three tests, one after the other, are one
@@ -22,9 +22,9 @@ abbrev freshly : Made
 freshly = record { status = 0; memories = freshMemories }
 
 by-test : (a : Bool) (m m′ : Memories) (st : ℕ)
-    → record { status = st; memories = m′ } ≡ cond a freshly (unmade m)
+    → record { status = st; memories = m′ } ≡ cond a freshly (nothingMade m)
     → (status st ≡ status (cond a 0 29)) × (m′ ≡ cond a freshMemories m)
-unfolding unmade
+unfolding nothingMade
 by-test true m m′ st e = (ap (λ (q : Made). status (q .status)) e, ap (λ (q : Made). q .memories) e)
 by-test false m m′ st e = (ap (λ (q : Made). status (q .status)) e, ap (λ (q : Made). q .memories) e)
 
@@ -34,4 +34,4 @@ unfolding Promise sized made
 made-fresh m m′ st e =
     by-test (sized m) m m′ st
     (e ∙ three (eqb (length (m .segment)) segmentBytes) (eqb (length (m .blocks)) (shareBytes * files)) (eqb (length (m .buffers)) (places * bufferBytes * files))
-    (unmade m) freshly)
+    (nothingMade m) freshly)

@@ -3,7 +3,6 @@ use Prim.Native.Nat.{ℕ}
 use mathlib.Core.Path.{_≡_}
 use mathlib.Core.List.{List}
 use Rattle.rules.specs.State.{File, unbuilt, built}
-use Rattle.rules.specs.Memories.{fileBuffers}
 use Rattle.rules.specs.Desk.{Desk, fileOf}
 use Rattle.rules.specs.Allocation.{Alloc}
 use Rattle.laws.specs.Runs.{OnFile}
@@ -20,14 +19,14 @@ use Rattle.timeouts.specs.Stage.{Steady, Stage}
 fine-steady : (y : File) → OnFile Fine y → OnFile Steady y
 unfolding OnFile
 fine-steady unbuilt h = tt
-fine-steady (built b) h = record { words = h .room .geo .words-high; bounds = h .bounds; queues = h .queues; sides = h .sides }
+fine-steady (built b) h = record { queues = h .queues; sides = h .sides }
 
 fine-agree : (y : File) → OnFile Fine y → OnFile Agree y
 unfolding OnFile
 fine-agree unbuilt h = tt
 fine-agree (built b) h = h .queues
 
-bytes-buffers : (y : File) (share buffers : List ℕ) → FileBytes y share buffers → OnFile (λ b. buffers ≡ fileBuffers (b .accs)) y
+bytes-buffers : (y : File) (share buffers : List ℕ) → FileBytes y share buffers → OnFile (λ b. buffers ≡ b .buffers) y
 unfolding FileBytes OnFile
 bytes-buffers unbuilt share buffers h = tt
 bytes-buffers (built b) share buffers h = h .1

@@ -8,10 +8,9 @@ use lib.ListN.{getD, set, replicate}
 use lib.Seq.{getD-set-same, getD-set-other}
 use Rattle.rules.specs.Limits.{files, places, entries}
 use Rattle.rules.specs.State.{Built, File, unbuilt, built}
-use Rattle.rules.specs.Requests.{withAccs, withQueues, withTimers, alterAcc, say, requeue, leave, finish}
+use Rattle.rules.specs.Requests.{withAccs, withQueues, withTimers, alterAcc, say, requeue, leave, finish, withBuffers, request}
 use Rattle.rules.specs.Reply.{hushed}
 use Rattle.rules.specs.Time.{due, failAll, minus, lessen, lapse, fileTime}
-use Rattle.rules.specs.Memories.{fileBuffers}
 use Rattle.rules.specs.Desk.{Desk, fileOf, deskTime}
 use Rattle.rules.specs.Allocation.{Alloc, withClock, endAll, allocTime, portOf}
 use Rattle.laws.specs.Runs.{OnFile}
@@ -43,10 +42,10 @@ store-same : (l : List ℕ) (b : Built) → failAll 22 l b .store ≡ b .store
 store-same l b = fails-all (λ c. c .store ≡ b .store) same 22 l b refl (omega arith)
   where
     same : Finishes (λ c. c .store ≡ b .store)
-    same p st q a r c e i k h = unfold finish say leave withTimers requeue alterAcc withAccs withQueues in h
+    same p st q a r c e i k h = unfold finish say leave withTimers requeue request withBuffers alterAcc withAccs withQueues in h
 
 time-bytes : (n : ℕ) (l : List ℕ) (y : File) (share old new : List ℕ) → l ≡ due n (timersOf y) → FileBytes y share old
-    → OnFile (λ b. new ≡ fileBuffers (b .accs)) (failFile l y) → FileBytes (fileTime n y) share new
+    → OnFile (λ b. new ≡ b .buffers) (failFile l y) → FileBytes (fileTime n y) share new
 unfolding FileBytes OnFile failFile fileTime hushed lapse lessen withTimers timersOf
 time-bytes n l unbuilt share old new e h k = tt
 time-bytes n l (built b) share old new e h k = (h .0 ∙ sym (ap (λ s. s .share) (store-same (due n (b .timers)) b)), rw e at k)

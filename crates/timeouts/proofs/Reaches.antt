@@ -28,7 +28,8 @@ use Rattle.segment.specs.Layout.{timerList}
 use Rattle.segment.specs.Table.{nth}
 use Rattle.segment.specs.Fields.{entryAt}
 use Rattle.requests.specs.Moves.{entryOf}
-use Rattle.timeouts.specs.Late.{waitsIn, late, lateBuffers}
+use Rattle.buffers.specs.Buffer.{emptied}
+use Rattle.timeouts.specs.Late.{waitsIn, late}
 use Rattle.timeouts.specs.Stage.{Steady, Stage, failFile, Reached, Quiet}
 use Rattle.timeouts.proofs.Ripe.{Ripe, ripe}
 use Rattle.timeouts.proofs.Firsts.{due-none, due-first, few-timers, first-none, first-some}
@@ -162,7 +163,7 @@ module _ {n k : ℕ} {ys₀ : List ℕ} {d : Desk} {s : Alloc} {xs ys : List ℕ
     not-built : (g : ℕ) → fileOf (R .desk) g ≡ unbuilt → g ≡ f → ⊥
     not-built g z x = let k : _≡_ {A = ℕ} 0 1 = cc (sym z ∙ ap (fileOf (R .desk)) x ∙ y) in omega arith
 
-    turn-at : Reached n (k - 1) ys₀ d s (late xs i) (lateBuffers xs ys i)
+    turn-at : Reached n (k - 1) ys₀ d s (late xs i) (emptied i ys)
     turn-at = record {
       desk = then;
       alloc = endsAt i now;
@@ -205,7 +206,7 @@ module _ {n k : ℕ} {ys₀ : List ℕ} {d : Desk} {s : Alloc} {xs ys : List ℕ
 
       module _ (w : ℕ) (q : w ≡ entryAt xs e .seconds) (l : w ≤ n) (i : ℕ) (o : i ≡ entryAt xs e .place) where
         abbrev Goes : ℕ → Type 0
-        Goes j = (j < files * places) × (entryOf xs (waitsIn xs j) j < entries) × Reached n (k - 1) ys₀ d s (late xs j) (lateBuffers xs ys j)
+        Goes j = (j < files * places) × (entryOf xs (waitsIn xs j) j < entries) × Reached n (k - 1) ys₀ d s (late xs j) (emptied j ys)
 
         turn : (u : Timer) (us : List Timer) → now .clock ≡ u ∷ us → u .left ≤ n → Goes (u .place)
         turn u us c m =

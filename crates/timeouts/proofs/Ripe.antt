@@ -1,13 +1,13 @@
 -- A request that waits, and how it fails: with a status, and with nothing in its buffer.
 use Prim.Native.Nat.{ℕ, _≤_}
-use mathlib.Core.Path.{_≡_, refl, sym, _∙_}
-use mathlib.Core.Bool.{true, false, true≢false}
+use mathlib.Core.Path.{_≡_, refl}
+use mathlib.Core.Bool.{true, false}
 use mathlib.Core.List.{[]}
 use mathlib.Core.Option.{Option, none, some}
 use native.Mathlib.Omega.{arith}
 use Rattle.rules.specs.State.{Wanted, Offered, Req, idle, reading, writing, readDone, writeDone, Acc, Built}
 use Rattle.rules.specs.Requests.{accAt, finish, readFails, writeFails, failReq, fail}
-use Rattle.rules.specs.Memories.{lies}
+use Rattle.rules.specs.Buffers.{lies}
 use Rattle.laws.specs.Outstanding.{reqOf, reqAt, waitsRead, waitsWrite, uncollected, awaits}
 use Rattle.laws.specs.Changes.{Ends, readEnds, writeEnds}
 use Rattle.laws.specs.Sides.{Fitting}
@@ -27,9 +27,8 @@ pub record Ripe (p : ℕ) (b : Built) : Type 0 where
   pub words : (i : ℕ) → reqWords i done ≡ lateWords i
   pub empty : lies done ≡ []
   pub over : uncollected done ≡ 1
-  -- the request waits among those of its side, and brings nothing yet if it reads
+  -- the request waits among those of its side
   pub waits : waitsAt (acc .writer) (acc .req) ≡ 1
-  pub bare : acc .writer ≡ false → lies (acc .req) ≡ []
 
 module _ (p : ℕ) (b : Built) (S : Steady b) where
   reads : (a : Acc) → accAt b p ≡ some a → (w : Wanted) → a .req ≡ reading w → Ripe p b
@@ -47,7 +46,6 @@ module _ (p : ℕ) (b : Built) (S : Steady b) where
         empty = unfold lies in refl;
         over = unfold uncollected in refl;
         waits = rw (side, r) (unfold waitsRead in refl);
-        bare = λ _. rw r (unfold lies in refl);
       }
 
   writes : (a : Acc) → accAt b p ≡ some a → (w : Offered) → a .req ≡ writing w → Ripe p b
@@ -64,7 +62,6 @@ module _ (p : ℕ) (b : Built) (S : Steady b) where
         empty = unfold lies in refl;
         over = unfold uncollected in refl;
         waits = rw (side, r) (unfold waitsWrite in refl);
-        bare = λ z. absurd (true≢false (sym side ∙ z));
       }
 
   pub ripe : 1 ≤ awaits (reqAt (b .accs) p) → Ripe p b

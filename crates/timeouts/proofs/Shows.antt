@@ -17,7 +17,7 @@ use Rattle.timeouts.specs.Stage.{failFile}
 
 unfoldable pub bare : File → File
 bare unbuilt = unbuilt
-bare (built b) = built (record { geo = b .geo; store = b .store; accs = b .accs; rq = b .rq; wq = b .wq; timers = []; past = [] })
+bare (built b) = built (record { geo = b .geo; store = b .store; accs = b .accs; buffers = b .buffers; rq = b .rq; wq = b .wq; timers = []; past = [] })
 
 -- a function of a file that depends only on what the memories say of it
 unfoldable pub Shown : {A : Type 0} → (File → A) → Type 0

@@ -1,21 +1,18 @@
 -- One request that is due completes: the memories after it stand for the desk with the request failed.
-use Prim.Native.Nat.{ℕ, _+_, _*_, _<_}
+use Prim.Native.Nat.{ℕ, _+_, _*_, _≤_, _<_}
 use mathlib.Core.Path.{_≡_, refl, sym, ap, _∙_}
-use mathlib.Core.Bool.{Bool, true, false, cond}
+use mathlib.Core.Bool.{Bool, true, false}
 use mathlib.Core.List.{List}
-use mathlib.Core.Option.{none}
 use native.Mathlib.Omega.{arith}
 use native.Mathlib.Decide.{ℕ-discrete}
-use lib.Dec.{eqb}
 use lib.ListN.{length, getD}
-use lib.Seq.{sets, length-sets}
+use lib.Seq.{length-sets}
 use Rattle.words.specs.Word.{zeros}
-use Rattle.words.proofs.Runs.{length-zeros}
 use Rattle.occurrences.specs.Count.{bit}
 use Rattle.rules.specs.Limits.{files, places, entries, bufferBytes}
 use Rattle.rules.specs.State.{Req, Built, File, built}
-use Rattle.rules.specs.Requests.{accAt, alter, withReq, without, withAccs, withQueues, withTimers, alterAcc, say, requeue, leave, finish, fail}
-use Rattle.rules.specs.Memories.{fileBuffers}
+use Rattle.rules.specs.Requests.{accAt, alter, withReq, without, withAccs, withQueues, withTimers, alterAcc, say, requeue, leave, finish, fail, withBuffers, request}
+use Rattle.rules.specs.Buffers.{lies, refilled}
 use Rattle.rules.specs.Desk.{Desk, fileOf, withFile}
 use Rattle.rules.specs.Allocation.{Alloc, placeOf, endsAt}
 use Rattle.laws.specs.Runs.{OnFile}
@@ -24,7 +21,6 @@ use Rattle.laws.specs.Changes.{Finishes}
 use Rattle.laws.specs.Counts.{countT}
 use Rattle.laws.specs.Entries.{accsOf, timersOf}
 use Rattle.laws.specs.Midst.{Matches}
-use Rattle.laws.proofs.Bounds.{bounds-walks, length-buffer}
 use Rattle.laws.proofs.Queues.{agree-walks}
 use Rattle.laws.proofs.Sides.{sides-walks}
 use Rattle.laws.proofs.Outstanding.{outstanding-ends}
@@ -32,54 +28,51 @@ use Rattle.laws.proofs.Sieve.{countT-sieve}
 use Rattle.laws.proofs.Happenings.{place-file}
 use Rattle.laws.proofs.Lapses.{others, fails-one}
 use Rattle.laws.proofs.EightFiles.{eight-put, file-other, file-same}
-use Rattle.segment.specs.Layout.{rowCount, placeRow, readQueue, writeQueue}
+use Rattle.segment.specs.Layout.{rowCount, placeRow}
 use Rattle.segment.specs.Fields.{placeRowOf, placeAt}
 use Rattle.segment.proofs.Apart.{words-place}
+use Rattle.accessors.specs.Outstanding.{queueOf}
 use Rattle.requests.specs.Moves.{entryOf}
 use Rattle.memory.specs.Image.{accOf, fileWords, placeWords}
 use Rattle.memory.specs.Stands.{buffersAt}
 use Rattle.memory.proofs.Image.{rowOf-acc}
+use Rattle.memory.proofs.Frames.{buffersAt-refilled, buffersAt-apart}
 use Rattle.midst.specs.Seg.{Seg, queueAt}
-use Rattle.midst.proofs.Fills.{buffers-keep, buffers-apart, buffers-req, zeros-filled}
+use Rattle.midst.proofs.Changes.{Laid, asks-finish, clear}
 use Rattle.midst.proofs.Placed.{Placed}
 use Rattle.midst.proofs.EntryLeaves.{seg-complete}
-use Rattle.timeouts.specs.Late.{waitsIn, late, lateBuffers}
+use Rattle.buffers.specs.Buffer.{emptied}
+use Rattle.timeouts.specs.Late.{waitsIn, late}
 use Rattle.timeouts.specs.Stage.{Steady, Stage}
 use Rattle.timeouts.proofs.Ripe.{Ripe}
 
 steady-finish : Finishes Steady
-unfolding finish say leave withTimers requeue alterAcc withAccs withQueues
+unfolding finish say leave withTimers requeue request withBuffers alterAcc withAccs withQueues
 steady-finish p st q a r b e i k S = record {
-  words = S .words;
-  bounds = bounds-walks .finishes p st q a r b e i k (S .bounds);
   queues = agree-walks .finishes p st q a r b e i k (S .queues);
   sides = sides-walks .finishes p st q a r b e i k (S .sides);
 }
 
 finish-accs : (p st : ℕ) (q : Req) (b : Built) → finish p st q b .accs ≡ alter (withReq q) (b .accs) p
-unfolding finish say leave withTimers requeue alterAcc withAccs withQueues
+unfolding finish say leave withTimers requeue request withBuffers alterAcc withAccs withQueues
 finish-accs p st q b = refl
 
 finish-reads : (p st : ℕ) (q : Req) (b : Built) → finish p st q b .rq ≡ without p (b .rq)
-unfolding finish say leave withTimers requeue alterAcc withAccs withQueues
+unfolding finish say leave withTimers requeue request withBuffers alterAcc withAccs withQueues
 finish-reads p st q b = refl
 
 finish-writes : (p st : ℕ) (q : Req) (b : Built) → finish p st q b .wq ≡ without p (b .wq)
-unfolding finish say leave withTimers requeue alterAcc withAccs withQueues
+unfolding finish say leave withTimers requeue request withBuffers alterAcc withAccs withQueues
 finish-writes p st q b = refl
 
 finish-words : (p st : ℕ) (q : Req) (b : Built) → fileWords (built (finish p st q b)) ≡ fileWords (built b)
-unfolding fileWords finish say leave withTimers requeue alterAcc withAccs withQueues
+unfolding fileWords finish say leave withTimers requeue request withBuffers alterAcc withAccs withQueues
 finish-words p st q b = refl
 
 -- by the side of a row
-side-list : (w : Bool) (f : ℕ) → cond (eqb (1 + bit w) 2) (writeQueue f) (readQueue f) ≡ queueAt w f
+side-list : (w : Bool) (f : ℕ) → queueOf f (1 + bit w) ≡ queueAt w f
 side-list true f = refl
 side-list false f = refl
-
-side-bytes : (w : Bool) (ys zs : List ℕ) → cond (eqb (1 + bit w) 2) zs ys ≡ cond w zs ys
-side-bytes true ys zs = refl
-side-bytes false ys zs = refl
 
 module _ {xs ys : List ℕ} {d : Desk} {t : Alloc} (S : Stage xs ys d t) (f p : ℕ) (hf : f < files) (hp : p < places) (b : Built) (e : fileOf d f ≡ built b) (R : Ripe p b) where
   abbrev i : ℕ
@@ -96,7 +89,7 @@ module _ {xs ys : List ℕ} {d : Desk} {t : Alloc} (S : Stage xs ys d t) (f p : 
   unfolding OnFile
   steady = rw e at (S .steady f hf)
 
-  own : buffersAt f ys ≡ fileBuffers (b .accs)
+  own : buffersAt f ys ≡ b .buffers
   unfolding OnFile
   own = rw e at (S .buffers f hf)
 
@@ -114,10 +107,6 @@ module _ {xs ys : List ℕ} {d : Desk} {t : Alloc} (S : Stage xs ys d t) (f p : 
   pub waits-is : waitsIn xs i ≡ queueAt w f
   unfolding waitsIn
   waits-is = rw (side, place-file f p hp) (side-list w f)
-
-  cleared-is : lateBuffers xs ys i ≡ cond w (sets ys (bufferBytes * i) (zeros bufferBytes)) ys
-  unfolding lateBuffers
-  cleared-is = rw side (side-bytes w ys _)
 
   -- the segment
 
@@ -149,30 +138,20 @@ module _ {xs ys : List ℕ} {d : Desk} {t : Alloc} (S : Stage xs ys d t) (f p : 
 
   -- the buffers
 
-  own-buffers : buffersAt f (lateBuffers xs ys i) ≡ fileBuffers (fail p 22 b .accs)
-  unfolding accAt
-  own-buffers = rw (cleared-is, new-accs) (go w refl)
-    where
-      go : (v : Bool) → w ≡ v → buffersAt f (cond v (sets ys (bufferBytes * i) (zeros bufferBytes)) ys) ≡ fileBuffers (alter (withReq (R .done)) (b .accs) p)
-      go false h = own ∙ sym (buffers-keep (b .accs) p (R .acc) (R .done) (R .at) (R .empty ∙ sym (R .bare h)))
-      go true h =
-          rw (zeros-filled, ← R .empty)
-          (buffers-req f p ys (b .accs) (R .acc) (R .done) hf hp (R .at) (matches .agrees .eight) (S .size)
-          (λ y k. length-buffer (b .geo .words) (getD (b .accs) y none) (steady .words) (steady .bounds y)) own (rw (R .empty) (omega arith)))
+  -- nothing lies in the buffer of the place
+  laid : Laid f p (R .done) ys (emptied i ys)
+  laid = clear f p (R .done) ys (R .empty) refl
 
-  pub other-buffers : (g : ℕ) → (g ≡ f → ⊥) → buffersAt g (lateBuffers xs ys i) ≡ buffersAt g ys
-  other-buffers g n = rw cleared-is (go w)
-    where
-      go : (v : Bool) → buffersAt g (cond v (sets ys (bufferBytes * i) (zeros bufferBytes)) ys) ≡ buffersAt g ys
-      go false = refl
-      go true = buffers-apart f p ys (zeros bufferBytes) hf hp (omega (arith, length-zeros bufferBytes)) g n
+  fits : length (lies (R .done)) ≤ bufferBytes
+  fits = rw (R .empty) (omega arith)
 
-  length-late : length (lateBuffers xs ys i) ≡ length ys
-  length-late = rw cleared-is (go w)
-    where
-      go : (v : Bool) → length (cond v (sets ys (bufferBytes * i) (zeros bufferBytes)) ys) ≡ length ys
-      go false = refl
-      go true = length-sets ys (bufferBytes * i) (zeros bufferBytes)
+  own-buffers : buffersAt f (emptied i ys) ≡ fail p 22 b .buffers
+  own-buffers =
+      ap (buffersAt f) laid ∙ buffersAt-refilled f p (R .done) ys hp fits ∙ ap (refilled p (R .done)) own
+      ∙ sym (ap (λ c. c .buffers) (R .fails) ∙ asks-finish p 22 (R .done) b .buffers)
+
+  pub other-buffers : (g : ℕ) → (g ≡ f → ⊥) → buffersAt g (emptied i ys) ≡ buffersAt g ys
+  other-buffers g n = ap (buffersAt g) laid ∙ buffersAt-apart f p (R .done) ys hp fits g n
 
   -- file by file
   each : (P : ℕ → File → Type 0) → P f (built (fail p 22 b)) → ((g : ℕ) → g < files → (g ≡ f → ⊥) → P g (fileOf d g)) → (g : ℕ) → g < files → P g (fileOf then g)
@@ -182,7 +161,7 @@ module _ {xs ys : List ℕ} {d : Desk} {t : Alloc} (S : Stage xs ys d t) (f p : 
       go (yes z) = rw (z, file-same d f (built (fail p 22 b)) (S .eight) hf) h
       go (no n) = rw (file-other d f g (built (fail p 22 b)) n) (k g l n)
 
-  pub stage-late : Stage (late xs i) (lateBuffers xs ys i) then (endsAt i t)
+  pub stage-late : Stage (late xs i) (emptied i ys) then (endsAt i t)
   stage-late = record {
     segment = seg-late .1;
     eight = eight-put d f _ (S .eight);
@@ -190,7 +169,7 @@ module _ {xs ys : List ℕ} {d : Desk} {t : Alloc} (S : Stage xs ys d t) (f p : 
         (λ g h n. others g i t _ _ (λ z. n (sym z ∙ place-file f p hp)) (S .matches g h));
     steady = each (λ g y. OnFile Steady y) (unfold OnFile in rw (R .fails) (steady-finish p 22 (R .done) (R .acc) (R .acc .req) b (R .at) refl (R .ends) steady))
         (λ g h n. S .steady g h);
-    buffers = each (λ g y. OnFile (λ c. buffersAt g (lateBuffers xs ys i) ≡ fileBuffers (c .accs)) y) (unfold OnFile in own-buffers)
+    buffers = each (λ g y. OnFile (λ c. buffersAt g (emptied i ys) ≡ c .buffers) y) (unfold OnFile in own-buffers)
         (λ g h n. rw (other-buffers g n) (S .buffers g h));
-    size = length-late ∙ S .size;
+    size = length-sets ys (bufferBytes * i) (zeros bufferBytes) ∙ S .size;
   }

@@ -1,19 +1,18 @@
 -- What the passing of time does to the bytes: of a request that is due, and of the timers that are left.
-use Prim.Native.Nat.{ℕ, zero, suc, _-_, _*_, _/_}
+use Prim.Native.Nat.{ℕ, zero, suc, _-_, _/_}
 use mathlib.Core.Bool.{cond}
 use mathlib.Core.List.{List}
-use lib.Dec.{ltb, eqb}
-use lib.Seq.{sets}
-use Rattle.words.specs.Word.{zeros}
-use Rattle.rules.specs.Limits.{places, entries, bufferBytes}
-use Rattle.segment.specs.Layout.{readQueue, writeQueue, linkAt}
+use lib.Dec.{ltb}
+use Rattle.rules.specs.Limits.{places, entries}
+use Rattle.segment.specs.Layout.{linkAt}
 use Rattle.segment.specs.Table.{nth, putData}
 use Rattle.segment.specs.Fields.{entryWords, completedRequest, entryAt, placeAt}
+use Rattle.accessors.specs.Outstanding.{queueOf}
 use Rattle.requests.specs.Moves.{timer, slotOf, completed}
 
 -- the queue where the request of place i waits
 unfoldable pub waitsIn : List ℕ → ℕ → ℕ
-waitsIn s i = cond (eqb (placeAt s i .side) 2) (writeQueue (i / places)) (readQueue (i / places))
+waitsIn s i = queueOf (i / places) (placeAt s i .side)
 
 -- "completes with status 22"
 unfoldable pub lateWords : ℕ → List ℕ
@@ -21,10 +20,6 @@ lateWords i = entryWords (completedRequest i 22 0 0)
 
 unfoldable pub late : List ℕ → ℕ → List ℕ
 late s i = completed s (slotOf s (waitsIn s i) i) i (lateWords i)
-
--- the buffers after the request of place i times out: a writer's data are gone; a waiting reader's buffer holds nothing
-unfoldable pub lateBuffers : List ℕ → List ℕ → ℕ → List ℕ
-lateBuffers s ys i = cond (eqb (placeAt s i .side) 2) (sets ys (bufferBytes * i) (zeros bufferBytes)) ys
 
 -- takes n seconds off the timer in entry h
 unfoldable pub less : List ℕ → ℕ → ℕ → List ℕ

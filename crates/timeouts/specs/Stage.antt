@@ -4,14 +4,12 @@ use mathlib.Core.Path.{_≡_}
 use mathlib.Core.List.{List}
 use lib.ListN.{length}
 use Rattle.segment.specs.Layout.{rowCount}
-use Rattle.rules.specs.Limits.{files, places, bufferBytes, roomWords}
+use Rattle.rules.specs.Limits.{files, places, bufferBytes}
 use Rattle.rules.specs.State.{Built, File, unbuilt, built}
 use Rattle.rules.specs.Time.{due, failAll}
 use Rattle.rules.specs.Desk.{Desk, fileOf}
-use Rattle.rules.specs.Memories.{fileBuffers}
 use Rattle.rules.specs.Allocation.{Alloc, endAll}
 use Rattle.laws.specs.Runs.{OnFile}
-use Rattle.laws.specs.Bounds.{Bounds}
 use Rattle.laws.specs.Queues.{Agree}
 use Rattle.laws.specs.Sides.{Sides}
 use Rattle.laws.specs.Entries.{accsOf, timersOf}
@@ -22,8 +20,6 @@ use Rattle.midst.specs.Seg.{Seg}
 
 -- what is kept of a built file
 pub record Steady (b : Built) : Type 0 where
-  pub words : b .geo .words ≤ roomWords
-  pub bounds : Bounds b
   pub queues : Agree b
   pub sides : Sides b
 
@@ -33,7 +29,7 @@ pub record Stage (xs ys : List ℕ) (d : Desk) (t : Alloc) : Type 0 where
   pub eight : EightFiles d
   pub matches : (f : ℕ) → f < files → Matches f t t (accsOf (fileOf d f)) (timersOf (fileOf d f))
   pub steady : (f : ℕ) → f < files → OnFile Steady (fileOf d f)
-  pub buffers : (f : ℕ) → f < files → OnFile (λ b. buffersAt f ys ≡ fileBuffers (b .accs)) (fileOf d f)
+  pub buffers : (f : ℕ) → f < files → OnFile (λ b. buffersAt f ys ≡ b .buffers) (fileOf d f)
   pub size : length ys ≡ places * bufferBytes * files
 
 -- the file after the requests at these places fail, if it is built

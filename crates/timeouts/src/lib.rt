@@ -9,15 +9,15 @@ ghost use Rattle.rules.specs.State.{unbuilt};
 ghost use Rattle.rules.specs.Desk.{Desk, fileOf, deskTime};
 ghost use Rattle.rules.specs.Allocation.{Alloc, allocTime};
 ghost use Rattle.segment.specs.Layout.{timerList, segmentBytes, deskPlaces};
-ghost use Rattle.buffers.specs.Buffer.{buffersBytes};
+ghost use Rattle.buffers.specs.Buffer.{buffersBytes, emptied};
 ghost use Rattle.requests.specs.Moves.{entryOf};
 ghost use Rattle.memory.specs.Memories.{memories};
 ghost use Rattle.memory.specs.Stands.{buffersAt, Stands};
 ghost use Rattle.memory.specs.Fine.{StandsFor};
-ghost use Rattle.timeouts.specs.Late.{waitsIn, late, lateBuffers, less, lessAll};
+ghost use Rattle.timeouts.specs.Late.{waitsIn, late, less, lessAll};
 ghost use Rattle.timeouts.specs.Stage.{Stage, Quiet};
+use accessors::outstanding::queue_of;
 use kinds::limits::PLACES;
-use kinds::sides::WRITER;
 use kinds::statuses;
 use segment::forms::completed_request;
 use segment::forms::running_timer;
@@ -26,23 +26,18 @@ use segment::layout;
 // "completes with status 22"
 const TIMED_OUT: u16 = statuses::TIMED_OUT as u16;
 
-// Completes the waiting request of a place, which brings nothing.
+// Completes the waiting request of a place. It brings no data, so the place's buffer is cleared.
 fn time_out(segment: &mut [u8], buffers: &mut [u8], place: u16)
     requires { ⌜ length (now segment) ≡ segmentBytes ⌝ }
     requires { ⌜ length (now buffers) ≡ buffersBytes ⌝ }
     requires { ⌜ (place < deskPlaces) × (entryOf (now segment) (waitsIn (now segment) place) place < entries) ⌝ }
-    ensures { λ _. ⌜ (now (segment .exit) ≡ late (now (segment .entry)) place) × (now (buffers .exit) ≡ lateBuffers (now (segment .entry)) (now (buffers .entry)) place) ⌝ }
+    ensures { λ _. ⌜ (now (segment .exit) ≡ late (now (segment .entry)) place) × (now (buffers .exit) ≡ emptied place (now (buffers .entry))) ⌝ }
 {
     let i = place as usize;
-    let m = completed_request(place, TIMED_OUT, 0, 0);
-    if segment::place_side(segment, i) == WRITER {
-        let p = ports::seek_place(segment, layout::WRITE_QUEUES + i / PLACES, place);
-        requests::complete(segment, p, m);
-        buffers::clear_at(buffers, i);
-        return;
-    }
-    let p = ports::seek_place(segment, layout::READ_QUEUES + i / PLACES, place);
-    requests::complete(segment, p, m);
+    let queue = queue_of(i / PLACES, segment::place_side(segment, i));
+    let p = ports::seek_place(segment, queue, place);
+    requests::complete(segment, p, completed_request(place, TIMED_OUT, 0, 0));
+    buffers::clear_at(buffers, i);
 }
 
 // Completes all requests that are due, from the front of the timer list.

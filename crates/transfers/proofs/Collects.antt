@@ -11,9 +11,10 @@ use lib.Seq.{sets}
 use Rattle.words.specs.Word.{zeros, Bytes}
 use Rattle.kinds.specs.declared.Answer.the-variants.{Status, Collected}
 use Rattle.rules.specs.Limits.{entries, bufferBytes, answerHead}
-use Rattle.rules.specs.State.{Acc, Built}
+use Rattle.rules.specs.State.{idle, Acc, Built}
 use Rattle.rules.specs.Requests.{freed}
-use Rattle.rules.specs.Memories.{bufferAt, lies}
+use Rattle.rules.specs.Memories.{bufferAt}
+use Rattle.rules.specs.Buffers.{lies}
 use Rattle.rules.specs.Answers.{answerBytes}
 use Rattle.rules.specs.Reply.{Reply, answers, leaves, answering, status}
 use Rattle.rules.specs.Transfer.{collected, collect}
@@ -132,7 +133,7 @@ module _ {ms : Memories} {f p : ℕ} {d : Desk} {s : Alloc} (K : Collecting ms f
           let B = begin-mid (K .stands) named refl in
           let M : Mid Fine f _ (memories (moves.collected (ms .segment) i) (ms .blocks) buffers′) _ (freed p b) =
           step-free fine-knows B p a (known .known .at) (C .ended) {J = Fine} buffers′
-          (fine-walks .frees p a b (known .known .at) (C .ended) (B .good)) (clear (unfold lies in refl) (w .cleared)) in
+          (fine-walks .frees p a b (known .known .at) (C .ended) (B .good)) (clear f p idle (ms .buffers) (unfold lies in refl) (w .cleared)) in
           subst (λ (y : List ℕ). Outcome f d s (leaves r (freed p b)) ms (memories y (ms .blocks) buffers′)) (sym (w .collected)) (record {
             stands = mid-stays M (step-free-rows fine-knows B p a (known .known .at) (C .ended) (seg-stands (K .stands) f b (known .file) (known .stands)))
                 (K .stands .stands .bodies) (subst Bytes (w .collected) (w .bytes)) (K .stands .stands .bodies .blocks-bytes) (w .bytes′);

@@ -1,5 +1,5 @@
 -- What an accepted read does: it is handed a record, or it waits, or it ends.
-use Prim.Native.Nat.{ℕ, _+_, _≤_, _<_}
+use Prim.Native.Nat.{ℕ, _*_, _+_, _≤_, _<_}
 use mathlib.Core.Path.{_≡_, refl, sym, ap, ap₂, _∙_, subst}
 use mathlib.Core.Bool.{Bool, true, false}
 use mathlib.Core.List.{List, []}
@@ -10,6 +10,7 @@ use lib.ListN.{length}
 use lib.Seq.{sets}
 use Rattle.occurrences.specs.Count.{bit}
 use Rattle.kinds.specs.declared.Answer.the-variants.{Read, Status}
+use Rattle.words.specs.Word.{zeros}
 use Rattle.rules.specs.Limits.{entries, bufferBytes, answerHead, files}
 use Rattle.rules.specs.State.{Rec, Wanted, reading, idle, Acc, Built}
 use Rattle.rules.specs.Store.{fetch, Found}
@@ -245,17 +246,18 @@ module _ {ms : Memories} {f p n : ℕ} {d : Desk} {s : Alloc} (R : Reading ms f 
     unfolding readOn status answering behind say withStore alterAcc withAccs
     wait-out m = known .known .out ∙ pick-none (F .got) _ _ nothing ∙ pick-true (mayWait (writers b) a) _ _ m
 
-    pub read-waits : {memory xs₂ : List ℕ} → true ≡ mayWaitRow (ltb 0 (countSide xs₁ f 2)) row
+    pub read-waits : {memory xs₂ ys₂ : List ℕ} → true ≡ mayWaitRow (ltb 0 (countSide xs₁ f 2)) row
         → xs₂ ≡ waiting xs₁ (readQueue f) (readEntry (placeOf f p) t limit (row .keep)) (placeOf f p) (row .timeout)
-        → Hands f o (ask (fileOf d f) (calls.read p n)) (memories xs₂ (ms .blocks) (ms .buffers)) memory memory (z .file) (Status 3 1) 0
-    read-waits m e = record {
+        → ys₂ ≡ sets (ms .buffers) (bufferBytes * placeOf f p) (zeros bufferBytes)
+        → Hands f o (ask (fileOf d f) (calls.read p n)) (memories xs₂ (ms .blocks) ys₂) memory memory (z .file) (Status 3 1) 0
+    read-waits {ys₂ = ys₂} m e l = record {
       bytes = [];
       acts = record {
         acted = wait false p (a .timeout) (reading wanted) c;
         mid =
-            subst (λ (ys : List ℕ). Mid Fine f o (memories ys (ms .blocks) (ms .buffers)) (z .file) (wait false p (a .timeout) (reading wanted) c))
+            subst (λ (ys : List ℕ). Mid Fine f o (memories ys (ms .blocks) ys₂) (z .file) (wait false p (a .timeout) (reading wanted) c))
             (sym (e ∙ ap₂ {C = List ℕ} (λ (k : List ℕ) (i : ℕ). waiting xs₁ (readQueue f) k (placeOf f p) i) entry-is (row-timeout (R .stands) named (v .seen .place))))
-            (step-wait-read fine-knows (B v) p (begun a) opens (stands-rest (R .stands) f) (a .timeout) still wanted fine-wait);
+            (step-wait-read fine-knows (B v) p (begun a) opens (stands-rest (R .stands) f) (a .timeout) still wanted ys₂ fine-wait l);
         out = wait-out (sym (m ∙ waits-is));
       };
       size = refl;

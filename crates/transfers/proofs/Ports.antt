@@ -1,36 +1,33 @@
 -- What the reply port of a place, and its record buffer, show of the request at the place.
-use Prim.Native.Nat.{ℕ, _-_, _≤_, _<_}
-use mathlib.Core.Path.{_≡_, refl, sym, ap, _∙_}
+use Prim.Native.Nat.{ℕ, _≤_, _<_}
+use mathlib.Core.Path.{_≡_, refl, sym, ap, subst, _∙_}
 use mathlib.Core.Logic.{_⊎_, inl, inr}
 use mathlib.Core.List.{List, [], _∷_, map}
-use mathlib.Core.Option.{Option, none}
+use mathlib.Core.Option.{Option}
 use native.Mathlib.Omega.{arith}
 use lib.ListN.{length, getD, take}
-use lib.Seq.{take-append-seam}
-use Rattle.words.specs.Word.{zeros}
 use Rattle.rules.specs.Limits.{places, entries, bufferBytes}
 use Rattle.rules.specs.State.{Req, idle, reading, writing, readDone, writeDone, Acc, Built, File}
 use Rattle.rules.specs.Requests.{accAt}
-use Rattle.rules.specs.Memories.{bufferAt, lies, buffer}
+use Rattle.rules.specs.Memories.{bufferAt}
 use Rattle.rules.specs.Reply.{status}
 use Rattle.rules.specs.Transfer.{collected, collect}
 use Rattle.rules.specs.Desk.{Desk}
 use Rattle.rules.specs.Allocation.{Alloc, placeOf, heldAt, ownEntry, portOf}
 use Rattle.laws.specs.Outstanding.{uncollected, reqOf}
 use Rattle.laws.specs.Bounds.{leastRefusal, Bounded}
-use Rattle.laws.proofs.Bounds.{bounds-at, length-buffer}
+use Rattle.laws.proofs.Bounds.{bounds-at}
 use Rattle.laws.proofs.Happenings.{place-of-desk}
 use Rattle.segment.specs.Layout.{deskPlaces, replyPort}
 use Rattle.segment.specs.Table.{nth, dataOf}
 use Rattle.segment.specs.Fields.{entryWords, completedRequest, entryOf, entryAt}
 use Rattle.ports.specs.Lists.{Chain}
-use Rattle.buffers.specs.Buffer.{filled}
-use Rattle.buffers.proofs.Filled.{buffer-some}
+use Rattle.rules.specs.Buffers.{lies}
 use Rattle.memory.specs.Memories.{Memories}
 use Rattle.memory.specs.Image.{accOf, reqWords, listOf, portWords, boxOf}
 use Rattle.memory.specs.Fine.{StandsFor}
 use Rattle.memory.proofs.Image.{placeAcc-of, listOf-port, boxOf-port}
-use Rattle.memory.proofs.Frames.{bufferAt-is}
+use Rattle.memory.proofs.Frames.{lies-there}
 use Rattle.midst.proofs.Changes.{fine-knows}
 use Rattle.midst.proofs.Requests.{step-free-entry}
 use Rattle.midst.proofs.Terms.{port-one}
@@ -88,17 +85,12 @@ module _ {ms : Memories} {d : Desk} {s : Alloc} {f p : ℕ} (S : StandsFor ms d 
   port-data = ap (map (dataOf (ms .segment))) (sym port-list) ∙ S .stands .segment .boxes (replyPort i) (omega (arith, under)) ∙ port-box
 
   -- what lies in its buffer
-  buffer-lies : bufferAt i (ms .buffers) ≡ filled (lies (a .req))
-  unfolding accAt placeOf
-  buffer-lies =
-      let M = begin-mid S N refl in
-      bufferAt-is f (ms .buffers) (b .accs) (M .allots .matches .agrees .eight)
-      (λ y k. length-buffer (b .geo .words) (getD (b .accs) y none) (M .good .room .geo .words-high) (M .good .bounds y)) (M .buffer) p open-place
-      ∙ ap buffer (N .at) ∙ buffer-some a
-
   pub taken : (v : List ℕ) → lies (a .req) ≡ v → take (length v) (bufferAt i (ms .buffers)) ≡ v
-  unfolding filled
-  taken v e = ap (take (length v)) (buffer-lies ∙ ap filled e) ∙ take-append-seam v (zeros (bufferBytes - length v))
+  unfolding accAt reqOf
+  taken v e =
+      let M = begin-mid S N refl in
+      subst (λ (w : List ℕ). take (length w) (bufferAt i (ms .buffers)) ≡ w) (ap (λ (o : Option Acc). lies (reqOf o)) (N .at) ∙ e)
+      (lies-there f p (ms .buffers) b (M .good .buffers) (M .buffer) open-place)
 
   -- a completed request, whose port is not empty
   module _ (ended : uncollected (a .req) ≡ 1) where

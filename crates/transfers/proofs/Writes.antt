@@ -32,7 +32,7 @@ use Rattle.segment.specs.Layout.{writeQueue, freeList, segmentBytes}
 use Rattle.segment.specs.Table.{nth}
 use Rattle.segment.specs.Fields.{entryWords, fileAt, placeAt}
 use Rattle.requests.specs.Moves.{queued, waiting}
-use Rattle.buffers.specs.Buffer.{filled}
+use Rattle.rules.specs.Buffers.{filled}
 use Rattle.ring.specs.Ring as ring
 use Rattle.blocks.specs.Memory.{blocksBytes}
 use Rattle.blocks.specs.Writing.{recOf, Ready}

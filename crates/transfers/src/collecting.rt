@@ -3,14 +3,12 @@ ghost use mathlib.Core.Path.{_≡_};
 ghost use mathlib.Core.List.{List};
 ghost use Prim.Native.Nat.{ℕ, _*_, _<_};
 ghost use lib.ListN.{length};
-ghost use lib.Seq.{sets};
-ghost use Rattle.words.specs.Word.{zeros};
 ghost use Rattle.segment.specs.Layout.{segmentBytes, replyPort, deskPlaces};
 ghost use Rattle.segment.specs.Table.{nth};
-ghost use Rattle.rules.specs.Limits.{entries, bufferBytes, answerRoom};
+ghost use Rattle.rules.specs.Limits.{entries, answerRoom};
 ghost use Rattle.rules.specs.Calls as calls;
 ghost use Rattle.requests.specs.Moves.{collected};
-ghost use Rattle.buffers.specs.Buffer.{buffersBytes};
+ghost use Rattle.buffers.specs.Buffer.{buffersBytes, emptied};
 ghost use Rattle.memory.specs.Memories.{memories};
 ghost use Rattle.midst.specs.Outcome.{Sound, Accepted};
 ghost use Rattle.transfers.specs.Acts.{CollectActs};
@@ -26,7 +24,7 @@ use segment::layout;
 fn free(segment: &mut [u8], buffers: &mut [u8], place: usize)
     requires { ⌜ (length (now segment) ≡ segmentBytes) × (length (now buffers) ≡ buffersBytes) × (place < deskPlaces) × (nth (now segment) (replyPort place) < entries) ⌝ }
     ensures segment { λ _. ⌜ now (segment .exit) ≡ collected (now (segment .entry)) place ⌝ }
-    ensures buffers { λ _. ⌜ now (buffers .exit) ≡ sets (now (buffers .entry)) (bufferBytes * place) (zeros bufferBytes) ⌝ }
+    ensures buffers { λ _. ⌜ now (buffers .exit) ≡ emptied place (now (buffers .entry)) ⌝ }
 {
     buffers::clear_at(buffers, place);
     requests::collect(segment, place as u16);

@@ -90,7 +90,16 @@ pub fn read(
     let row = segment::read_place(segment, place);
     begin_read(segment, place);
     if may_wait(has_writer(segment, f), row) {
-        wait_read(segment, f, place, row.timeout, by_words, limit, row.keep);
+        wait_read(
+            segment,
+            buffers,
+            f,
+            place,
+            row.timeout,
+            by_words,
+            limit,
+            row.keep,
+        );
         conclude(segment, blocks, buffers, f, found.file);
         return unserved(statuses::WAITING);
     }

@@ -9,7 +9,8 @@ ghost use Rattle.segment.specs.Fields.{placeAt};
 ghost use Rattle.segment.specs.Table.{nth};
 ghost use Rattle.rules.specs.Limits.{files, entries, bufferBytes};
 ghost use Rattle.requests.specs.Moves.{queued, waiting};
-ghost use Rattle.buffers.specs.Buffer.{buffersBytes, filled};
+ghost use Rattle.rules.specs.Buffers.{filled};
+ghost use Rattle.buffers.specs.Buffer.{buffersBytes, emptied};
 ghost use Rattle.transfers.specs.Rows.{mayWaitRow, readEntry, writeEntry, begunSegment};
 use segment::PlaceRow;
 use segment::forms::waiting_read;
@@ -54,9 +55,10 @@ fn unit(by_words: bool) -> u16
     if by_words { 1 } else { 0 }
 }
 
-// Makes a read of at most `limit` bytes wait.
+// Makes a read of at most `limit` bytes wait, with nothing in its buffer.
 pub fn wait_read(
     segment: &mut [u8],
+    buffers: &mut [u8],
     f: usize,
     place: usize,
     seconds: u16,
@@ -64,11 +66,13 @@ pub fn wait_read(
     limit: u16,
     keep: u16,
 )
-    requires { ⌜ (length (now segment) ≡ segmentBytes) × (f < files) × (place < deskPlaces) × (nth (now segment) freeList < entries) ⌝ }
+    requires { ⌜ (length (now segment) ≡ segmentBytes) × (length (now buffers) ≡ buffersBytes) × (f < files) × (place < deskPlaces) × (nth (now segment) freeList < entries) ⌝ }
     requires { ⌜ nth (queued (now segment) (readQueue f) (readEntry place «by_words» limit keep)) freeList < entries ⌝ }
-    ensures { λ _. ⌜ now (segment .exit) ≡ waiting (now (segment .entry)) (readQueue f) (readEntry place «by_words» limit keep) place seconds ⌝ }
+    ensures segment { λ _. ⌜ now (segment .exit) ≡ waiting (now (segment .entry)) (readQueue f) (readEntry place «by_words» limit keep) place seconds ⌝ }
+    ensures buffers { λ _. ⌜ now (buffers .exit) ≡ emptied place (now (buffers .entry)) ⌝ }
 {
     let m = waiting_read(place as u16, unit(by_words), limit, keep);
+    buffers::clear_at(buffers, place);
     requests::wait(segment, layout::READ_QUEUES + f, m, seconds);
 }
 

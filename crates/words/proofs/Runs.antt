@@ -1,5 +1,5 @@
 -- Laws of a run of stores, `sets`: of runs one after another, of one store more, and of a run into a part.
-use Prim.Native.Nat.{ℕ, suc, _+_, _≤_, _<_}
+use Prim.Native.Nat.{ℕ, zero, suc, _+_, _-_, _≤_, _<_}
 use mathlib.Core.List.{List, [], _∷_, _++_}
 use mathlib.Core.Path.{_≡_, refl, ap}
 use native.Mathlib.Numerals.{add-one}
@@ -68,3 +68,19 @@ sets-part vs xs a k hv hx =
 
 pub zeros-more : (xs : List ℕ) (n at i : ℕ) → i < n → set (sets xs at (take i (zeros n))) (at + i) 0 ≡ sets xs at (take (i + 1) (zeros n))
 zeros-more xs n at i h = rw (getD-zeros n i h) at (sets-more xs (zeros n) at i (omega (arith, length-zeros n)))
+
+take-zeros : (n m : ℕ) → n ≤ m → take n (zeros m) ≡ zeros n
+unfolding zeros
+take-zeros zero m h = refl
+take-zeros (suc n) zero h = absurd (omega arith)
+take-zeros (suc n) (suc m) h = ap (_∷_ 0) (take-zeros n m (omega arith))
+
+drop-zeros : (n m k : ℕ) → n + k ≡ m → drop n (zeros m) ≡ zeros k
+unfolding zeros
+drop-zeros zero m k h = let e : m ≡ k = omega arith in rw e
+drop-zeros (suc n) zero k h = absurd (omega arith)
+drop-zeros (suc n) (suc m) k h = drop-zeros n m k (omega arith)
+
+-- n of m zeros
+pub part-zeros : (n at m : ℕ) → at + n ≤ m → take n (drop at (zeros m)) ≡ zeros n
+part-zeros n at m h = rw (drop-zeros at m (m - at) (omega arith)) (take-zeros n (m - at) (omega arith))

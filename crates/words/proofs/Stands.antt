@@ -1,4 +1,4 @@
--- Bytes that stand in a memory: `Stands xs a bs`, starting at place a, one after another; and what a store leaves alone.
+-- Bytes that stand in a memory: `BytesAt xs a bs`, starting at place a, one after another; and what a store leaves alone.
 use Prim.Native.Nat.{ℕ, suc, _+_, _≤_, _<_}
 use mathlib.Core.Path.{_≡_, refl, _∙_}
 use mathlib.Core.List.{List, [], _∷_, _++_}
@@ -9,22 +9,22 @@ use lib.ListN.{length, getD, set, take, drop, length-set}
 use lib.Seq.{sets, getD-set-same, getD-set-other, drop-cons}
 use Rattle.words.specs.Word.{word, wordAt}
 
-unfoldable pub Stands : List ℕ → ℕ → List ℕ → Type 0
-Stands xs a [] = Unit {0}
-Stands xs a (b ∷ bs) = (getD xs a 0 ≡ b) × Stands xs (suc a) bs
+unfoldable pub BytesAt : List ℕ → ℕ → List ℕ → Type 0
+BytesAt xs a [] = Unit {0}
+BytesAt xs a (b ∷ bs) = (getD xs a 0 ≡ b) × BytesAt xs (suc a) bs
 
-pub join : (bs cs xs : List ℕ) (a c : ℕ) → a + length bs ≡ c → Stands xs a bs → Stands xs c cs → Stands xs a (bs ++ cs)
-unfolding Stands
+pub join : (bs cs xs : List ℕ) (a c : ℕ) → a + length bs ≡ c → BytesAt xs a bs → BytesAt xs c cs → BytesAt xs a (bs ++ cs)
+unfolding BytesAt
 join [] cs xs a c e h k = let f : a ≡ c = omega arith in rw f k
 join (b ∷ bs) cs xs a c e h k = (h .0, join bs cs xs (suc a) c (omega arith) (h .1) k)
 
-pub left : (bs cs xs : List ℕ) (a : ℕ) → Stands xs a (bs ++ cs) → Stands xs a bs
-unfolding Stands
+pub left : (bs cs xs : List ℕ) (a : ℕ) → BytesAt xs a (bs ++ cs) → BytesAt xs a bs
+unfolding BytesAt
 left [] cs xs a h = tt
 left (b ∷ bs) cs xs a h = (h .0, left bs cs xs (suc a) (h .1))
 
-pub right : (bs cs xs : List ℕ) (a c : ℕ) → a + length bs ≡ c → Stands xs a (bs ++ cs) → Stands xs c cs
-unfolding Stands
+pub right : (bs cs xs : List ℕ) (a c : ℕ) → a + length bs ≡ c → BytesAt xs a (bs ++ cs) → BytesAt xs c cs
+unfolding BytesAt
 right [] cs xs a c e h = let f : c ≡ a = omega arith in rw f h
 right (b ∷ bs) cs xs a c e h = right bs cs xs (suc a) c (omega arith) (h .1)
 
@@ -34,28 +34,28 @@ getD-sets [] xs c i h = refl
 getD-sets (v ∷ vs) xs c i (inl h) = getD-sets vs (set xs c v) (suc c) i (inl (omega arith)) ∙ getD-set-other xs c i v 0 (λ q. omega arith)
 getD-sets (v ∷ vs) xs c i (inr h) = getD-sets vs (set xs c v) (suc c) i (inr (omega arith)) ∙ getD-set-other xs c i v 0 (λ q. omega arith)
 
-pub other : (bs vs xs : List ℕ) (a c : ℕ) → (a + length bs ≤ c) ⊎ (c + length vs ≤ a) → Stands xs a bs → Stands (sets xs c vs) a bs
-unfolding Stands
+pub other : (bs vs xs : List ℕ) (a c : ℕ) → (a + length bs ≤ c) ⊎ (c + length vs ≤ a) → BytesAt xs a bs → BytesAt (sets xs c vs) a bs
+unfolding BytesAt
 other [] vs xs a c d h = tt
 other (b ∷ bs) vs xs a c (inl d) h = (getD-sets vs xs c a (inl (omega arith)) ∙ h .0, other bs vs xs (suc a) c (inl (omega arith)) (h .1))
 other (b ∷ bs) vs xs a c (inr d) h = (getD-sets vs xs c a (inr d) ∙ h .0, other bs vs xs (suc a) c (inr (omega arith)) (h .1))
 
 -- what was stored stands
-pub same : (vs xs : List ℕ) (a : ℕ) → a + length vs ≤ length xs → Stands (sets xs a vs) a vs
-unfolding Stands
+pub same : (vs xs : List ℕ) (a : ℕ) → a + length vs ≤ length xs → BytesAt (sets xs a vs) a vs
+unfolding BytesAt
 same [] xs a h = tt
 same (v ∷ vs) xs a h = (
   getD-sets vs (set xs a v) (suc a) a (inl (omega arith)) ∙ getD-set-same xs a v 0 (omega arith),
   same vs (set xs a v) (suc a) (rw length-set (omega arith)),
 )
 
-pub word-read : (xs : List ℕ) (a w : ℕ) → Stands xs a (word w) → wordAt xs a ≡ w
-unfolding Stands
+pub word-read : (xs : List ℕ) (a w : ℕ) → BytesAt xs a (word w) → wordAt xs a ≡ w
+unfolding BytesAt
 word-read xs a w h = rw (h .0, add-one a, h .1 .0) (omega arith)
 
 -- the part that is lent from there is those bytes
-pub part-read : (bs xs : List ℕ) (a : ℕ) → a + length bs ≤ length xs → Stands xs a bs → take (length bs) (drop a xs) ≡ bs
-unfolding Stands
+pub part-read : (bs xs : List ℕ) (a : ℕ) → a + length bs ≤ length xs → BytesAt xs a bs → take (length bs) (drop a xs) ≡ bs
+unfolding BytesAt
 part-read [] xs a r h = refl
 part-read (b ∷ bs) xs a r h =
     rw (drop-cons xs a 0 (omega arith), h .0, part-read bs xs (suc a) (omega arith) (h .1))
@@ -64,8 +64,8 @@ part-read (b ∷ bs) xs a r h =
 unfoldable pub Within : List ℕ → List ℕ → ℕ → ℕ → Type 0
 Within xs ys a n = (i : ℕ) → (i < a) ⊎ (a + n ≤ i) → getD ys i 0 ≡ getD xs i 0
 
-pub kept : (bs xs ys : List ℕ) (b a n : ℕ) → Within xs ys a n → (b + length bs ≤ a) ⊎ (a + n ≤ b) → Stands xs b bs → Stands ys b bs
-unfolding Stands Within
+pub kept : (bs xs ys : List ℕ) (b a n : ℕ) → Within xs ys a n → (b + length bs ≤ a) ⊎ (a + n ≤ b) → BytesAt xs b bs → BytesAt ys b bs
+unfolding BytesAt Within
 kept [] xs ys b a n w d h = tt
 kept (v ∷ bs) xs ys b a n w (inl d) h = (w b (inl (omega arith)) ∙ h .0, kept bs xs ys (suc b) a n w (inl (omega arith)) (h .1))
 kept (v ∷ bs) xs ys b a n w (inr d) h = (w b (inr d) ∙ h .0, kept bs xs ys (suc b) a n w (inr (omega arith)) (h .1))

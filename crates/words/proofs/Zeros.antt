@@ -9,7 +9,7 @@ use lib.Dec.{eqb}
 use lib.ListN.{getD}
 use borrow.Author.Tests.{eq-eqb, ne-eqb, eqb-true, eqb-false}
 use Rattle.words.specs.Word.{zeros, quiet}
-use Rattle.words.proofs.Stands.{Stands}
+use Rattle.words.proofs.Stands.{BytesAt}
 
 quiet-on : (xs : List ℕ) (p n : ℕ) → getD xs p 0 ≡ 0 → quiet xs p (suc n) ≡ quiet xs (suc p) n
 unfolding quiet
@@ -29,16 +29,16 @@ unfolding quiet
 quiet-end xs p zero h = refl
 quiet-end xs p (suc n) h = absurd (omega arith)
 
-pub quiet-stands : (xs : List ℕ) (n p : ℕ) → quiet xs p n ≡ true → Stands xs p (zeros n)
-unfolding Stands zeros
+pub quiet-stands : (xs : List ℕ) (n p : ℕ) → quiet xs p n ≡ true → BytesAt xs p (zeros n)
+unfolding BytesAt zeros
 quiet-stands xs zero p h = tt
 quiet-stands xs (suc n) p h = go (eqb (getD xs p 0) 0) refl (quiet-stands xs n (suc p))
   where
-    go : (t : Bool) → eqb (getD xs p 0) 0 ≡ t → (quiet xs (suc p) n ≡ true → Stands xs (suc p) (zeros n)) → Stands xs p (zeros (suc n))
+    go : (t : Bool) → eqb (getD xs p 0) 0 ≡ t → (quiet xs (suc p) n ≡ true → BytesAt xs (suc p) (zeros n)) → BytesAt xs p (zeros (suc n))
     go true e k = let z : getD xs p 0 ≡ 0 = eqb-true (getD xs p 0) 0 e in (z, k (sym (quiet-on xs p n z) ∙ h))
     go false e k = absurd (true≢false (sym h ∙ quiet-bad xs p (suc n) (omega arith) (eqb-false (getD xs p 0) 0 e)))
 
-pub quiet-true : (xs : List ℕ) (n p : ℕ) → Stands xs p (zeros n) → quiet xs p n ≡ true
-unfolding Stands quiet zeros
+pub quiet-true : (xs : List ℕ) (n p : ℕ) → BytesAt xs p (zeros n) → quiet xs p n ≡ true
+unfolding BytesAt quiet zeros
 quiet-true xs zero p h = refl
 quiet-true xs (suc n) p h = quiet-on xs p n (h .0) ∙ quiet-true xs n (suc p) (h .1)

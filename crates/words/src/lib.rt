@@ -1,6 +1,10 @@
 // Bytes and 16-bit words in lent memory, high byte first. A place is a byte's index.
+pub mod joined;
+
+use joined::eight;
+use joined::four;
 ghost use mathlib.Core.Path.{_≡_};
-ghost use Prim.Native.Nat.{_+_, _≤_};
+ghost use Prim.Native.Nat.{_+_, _≤_, _<_};
 ghost use lib.ListN.{length};
 ghost use lib.Seq.{sets};
 ghost use Rattle.words.specs.Word.{word, wordAt, zeros, quiet};
@@ -133,8 +137,8 @@ pub fn copy(s: &mut [u8], at: usize, from: &[u8])
     store_run(s, at + last, &from[last..]);
 }
 
-// Whether n bytes, starting at `at`, are zero: one `or` of them all, with no early exit, so that LLVM takes many bytes at a time.
-pub fn quiet(s: &[u8], at: usize, n: usize) -> bool
+// Whether n bytes, starting at `at`, are zero, byte by byte.
+fn quiet_bytes(s: &[u8], at: usize, n: usize) -> bool
     requires { ⌜ at + n ≤ length (now s) ⌝ }
     ensures { λ r. ⌜ r ≡ quiet (now (s .entry)) at n ⌝ }
 {
@@ -145,6 +149,35 @@ pub fn quiet(s: &[u8], at: usize, n: usize) -> bool
         all = all | s[p];
         p += 1;
         left -= 1;
+    }
+    all == 0
+}
+
+// Whether n bytes, starting at `at`, are zero: fewer than eight.
+fn quiet_few(s: &[u8], at: usize, n: usize) -> bool
+    requires { ⌜ (at + n ≤ length (now s)) × (n < 8) ⌝ }
+    ensures { λ r. ⌜ r ≡ quiet (now (s .entry)) at n ⌝ }
+{
+    if n < 4 {
+        return quiet_bytes(s, at, n);
+    }
+    (four(s, at) | four(s, at + (n - 4))) == 0
+}
+
+// Whether n bytes, starting at `at`, are zero: one `or` of them all, eight at a time, with no early exit, so that LLVM takes many bytes at a time. The last eight
+// bytes come first, and overlap the others, so that no loop is needed for a remainder.
+pub fn quiet(s: &[u8], at: usize, n: usize) -> bool
+    requires { ⌜ at + n ≤ length (now s) ⌝ }
+    ensures { λ r. ⌜ r ≡ quiet (now (s .entry)) at n ⌝ }
+{
+    if n < 8 {
+        return quiet_few(s, at, n);
+    }
+    let mut all = eight(s, at + (n - 8));
+    let mut i = 0;
+    while i + 8 <= n {
+        all = all | eight(s, at + i);
+        i += 8;
     }
     all == 0
 }

@@ -9,8 +9,8 @@ use lib.ListN.{getD}
 use mathlib.Core.Logic.{_⊎_, inl, inr, ⊎-elim}
 use borrow.Author.Tests.{eq-eqb, ne-eqb, eqb-true}
 use Rattle.rules.specs.Limits.{mostType}
-use Rattle.words.specs.Word.{wordAt, quiet}
-use native.Mathlib.Nat.{mod-eq-of-lt, mod-mod}
+use Rattle.words.specs.Word.{wordAt}
+use native.Mathlib.Nat.{mod-eq-of-lt, mod-mod, mul-le-mul-right}
 use native.Mathlib.Numerals.{add-one}
 use Rattle.rules.specs.State.{Geo}
 use Rattle.rules.specs.Store.{blockBytes}
@@ -19,6 +19,7 @@ use Rattle.shares.specs.Back.{next}
 use Rattle.shares.specs.Laid.{fair, walk, laid}
 use Rattle.shares.specs.Sound.{sweep}
 use Rattle.shares.proofs.Laid.{Fair, fair-says, fair-made}
+use Rattle.shares.proofs.Ring.{blockBytes-places}
 use Rattle.shares.proofs.Sound.{sweep-mod}
 use Rattle.ring.specs.declared.layout.Span.{Span}
 use Rattle.ring.specs.Ring.{spanOf, wrapped}
@@ -81,15 +82,10 @@ module _ (words : ℕ) (xs : List ℕ) (e end p : ℕ) where
   walk-bad zero o f = absurd (omega arith)
   walk-bad (suc n) o f = pick-false (fair words xs e p) _ false f
 
-  pub walk-off : (n : ℕ) → n ≤ 0 → (p ≡ end → ⊥) → walk words xs e end p n ≡ false
+  pub walk-end : (n : ℕ) → n ≤ 0 → walk words xs e end p n ≡ eqb p end
   unfolding walk
-  walk-off zero o f = ap (λ (b : Bool). b && quiet xs p (e - p)) (ne-eqb p end f)
-  walk-off (suc n) o f = absurd (omega arith)
-
-  pub walk-end : (n : ℕ) → n ≤ 0 → p ≡ end → walk words xs e end p n ≡ quiet xs p (e - p)
-  unfolding walk
-  walk-end zero o f = ap (λ (b : Bool). b && quiet xs p (e - p)) (eq-eqb p end f)
-  walk-end (suc n) o f = absurd (omega arith)
+  walk-end zero o = refl
+  walk-end (suc n) o = absurd (omega arith)
 
 -- a block with its records
 
@@ -97,14 +93,20 @@ module _ (words : ℕ) (xs : List ℕ) (b : Span) (count n : ℕ) (c : n ≡ wor
   pub holds-off : (n ≡ count → ⊥) → false ≡ laidAt words xs b && eqb (wordAt xs (b .at)) count
   holds-off f = sym (ap (λ (t : Bool). laidAt words xs b && t) (ne-eqb (wordAt xs (b .at)) count (λ e. f (c ∙ e))) ∙ and-false (laidAt words xs b))
 
-  pub holds-on : (u : ℕ) (r : Bool) → n ≡ count → u ≡ wordAt xs (b .at + 2) → r ≡ walk words xs (b .at + b .size) (b .at + 2 * u) (b .at + 4) n
+  pub holds-on : (u : ℕ) (r : Bool) → n ≡ count → u ≡ wordAt xs (b .at + 2) → r ≡ walk words xs (b .at + b .size) (b .at + 2 * u) (b .at + 4) count
       → r ≡ laidAt words xs b && eqb (wordAt xs (b .at)) count
   unfolding laidAt
   holds-on u r f v e =
-      let q : r ≡ laidAt words xs b = rw (← v, ← c) e in
+      let q : r ≡ laidAt words xs b = rw (← v, ← c, f) e in
       q ∙ sym (ap (λ (t : Bool). laidAt words xs b && t) (eq-eqb (wordAt xs (b .at)) count (sym c ∙ f)) ∙ and-true (laidAt words xs b))
 
 -- blocks round the ring
+
+-- a block has room for c records of the full size
+pub sweep-room : (g : Geo) (k left c : ℕ) (b : Span) → b ≡ spanOf g k → c ≡ min left (g .factor) → 4 + c * (6 + 2 * g .words) ≤ b .size
+sweep-room g k left c b e m =
+    let f : c ≤ g .factor = omega arith in
+    rw e (omega (arith, mul-le-mul-right (g .words + 3) f, blockBytes-places g))
 
 module _ (g : Geo) (xs : List ℕ) (k left : ℕ) where
   pub sweep-done : (n : ℕ) → left ≡ 0 → sweep g xs k n left ≡ true

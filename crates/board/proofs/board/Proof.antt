@@ -1,4 +1,5 @@
-use Rattle.board.proofs.Boards.{board-unsound, board-short, board-stood, board-shown, board-low}
+use Rattle.decision.proofs.desk.Both.{sound-stands}
+use Rattle.board.proofs.Boards.{board-unsound, board-short, board-shown, board-low}
 use Rattle.words.specs.Word.{Bytes}
 use borrow.Author.Tests.{not-true, not-false}
 use native.Mathlib.Omega.{arith}
@@ -20,33 +21,33 @@ returns-2 c =
     let two : tie.Then2 = search in
     (rw (c .refused2 .ensures .0, c .refused2 .ensures .1) (board-short _ _ (sym (test .sound .ensures) ∙ not-false _ (one .if1 .left)) (two .if2 .taken)), omega (arith, c .refused2 .ensures .1))
 
-put-files-requires : tie.Need-put-files-requires
+put-board-requires : tie.Need-put-board-requires
 unfolding Bytes
-put-files-requires c κs =
+put-board-requires c κs =
     let test : tie.After-sound = search in
     let one : tie.Else1 = search in
     let two : tie.Else2 = search in
     let known : tie.After-shared-slice-known = search in
     let known2 : tie.After-shared-slice-known2 = search in
-    let known3 : tie.After-shared-slice-known3 = search in
-    (board-stood _ (sym (test .sound .ensures) ∙ not-false _ (one .if1 .left)) (λ i. known .shared-slice-known .given i .fits) (λ i. known2 .shared-slice-known2 .given i .fits) (λ i. known3 .shared-slice-known3 .given i .fits), two .if2 .left)
+    let known3 : tie.After-shared-slice-known3 = search in (
+      sound-stands _ (λ i. known .shared-slice-known .given i .fits) (λ i. known2 .shared-slice-known2 .given i .fits) (λ i. known3 .shared-slice-known3 .given i .fits)
+          (sym (test .sound .ensures) ∙ not-false _ (one .if1 .left)),
+      two .if2 .left,
+    )
 
 returns-3 : tie.Need-returns-3
 unfolding Bytes
 returns-3 c =
-    let start : tie.Start = search in
     let test : tie.After-sound = search in
     let one : tie.Else1 = search in
     let two : tie.Else2 = search in
-    let files : tie.After-put-files = search in
-    let end : tie.After-put-nothing = search in
+    let text : tie.After-put-board = search in
     let known : tie.After-shared-slice-known = search in
     let known2 : tie.After-shared-slice-known2 = search in
     let known3 : tie.After-shared-slice-known3 = search in
-    let t = sym (test .sound .ensures) ∙ not-false _ (one .if1 .left) in (
-      board-shown _ _ t (two .if2 .left) _ _ _ _ (files .put-files .ensures) (end .put-nothing .ensures),
-      board-low _ _ t (λ i. known .shared-slice-known .given i .fits) (λ i. known2 .shared-slice-known2 .given i .fits) (λ i. known3 .shared-slice-known3 .given i .fits) (two .if2 .left) _ _ _ _ (files .put-files .ensures) (end .put-nothing .ensures),
-    )
+    let t = sym (test .sound .ensures) ∙ not-false _ (one .if1 .left) in
+    let s = sound-stands _ (λ i. known .shared-slice-known .given i .fits) (λ i. known2 .shared-slice-known2 .given i .fits) (λ i. known3 .shared-slice-known3 .given i .fits) t in
+    (board-shown _ _ t (two .if2 .left) _ _ (text .put-board .ensures), board-low _ _ t (two .if2 .left) _ _ (text .put-board .ensures) s)
 
 pub board-spec : {M : Type 1} → statement M
 board-spec =
@@ -57,7 +58,6 @@ board-spec =
     returns
     (λ c κs. search needs)
     returns-2
-    put-files-requires
-    (λ c κs. search needs)
+    put-board-requires
     (λ c. search needs)
     returns-3)

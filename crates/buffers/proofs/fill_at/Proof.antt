@@ -1,5 +1,5 @@
 use Rattle.words.proofs.Parts.{span, part-lent}
-use Rattle.buffers.proofs.Filled.{length-filled}
+use Rattle.rules.proofs.Buffers.{length-filled}
 use Rattle.buffers.specs.Buffer.{bufferCount}
 use borrow.Author.Needs.{needs}
 use Rattle.buffers.proofs.fill_at.Statement.{statement}

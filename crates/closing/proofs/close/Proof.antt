@@ -5,10 +5,6 @@ use Rattle.closing.proofs.Clears.{close-size, clears, close-done}
 use Rattle.closing.proofs.close.Statement.{statement}
 use Rattle.closing.proofs.close.Tie as tie
 
--- The way back from one place to another.
-abbrev after-remove-from-after-conclude : tie.After-conclude → tie.After-remove
-after-remove-from-after-conclude c = search
-
 mul-place-side : tie.Need-mul-place-side
 mul-place-side c =
     let start : tie.Start = search in
@@ -51,7 +47,7 @@ leave-requires c κs =
     let (d, s, S) = start .pre .0 in
     let C = clears S _ _ (start .pre .1 d s S) _ (place-side .ensures) _ (take-file .ensures) _ _
     (remove .ensures .1 .0) (remove .ensures .1 .1) in
-    (_, _, C .file, C .acc, C .mid, C .at, C .still)
+    (_, C .file, C .acc, C .mid, C .at, C .still)
 
 conclude-requires : tie.Need-conclude-requires
 conclude-requires c κs =
@@ -63,7 +59,7 @@ conclude-requires c κs =
     let (d, s, S) = start .pre .0 in
     let C = clears S _ _ (start .pre .1 d s S) _ (place-side .ensures) _ (take-file .ensures) _ _
     (remove .ensures .1 .0) (remove .ensures .1 .1) in
-    (_, _, leave .ensures _ _ (C .file) (C .acc) (C .mid) (C .at) (C .still))
+    (_, _, leave .ensures _ (C .file) (C .acc) (C .mid) (C .at) (C .still))
 
 same-length : tie.Need-same-length
 same-length c =
@@ -81,8 +77,9 @@ same-length-2 c =
 same-length-3 : tie.Need-same-length-3
 same-length-3 c =
     let here : tie.After-conclude = search in let conclude = here .conclude in
-    let here = after-remove-from-after-conclude here in let remove = here .remove in
-    conclude .kept .1 .1 .0 ∙ remove .kept .1 .0
+    let here : tie.After-leave = search in let leave = here .leave in
+    let here : tie.After-remove = search in let remove = here .remove in
+    conclude .kept .1 .1 .0 ∙ (leave .kept .1 .1 .0 ∙ remove .kept .1 .0)
 
 returns : tie.Need-returns
 returns c =
@@ -96,7 +93,7 @@ returns c =
     let C = clears S _ _ (start .pre .1 d s S) _ (place-side .ensures) _ (take-file .ensures) _ _
     (remove .ensures .1 .0) (remove .ensures .1 .1) in
     close-done C
-    (conclude .ensures _ _ (leave .ensures _ _ (C .file) (C .acc) (C .mid) (C .at) (C .still)) (S .stands .bodies) _)
+    (conclude .ensures _ _ (leave .ensures _ (C .file) (C .acc) (C .mid) (C .at) (C .still)) (S .stands .bodies) _)
 
 pub close-spec : {M : Type 1} → statement M
 close-spec =

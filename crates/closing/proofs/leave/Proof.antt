@@ -6,41 +6,46 @@ use Rattle.closing.proofs.leave.Statement.{statement}
 use Rattle.closing.proofs.leave.Tie as tie
 
 mul-place : tie.Need-mul-place
-mul-place c = let (buffers, o, b, a, M, e, i) = c .before .before .pre in record { fits = omega (arith, leave-size M _ a e .1) }
+mul-place c =
+    let start : tie.Start = search in
+    let (o, b, a, M, e, i) = start .pre in
+    record { fits = omega (arith, leave-size M _ a e .1) }
 
 add-place : tie.Need-add-place
 add-place c =
-    let (buffers, o, b, a, M, e, i) = c .before .before .pre in
+    let start : tie.Start = search in
+    let (o, b, a, M, e, i) = start .pre in
     record { fits = omega (arith, leave-size M _ a e .1, leave-size M _ a e .2) }
 
 read-place-requires : tie.Need-read-place-requires
 read-place-requires c κs =
-    let (buffers, o, b, a, M, e, i) = c .before .before .before .pre in
+    let start : tie.Start = search in
+    let (o, b, a, M, e, i) = start .pre in
     (leave-size M _ a e .0, omega (arith, leave-size M _ a e .1, leave-size M _ a e .2))
 
 write-place-requires : tie.Need-write-place-requires
 write-place-requires c κs =
     let start : tie.Start = search in
-    let (buffers, o, b, a, M, e, i) = start .pre in
+    let (o, b, a, M, e, i) = start .pre in
     (leave-size M _ a e .0, omega (arith, leave-size M _ a e .1, leave-size M _ a e .2))
 
 returns : tie.Need-returns
 returns c =
     let here : tie.After-write-place = search in let write-place = here .write-place in
     let here : tie.After-read-place = search in let read-place = here .read-place in
-    λ buffers o b a M e i.
+    λ o b a M e i.
     reader-gone M _ a e i _ (read-place .ensures) _ (write-place .ensures) (c .if1 .taken)
 
 part-requires : tie.Need-part-requires
 part-requires c κs =
+    let here : tie.Else1 = search in let if1 = here .if1 in
     let here : tie.After-write-place = search in let write-place = here .write-place in
     let here : tie.After-read-place = search in let read-place = here .read-place in
     let start : tie.Start = search in
-    let (buffers, o, b, a, M, e, i) = start .pre in (
-      buffers,
+    let (o, b, a, M, e, i) = start .pre in (
       o,
       _,
-      writer-gone M _ a e i _ (read-place .ensures) _ (write-place .ensures) (c .before .before .if1 .left),
+      writer-gone M _ a e i _ (read-place .ensures) _ (write-place .ensures) (if1 .left),
     )
 
 returns-2 : tie.Need-returns-2
@@ -49,9 +54,9 @@ returns-2 c =
     let here : tie.Else1 = search in let if1 = here .if1 in
     let here : tie.After-write-place = search in let write-place = here .write-place in
     let here : tie.After-read-place = search in let read-place = here .read-place in
-    λ buffers o b a M e i.
+    λ o b a M e i.
     writer-done M _ a e i _ (read-place .ensures) _ (write-place .ensures) (if1 .left)
-    (part .ensures buffers o _
+    (part .ensures o _
     (writer-gone M _ a e i _ (read-place .ensures) _ (write-place .ensures) (if1 .left)))
 
 pub leave-spec : {M : Type 1} → statement M
@@ -65,6 +70,7 @@ leave-spec =
     (λ c. search needs)
     returns
     part-requires
+    (λ c. search needs)
     (λ c. search needs)
     (λ c. search needs)
     returns-2)

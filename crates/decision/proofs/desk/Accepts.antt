@@ -1,4 +1,4 @@
--- Memories of bytes whose rows pass, whose lists are as the survey says and whose unused buffers are zero stand for a desk.
+-- Memories of bytes whose rows pass and whose lists are as the survey says stand for a desk.
 use Prim.Native.Nat.{ℕ, _*_, _<_}
 use mathlib.Core.Bool.{true}
 use mathlib.Core.Path.{_≡_, sym, ap, subst, _∙_}
@@ -17,8 +17,8 @@ use Rattle.memory.specs.Stands.{Segment, buffersAt, FileBytes}
 use Rattle.words.specs.Word.{Bytes}
 use Rattle.memory.specs.Fine.{StandsFor}
 use Rattle.sound.specs.Rows.{builtAt}
-use Rattle.decision.specs.Survey.{Survey, Marked}
-use Rattle.sound.specs.Sound.{filesOk, idlesZero}
+use Rattle.decision.specs.Survey.{Survey}
+use Rattle.sound.specs.Sound.{filesOk}
 use Rattle.decision.proofs.desk.MadeDesk.{allocFor, deskFor}
 use Rattle.decision.proofs.desk.MadeBase.{file-built, file-blank}
 use Rattle.decision.proofs.desk.MadeLists.{lists-right}
@@ -27,8 +27,7 @@ use Rattle.decision.proofs.desk.MadeFine.{bodies}
 use Rattle.decision.proofs.desk.MadeAgreed.{fine-file, agreed}
 
 module _ (s blocks bufs : List ℕ) (bs : Bytes s) (bb : Bytes blocks) (bf : Bytes bufs) (ls : List (List ℕ)) (es : length s ≡ segmentBytes)
-    (eb : length blocks ≡ shareBytes * files) (ef : length bufs ≡ places * bufferBytes * files) (ok : filesOk s blocks 0 files ≡ true) (U : Survey s bufs ls)
-    (busy : List ℕ) (idle : idlesZero s bufs busy 0 files ≡ true) (m : Marked s ls busy) where
+    (eb : length blocks ≡ shareBytes * files) (ef : length bufs ≡ places * bufferBytes * files) (ok : filesOk s blocks 0 files ≡ true) (U : Survey s ls) where
   abbrev d : Desk
   d = deskFor s blocks bufs ls
 
@@ -47,7 +46,7 @@ module _ (s blocks bufs : List ℕ) (bs : Bytes s) (bb : Bytes blocks) (bf : Byt
   file-bytes : (f : ℕ) → f < files → FileBytes (fileOf d f) (shareAt f blocks) (buffersAt f bufs)
   unfolding FileBytes
   file-bytes f h = by-cases (builtAt s f)
-      (λ t. subst (λ (x : File). FileBytes x (shareAt f blocks) (buffersAt f bufs)) (sym (file-built s blocks bufs ls ok U f h t)) (bodies s blocks bufs ls bb eb ef ok U f h t busy m idle))
+      (λ t. subst (λ (x : File). FileBytes x (shareAt f blocks) (buffersAt f bufs)) (sym (file-built s blocks bufs ls ok U f h t)) (bodies s blocks bufs ls bb eb ef ok U f h t))
       (λ t. subst (λ (x : File). FileBytes x (shareAt f blocks) (buffersAt f bufs)) (sym (file-blank s blocks bufs ls ok U f h t)) tt)
 
   pub accepts : (d : Desk) × (a : Alloc) × StandsFor (memories s blocks bufs) d a

@@ -16,7 +16,6 @@ use Rattle.memory.specs.Stands.{Stands}
 use Rattle.words.specs.Word.{Bytes}
 use Rattle.memory.specs.Fine.{StandsFor}
 use Rattle.memory.proofs.Reached.{reached}
-use Rattle.sound.specs.Walks.{allWalks}
 use Rattle.sound.specs.Sound.{soundly, listsOk}
 use Rattle.decision.proofs.lists.Decides.{decides-yes, decides-no}
 use Rattle.decision.proofs.desk.DeskPasses.{passes}
@@ -30,20 +29,19 @@ module _ (m : Memories) where
       let (r₂, ok) = and-true _ _ r₁ in
       let (r₃, ef) = and-true _ _ r₂ in
       let (es, eb) = and-true _ _ r₃ in
-      let (w₁, idle) = and-true _ _ w in
-      let (good, met) = and-true _ _ w₁ in
-      let (ls, U, k) = decides-yes (m .segment) (m .buffers) good met in
+      let (good, met) = and-true _ _ w in
+      let (ls, U) = decides-yes (m .segment) good met in
       accepts (m .segment) (m .blocks) (m .buffers) bs bb bf ls (eqb-true (length (m .segment)) segmentBytes es) (eqb-true (length (m .blocks)) (shareBytes * files) eb)
-      (eqb-true (length (m .buffers)) (places * bufferBytes * files) ef) ok U (allWalks (m .segment) (m .buffers) .busy) idle k
+      (eqb-true (length (m .buffers)) (places * bufferBytes * files) ef) ok U
 
   pub stands-sound : (d : Desk) (a : Alloc) → StandsFor m d a → soundly m ≡ true
   unfolding soundly listsOk
   stands-sound d a S =
-      let (es, eb, ef, ok, U, idle) = passes (m .segment) (m .blocks) (m .buffers) d a S in
-      let (good, met, k) = decides-no (m .segment) (m .buffers) (listsOf d a) U in
+      let (es, eb, ef, ok, U) = passes (m .segment) (m .blocks) (m .buffers) d a S in
+      let (good, met) = decides-no (m .segment) (listsOf d a) U in
       true-and _ _ (true-and _ _ (true-and _ _ (true-and _ _ (eq-eqb (length (m .segment)) segmentBytes es) (eq-eqb (length (m .blocks)) (shareBytes * files) eb))
       (eq-eqb (length (m .buffers)) (places * bufferBytes * files) ef)) ok)
-      (true-and _ _ (true-and _ _ good met) (idle (allWalks (m .segment) (m .buffers) .busy) k))
+      (true-and _ _ good met)
 
   pub soundly-is : Bytes (m .segment) → Bytes (m .blocks) → Bytes (m .buffers)
       → (soundly m ≡ true → (d : Desk) × (a : Alloc) × StandsFor m d a) × ((d : Desk) × (a : Alloc) × StandsFor m d a → soundly m ≡ true)

@@ -1,30 +1,26 @@
 -- An entry that holds a request, or a timer, of a desk passes the test of its list.
-use Prim.Native.Nat.{ℕ, _+_, _-_, _*_, _/_, _≤_, _<_}
+use Prim.Native.Nat.{ℕ, _+_, _*_, _/_, _≤_, _<_}
 use mathlib.Core.Bool.{Bool, true, false}
 use mathlib.Core.Path.{_≡_, refl, sym, ap, _∙_}
 use mathlib.Core.List.{List}
-use mathlib.Core.Option.{Option, none, some}
+use mathlib.Core.Option.{some}
 use native.Mathlib.Omega.{arith}
-use lib.ListN.{length, getD, take, drop, replicate, length-append}
+use lib.ListN.{length, getD, take, drop, replicate}
 use lib.Seq.{getD-take, getD-drop}
-use Rattle.words.specs.Word.{zeros}
-use Rattle.words.proofs.Runs.{length-zeros}
 use Rattle.occurrences.specs.Count.{bit}
 use Rattle.occurrences.proofs.Counts.{bit-le}
-use Rattle.rules.specs.Limits.{files, places, bufferBytes, roomWords}
-use Rattle.rules.specs.State.{Wanted, Offered, Brought, Wrote, Req, idle, reading, writing, readDone, writeDone, Acc, Timer}
-use Rattle.rules.specs.Memories.{bufferAt, lies, buffer}
+use Rattle.rules.specs.Limits.{files, places, bufferBytes}
+use Rattle.rules.specs.State.{Wanted, Offered, Brought, Wrote, reading, writing, readDone, writeDone, Acc, Timer}
 use Rattle.segment.specs.Layout.{dataAt, dataWords}
 use Rattle.segment.specs.Table.{nth, dataOf}
 use Rattle.segment.specs.Fields.{waitingRead, waitingWrite, completedRequest, entryWords}
-use Rattle.laws.specs.Bounds.{leastRefusal, Bounded}
+use Rattle.laws.specs.Bounds.{leastRefusal}
 use Rattle.laws.specs.Sides.{Fitting, Sided}
 use Rattle.memory.specs.Image.{reqWords, timerWords}
-use Rattle.laws.specs.Outstanding.{reqOf}
 use Rattle.sound.specs.Rows.{fileWord, sideAt, zeroWords}
-use Rattle.sound.specs.Walks.{entryWord, placeIn, sizeIn, restZero, freeEntry}
+use Rattle.sound.specs.Walks.{entryWord, placeIn, sizeIn, freeEntry}
 use Rattle.decision.specs.Survey.{ReadEntry, WriteEntry, PortEntry, TimerEntry}
-use Rattle.decision.proofs.desk.Words.{none-at, data-at, words-zero, is-rest}
+use Rattle.decision.proofs.desk.Words.{none-at, data-at, words-zero}
 use Rattle.decision.proofs.desk.DeskRows.{Rowed, some-side}
 
 -- entry e holds the words m
@@ -66,36 +62,16 @@ timer-entry s e t h q = (
   word-in s e _ q 7 (omega arith),
 )
 
--- record buffers
-
-pub lies-short : (words : ℕ) (q : Req) → words ≤ roomWords → Bounded words q → length (lies q) ≤ bufferBytes
-unfolding Bounded lies
-lies-short n idle h b = omega arith
-lies-short n (reading q) h b = omega arith
-lies-short n (writing q) h b = omega arith
-lies-short n (readDone q) h b = b .0
-lies-short n (writeDone q) h b = omega arith
-
-pub buffer-size : (o : Option Acc) → length (lies (reqOf o)) ≤ bufferBytes → length (buffer o) ≡ bufferBytes
-unfolding buffer reqOf
-buffer-size none h = length-zeros bufferBytes
-buffer-size (some a) h =
-    length-append (lies (a .req)) (zeros (bufferBytes - length (lies (a .req)))) ∙ omega (arith, length-zeros (bufferBytes - length (lies (a .req))))
-
 -- the request of accessor a, at place p of file f
-module _ (s bufs : List ℕ) (size : length bufs ≡ places * bufferBytes * files) (i e : ℕ) (h : i < files * places) (a : Acc) (sided : Sided a) (r : Rowed s i (some a))
-    (body : bufferAt i bufs ≡ buffer (some a)) (holds : dataOf s e ≡ reqWords i (a .req)) where
-  rest : length (lies (a .req)) ≤ bufferBytes → restZero bufs i (length (lies (a .req))) ≡ true
-  rest k = is-rest bufs size i h (lies (a .req)) k (unfold buffer in body)
-
+module _ (s : List ℕ) (i e : ℕ) (h : i < files * places) (a : Acc) (sided : Sided a) (r : Rowed s i (some a)) (holds : dataOf s e ≡ reqWords i (a .req)) where
   pub reader-side : a .writer ≡ false → sideAt s i ≡ 1
   reader-side u = some-side s i a r ∙ ap (λ (t : Bool). 1 + bit t) u
 
   pub writer-side : a .writer ≡ true → sideAt s i ≡ 2
   writer-side u = some-side s i a r ∙ ap (λ (t : Bool). 1 + bit t) u
 
-  pub read-entry : (f : ℕ) (x : Wanted) → i / places ≡ f → a .req ≡ reading x → x .limit ≤ bufferBytes → ReadEntry s bufs f e × (placeIn s e ≡ i)
-  unfolding reqWords Fitting lies entryWords
+  pub read-entry : (f : ℕ) (x : Wanted) → i / places ≡ f → a .req ≡ reading x → x .limit ≤ bufferBytes → ReadEntry s f e × (placeIn s e ≡ i)
+  unfolding reqWords Fitting entryWords
   read-entry f x g u b =
       let q : dataOf s e ≡ entryWords (waitingRead i (bit (x .byWords)) (x .limit) (bit (x .keep))) = holds ∙ ap (reqWords i) u in
       let pl : placeIn s e ≡ i = place-in s e _ q in
@@ -108,15 +84,14 @@ module _ (s bufs : List ℕ) (size : length bufs ≡ places * bufferBytes * file
           limit = omega (arith, word-in s e _ q 2 (omega arith));
           keep = omega (arith, word-in s e _ q 3 (omega arith), bit-le (x .keep));
           rest = zeros-in s e _ q 4 5 (omega arith) refl;
-          buffer = rw pl (rw u at (rest (rw u (omega arith))));
         },
         pl,
       )
 
-  pub write-entry : (f words : ℕ) (x : Offered) → i / places ≡ f → a .req ≡ writing x → length (x .bytes) ≤ 2 * words → words ≤ roomWords → fileWord s f 0 ≡ words
-      → WriteEntry s bufs f e × (placeIn s e ≡ i)
-  unfolding reqWords Fitting lies entryWords
-  write-entry f words x g u b c fw =
+  pub write-entry : (f words : ℕ) (x : Offered) → i / places ≡ f → a .req ≡ writing x → length (x .bytes) ≤ 2 * words → fileWord s f 0 ≡ words
+      → WriteEntry s f e × (placeIn s e ≡ i)
+  unfolding reqWords Fitting entryWords
+  write-entry f words x g u b fw =
       let q : dataOf s e ≡ entryWords (waitingWrite i (bit (x .byWords)) (length (x .bytes))) = holds ∙ ap (reqWords i) u in
       let pl : placeIn s e ≡ i = place-in s e _ q in
       let sz : sizeIn s e ≡ length (x .bytes) = size-in s e _ q in
@@ -129,13 +104,12 @@ module _ (s bufs : List ℕ) (size : length bufs ≡ places * bufferBytes * file
           middle = zeros-in s e _ q 2 4 (omega arith) refl;
           size = omega (arith, sz, fw);
           rest = zeros-in s e _ q 7 2 (omega arith) refl;
-          buffer = rw (pl, sz) (rw u at (rest (rw u (omega arith))));
         },
         pl,
       )
 
-  pub read-done : (x : Brought) → a .req ≡ readDone x → length (x .bytes) ≤ bufferBytes → x .status < leastRefusal → PortEntry s bufs i e
-  unfolding reqWords Fitting lies entryWords
+  pub read-done : (x : Brought) → a .req ≡ readDone x → length (x .bytes) ≤ bufferBytes → x .status < leastRefusal → PortEntry s i e
+  unfolding reqWords Fitting entryWords
   read-done x u b n =
       let q : dataOf s e ≡ entryWords (completedRequest i (x .status) (x .log) (length (x .bytes))) = holds ∙ ap (reqWords i) u in
       let pl : placeIn s e ≡ i = place-in s e _ q in
@@ -148,11 +122,10 @@ module _ (s bufs : List ℕ) (size : length bufs ≡ places * bufferBytes * file
         status = omega (arith, word-in s e _ q 4 (omega arith));
         size = rw (sd, sz) b;
         rest = zeros-in s e _ q 7 2 (omega arith) refl;
-        buffer = rw sz (rw u at (rest (rw u b)));
       }
 
-  pub write-done : (x : Wrote) → a .req ≡ writeDone x → x .status < leastRefusal → PortEntry s bufs i e
-  unfolding reqWords Fitting lies entryWords
+  pub write-done : (x : Wrote) → a .req ≡ writeDone x → x .status < leastRefusal → PortEntry s i e
+  unfolding reqWords Fitting entryWords
   write-done x u n =
       let q : dataOf s e ≡ entryWords (completedRequest i (x .status) (x .log) 0) = holds ∙ ap (reqWords i) u in
       let pl : placeIn s e ≡ i = place-in s e _ q in
@@ -165,5 +138,4 @@ module _ (s bufs : List ℕ) (size : length bufs ≡ places * bufferBytes * file
         status = omega (arith, word-in s e _ q 4 (omega arith));
         size = rw (sd, sz) (omega arith);
         rest = zeros-in s e _ q 7 2 (omega arith) refl;
-        buffer = rw sz (rw u at (rest (rw u (omega arith))));
       }

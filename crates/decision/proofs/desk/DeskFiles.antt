@@ -19,7 +19,7 @@ use Rattle.rules.proofs.Split.{true-and, pick-true, pick-false}
 use Rattle.segment.specs.Layout.{fileWidth, placeWidth, fileRowAt, placeRowAt}
 use Rattle.segment.specs.Table.{nth}
 use Rattle.shares.specs.Sound.{sound}
-use Rattle.shares.proofs.Good.{sized}
+use Rattle.shares.proofs.Good.{geometry-sized}
 use Rattle.shares.proofs.Sound.{holds-sound}
 use Rattle.laws.specs.Runs.{OnFile}
 use Rattle.laws.specs.Changes.{GoodGeo}
@@ -85,7 +85,7 @@ module _ (s blocks : List ℕ) (f : ℕ) where
     sound-is : sound (geoAt s f) (shareAt f blocks) (fileWord s f 3) (fileWord s f 4) (fileWord s f 5) ≡ true
     sound-is =
         rw (geo-is, share, block-is, spent-is, held-is)
-        (holds-sound (b .geo) (b .store) (sized (b .geo) (F .room .geo .factor-low) (F .room .geo .room) (F .room .geo .share)) (F .room .holds) (F .records))
+        (holds-sound (b .geo) (b .store) (geometry-sized (b .geo) (F .room .geo .factor-low) (F .room .geo .room) (F .room .geo .share)) (F .room .holds) (F .records))
 
     built-ok : builtOk s blocks f ≡ true
     unfolding builtOk

@@ -67,53 +67,53 @@ port-length (writing q) i a = refl
 port-length (readDone q) i a = refl
 port-length (writeDone q) i a = refl
 
-module _ (s blocks bufs : List ℕ) (a : Alloc) (f : ℕ) where
+module _ (s : List ℕ) (a : Alloc) (f : ℕ) where
   abbrev entry : ℕ → ℕ
   entry p = ownEntry (heldAt a (placeOf f p))
 
   abbrev words : Built → ℕ → List ℕ
   words b p = reqWords (placeOf f p) (reqOf (accAt b p))
 
-  module _ (b : Built) (F : Facts s blocks bufs a f (built b)) where
+  module _ (b : Built) (F : Facts s a f (built b)) where
     reads-box : map (dataOf s) (map entry (b .rq)) ≡ map (words b) (b .rq)
     reads-box = unfold queueOf queueWords rqOf accOf in F .reads
 
     writes-box : map (dataOf s) (map entry (b .wq)) ≡ map (words b) (b .wq)
     writes-box = unfold queueOf queueWords wqOf accOf in F .writes
 
-    read-at : (p : ℕ) → 1 ≤ count p (b .rq) → dataOf s (entry p) ≡ words b p → ReadEntry s bufs f (entry p) × (placeIn s (entry p) ≡ places * f + p)
+    read-at : (p : ℕ) → 1 ≤ count p (b .rq) → dataOf s (entry p) ≡ words b p → ReadEntry s f (entry p) × (placeIn s (entry p) ≡ places * f + p)
     unfolding OnFile
-    read-at p c q = read-of s blocks bufs a f b F p (entry p) q (omega (arith, F .fine .queues p .reads))
+    read-at p c q = read-of s a f b F p (entry p) q (omega (arith, F .fine .queues p .reads))
 
-    write-at : (p : ℕ) → 1 ≤ count p (b .wq) → dataOf s (entry p) ≡ words b p → WriteEntry s bufs f (entry p) × (placeIn s (entry p) ≡ places * f + p)
+    write-at : (p : ℕ) → 1 ≤ count p (b .wq) → dataOf s (entry p) ≡ words b p → WriteEntry s f (entry p) × (placeIn s (entry p) ≡ places * f + p)
     unfolding OnFile
-    write-at p c q = write-of s blocks bufs a f b F p (entry p) q (omega (arith, F .fine .queues p .writes))
+    write-at p c q = write-of s a f b F p (entry p) q (omega (arith, F .fine .queues p .writes))
 
-  pub reads-pass : (x : File) → Facts s blocks bufs a f x → Each (ReadEntry s bufs f) (queueOf (λ b. b .rq) f x a)
+  pub reads-pass : (x : File) → Facts s a f x → Each (ReadEntry s f) (queueOf (λ b. b .rq) f x a)
   unfolding queueOf Each
   reads-pass unbuilt F = tt
-  reads-pass (built b) F = each-queue s entry (words b) (ReadEntry s bufs f) (b .rq) (reads-box b F) (λ p c q. read-at b F p c q .0)
+  reads-pass (built b) F = each-queue s entry (words b) (ReadEntry s f) (b .rq) (reads-box b F) (λ p c q. read-at b F p c q .0)
 
-  pub writes-pass : (x : File) → Facts s blocks bufs a f x → Each (WriteEntry s bufs f) (queueOf (λ b. b .wq) f x a)
+  pub writes-pass : (x : File) → Facts s a f x → Each (WriteEntry s f) (queueOf (λ b. b .wq) f x a)
   unfolding queueOf Each
   writes-pass unbuilt F = tt
-  writes-pass (built b) F = each-queue s entry (words b) (WriteEntry s bufs f) (b .wq) (writes-box b F) (λ p c q. write-at b F p c q .0)
+  writes-pass (built b) F = each-queue s entry (words b) (WriteEntry s f) (b .wq) (writes-box b F) (λ p c q. write-at b F p c q .0)
 
-  pub reads-named : (x : File) → Facts s blocks bufs a f x → (p : ℕ) → named s (places * f + p) (queueOf (λ b. b .rq) f x a) ≡ waitsRead (reqOf (accOf x p))
+  pub reads-named : (x : File) → Facts s a f x → (p : ℕ) → named s (places * f + p) (queueOf (λ b. b .rq) f x a) ≡ waitsRead (reqOf (accOf x p))
   unfolding queueOf named accOf reqOf waitsRead count OnFile accAt
   reads-named unbuilt F p = refl
   reads-named (built b) F p =
       named-queue s entry (words b) f p (b .rq) (reads-box b F) (λ p c q. read-at b F p c q .1) ∙ F .fine .queues p .reads
 
-  pub writes-named : (x : File) → Facts s blocks bufs a f x → (p : ℕ) → named s (places * f + p) (queueOf (λ b. b .wq) f x a) ≡ waitsWrite (reqOf (accOf x p))
+  pub writes-named : (x : File) → Facts s a f x → (p : ℕ) → named s (places * f + p) (queueOf (λ b. b .wq) f x a) ≡ waitsWrite (reqOf (accOf x p))
   unfolding queueOf named accOf reqOf waitsWrite count OnFile accAt
   writes-named unbuilt F p = refl
   writes-named (built b) F p =
       named-queue s entry (words b) f p (b .wq) (writes-box b F) (λ p c q. write-at b F p c q .1) ∙ F .fine .queues p .writes
 
-  pub port-pass : (x : File) → Facts s blocks bufs a f x → (p : ℕ)
+  pub port-pass : (x : File) → Facts s a f x → (p : ℕ)
       → map (dataOf s) (portOf (reqOf (accOf x p)) (places * f + p) a) ≡ portWords (places * f + p) (reqOf (accOf x p))
-      → Each (PortEntry s bufs (places * f + p)) (portOf (reqOf (accOf x p)) (places * f + p) a)
+      → Each (PortEntry s (places * f + p)) (portOf (reqOf (accOf x p)) (places * f + p) a)
   unfolding accOf reqOf portOf Each
   port-pass unbuilt F p e = tt
   port-pass (built b) F p e = go (reqOf (accAt b p)) refl e
@@ -121,12 +121,12 @@ module _ (s blocks bufs : List ℕ) (a : Alloc) (f : ℕ) where
       own : ℕ
       own = ownEntry (heldAt a (places * f + p))
 
-      one : (q : Req) → reqOf (accAt b p) ≡ q → 1 ≤ uncollected q → dataOf s own ≡ reqWords (places * f + p) q → PortEntry s bufs (places * f + p) own
+      one : (q : Req) → reqOf (accAt b p) ≡ q → 1 ≤ uncollected q → dataOf s own ≡ reqWords (places * f + p) q → PortEntry s (places * f + p) own
       one q u h k =
           let r : reqAt (b .accs) p ≡ reqOf (accAt b p) = unfold accAt in refl in
-          done-of s blocks bufs a f b F p own (unfold placeOf in k ∙ ap (reqWords (places * f + p)) (sym u)) (omega (arith, ap uncollected (r ∙ u)))
+          done-of s a f b F p own (unfold placeOf in k ∙ ap (reqWords (places * f + p)) (sym u)) (omega (arith, ap uncollected (r ∙ u)))
 
-      go : (q : Req) → reqOf (accAt b p) ≡ q → map (dataOf s) (portOf q (places * f + p) a) ≡ portWords (places * f + p) q → Each (PortEntry s bufs (places * f + p)) (portOf q (places * f + p) a)
+      go : (q : Req) → reqOf (accAt b p) ≡ q → map (dataOf s) (portOf q (places * f + p) a) ≡ portWords (places * f + p) q → Each (PortEntry s (places * f + p)) (portOf q (places * f + p) a)
       go idle u k = tt
       go (reading q) u k = tt
       go (writing q) u k = tt

@@ -9,10 +9,9 @@ use lib.Dec.{eqb}
 use lib.ListN.{length, getD}
 use Rattle.occurrences.specs.Count.{bit, count}
 use Rattle.occurrences.proofs.Counts.{bit-eq, bit-ne}
-use Rattle.rules.specs.Limits.{files, places, bufferBytes}
+use Rattle.rules.specs.Limits.{files, places}
 use Rattle.rules.specs.State.{Req, idle, reading, writing, readDone, writeDone, Acc, Built, File, built}
 use Rattle.rules.specs.Requests.{accAt}
-use Rattle.rules.specs.Memories.{bufferAt, shareAt, lies, buffer}
 use Rattle.rules.specs.Allocation.{Alloc, placeOf, queueOf}
 use Rattle.segment.specs.Table.{dataOf}
 use Rattle.laws.specs.Outstanding.{reqAt, waitsRead, waitsWrite, uncollected, outstanding, reqOf}
@@ -22,14 +21,12 @@ use Rattle.laws.specs.Bounds.{Bounded}
 use Rattle.laws.specs.Sides.{Sided}
 use Rattle.laws.specs.Entries.{accsOf}
 use Rattle.memory.specs.Image.{accOf, reqWords, fileWords, rqOf, wqOf, queueWords}
-use Rattle.memory.specs.Stands.{buffersAt, FileBytes}
 use Rattle.memory.specs.Fine.{Fine}
-use Rattle.memory.proofs.Frames.{bufferAt-is}
 use Rattle.sound.specs.Walks.{placeIn}
 use Rattle.decision.specs.Survey.{Each, ReadEntry, WriteEntry, PortEntry, named}
 use Rattle.decision.proofs.desk.DeskRows.{Rowed}
 use Rattle.decision.proofs.desk.DeskFiles.{Filed}
-use Rattle.decision.proofs.desk.DeskEntries.{lies-short, buffer-size, read-entry, write-entry, read-done, write-done}
+use Rattle.decision.proofs.desk.DeskEntries.{read-entry, write-entry, read-done, write-done}
 
 -- a queue q whose entries g hold the words W
 module _ (s : List ℕ) (g : ℕ → ℕ) (W : ℕ → List ℕ) where
@@ -64,28 +61,19 @@ busy-at (some a ∷ l) zero q e h = record { acc = a; is = refl; req = e; low = 
 busy-at (o ∷ l) (suc p) q e h = let r : Busy l p q = busy-at l p q e h in record { acc = r .acc; is = r .is; req = r .req; low = omega (arith, r .low) }
 
 -- what memories that stand for a desk say of file f
-pub record Facts (s blocks bufs : List ℕ) (a : Alloc) (f : ℕ) (x : File) : Type 0 where
-  pub size : length bufs ≡ places * bufferBytes * files
+pub record Facts (s : List ℕ) (a : Alloc) (f : ℕ) (x : File) : Type 0 where
   pub file : f < files
   pub fine : OnFile Fine x
   pub eight : length (accsOf x) ≡ places
   pub row : Filed s f x
   pub rows : (p : ℕ) → p < places → Rowed s (places * f + p) (accOf x p)
-  pub bytes : FileBytes x (shareAt f blocks) (buffersAt f bufs)
   pub reads : map (dataOf s) (queueOf (λ b. b .rq) f x a) ≡ queueWords f x (rqOf x)
   pub writes : map (dataOf s) (queueOf (λ b. b .wq) f x a) ≡ queueWords f x (wqOf x)
 
-module _ (s blocks bufs : List ℕ) (a : Alloc) (f : ℕ) where
-  module _ (b : Built) (F : Facts s blocks bufs a f (built b)) where
+module _ (s : List ℕ) (a : Alloc) (f : ℕ) where
+  module _ (b : Built) (F : Facts s a f (built b)) where
     fine : Fine b
     fine = unfold OnFile in F .fine
-
-    pub body-at : (p : ℕ) → p < places → bufferAt (places * f + p) bufs ≡ buffer (getD (b .accs) p none)
-    unfolding FileBytes accsOf
-    body-at = bufferAt-is f bufs (b .accs) (F .eight) (λ p h. buffer-size (getD (b .accs) p none) (short p)) (F .bytes .1)
-      where
-        short : (p : ℕ) → length (lies (reqOf (getD (b .accs) p none))) ≤ bufferBytes
-        short p = lies-short (b .geo .words) (reqAt (b .accs) p) (fine .room .geo .words-high) (fine .bounds p)
 
     -- the entry e of the request at p
     module _ (p e : ℕ) (holds : dataOf s e ≡ reqWords (placeOf f p) (reqOf (accAt b p))) where
@@ -106,9 +94,6 @@ module _ (s blocks bufs : List ℕ) (a : Alloc) (f : ℕ) where
         rowed : Rowed s (places * f + p) (some (busy .acc))
         rowed = unfold accOf accAt in rw (busy .is) at (F .rows p low)
 
-        body : bufferAt (places * f + p) bufs ≡ buffer (some (busy .acc))
-        body = body-at p low ∙ ap buffer (busy .is)
-
         words : dataOf s e ≡ reqWords (places * f + p) (busy .acc .req)
         unfolding placeOf
         words = holds ∙ ap (reqWords (places * f + p)) (req-is ∙ u ∙ sym (busy .req))
@@ -119,49 +104,49 @@ module _ (s blocks bufs : List ℕ) (a : Alloc) (f : ℕ) where
         bound : Bounded (b .geo .words) q
         bound = rw u at (fine .bounds p)
 
-      pub read-of : 1 ≤ waitsRead (reqAt (b .accs) p) → ReadEntry s bufs f e × (placeIn s e ≡ places * f + p)
+      pub read-of : 1 ≤ waitsRead (reqAt (b .accs) p) → ReadEntry s f e × (placeIn s e ≡ places * f + p)
       unfolding Bounded waitsRead waitsWrite uncollected fileWords
       read-of h = go (reqAt (b .accs) p) refl h
         where
-          go : (q : Req) → reqAt (b .accs) p ≡ q → 1 ≤ waitsRead q → ReadEntry s bufs f e × (placeIn s e ≡ places * f + p)
+          go : (q : Req) → reqAt (b .accs) p ≡ q → 1 ≤ waitsRead q → ReadEntry s f e × (placeIn s e ≡ places * f + p)
           go (reading q) u h =
               let o : outstanding (reading q) ≡ 1 = refl in
-              read-entry s bufs (F .size) (places * f + p) e (small (reading q) u o) (busy (reading q) u o .acc) (sided (reading q) u o) (rowed (reading q) u o)
-              (body (reading q) u o) (words (reading q) u o) f q (omega (arith, low (reading q) u o)) (busy (reading q) u o .req) (bound (reading q) u o)
+              read-entry s (places * f + p) e (small (reading q) u o) (busy (reading q) u o .acc) (sided (reading q) u o) (rowed (reading q) u o)
+              (words (reading q) u o) f q (omega (arith, low (reading q) u o)) (busy (reading q) u o .req) (bound (reading q) u o)
           go idle u h = absurd (omega arith)
           go (writing q) u h = absurd (omega arith)
           go (readDone q) u h = absurd (omega arith)
           go (writeDone q) u h = absurd (omega arith)
 
-      pub write-of : 1 ≤ waitsWrite (reqAt (b .accs) p) → WriteEntry s bufs f e × (placeIn s e ≡ places * f + p)
+      pub write-of : 1 ≤ waitsWrite (reqAt (b .accs) p) → WriteEntry s f e × (placeIn s e ≡ places * f + p)
       unfolding Bounded waitsRead waitsWrite uncollected fileWords
       write-of h = go (reqAt (b .accs) p) refl h
         where
-          go : (q : Req) → reqAt (b .accs) p ≡ q → 1 ≤ waitsWrite q → WriteEntry s bufs f e × (placeIn s e ≡ places * f + p)
+          go : (q : Req) → reqAt (b .accs) p ≡ q → 1 ≤ waitsWrite q → WriteEntry s f e × (placeIn s e ≡ places * f + p)
           go (writing q) u h =
               let o : outstanding (writing q) ≡ 1 = refl in
-              write-entry s bufs (F .size) (places * f + p) e (small (writing q) u o) (busy (writing q) u o .acc) (sided (writing q) u o) (rowed (writing q) u o)
-              (body (writing q) u o) (words (writing q) u o) f (b .geo .words) q (omega (arith, low (writing q) u o)) (busy (writing q) u o .req)
-              (bound (writing q) u o) (fine .room .geo .words-high) (F .row 0 (omega arith))
+              write-entry s (places * f + p) e (small (writing q) u o) (busy (writing q) u o .acc) (sided (writing q) u o) (rowed (writing q) u o)
+              (words (writing q) u o) f (b .geo .words) q (omega (arith, low (writing q) u o)) (busy (writing q) u o .req)
+              (bound (writing q) u o) (F .row 0 (omega arith))
           go idle u h = absurd (omega arith)
           go (reading q) u h = absurd (omega arith)
           go (readDone q) u h = absurd (omega arith)
           go (writeDone q) u h = absurd (omega arith)
 
-      pub done-of : 1 ≤ uncollected (reqAt (b .accs) p) → PortEntry s bufs (places * f + p) e
+      pub done-of : 1 ≤ uncollected (reqAt (b .accs) p) → PortEntry s (places * f + p) e
       unfolding Bounded waitsRead waitsWrite uncollected fileWords
       done-of h = go (reqAt (b .accs) p) refl h
         where
-          go : (q : Req) → reqAt (b .accs) p ≡ q → 1 ≤ uncollected q → PortEntry s bufs (places * f + p) e
+          go : (q : Req) → reqAt (b .accs) p ≡ q → 1 ≤ uncollected q → PortEntry s (places * f + p) e
           go (readDone q) u h =
               let o : outstanding (readDone q) ≡ 1 = refl in
-              read-done s bufs (F .size) (places * f + p) e (small (readDone q) u o) (busy (readDone q) u o .acc) (sided (readDone q) u o)
-              (rowed (readDone q) u o) (body (readDone q) u o) (words (readDone q) u o) q (busy (readDone q) u o .req)
+              read-done s (places * f + p) e (small (readDone q) u o) (busy (readDone q) u o .acc) (sided (readDone q) u o)
+              (rowed (readDone q) u o) (words (readDone q) u o) q (busy (readDone q) u o .req)
               (bound (readDone q) u o .0) (bound (readDone q) u o .1)
           go (writeDone q) u h =
               let o : outstanding (writeDone q) ≡ 1 = refl in
-              write-done s bufs (F .size) (places * f + p) e (small (writeDone q) u o) (busy (writeDone q) u o .acc) (sided (writeDone q) u o)
-              (rowed (writeDone q) u o) (body (writeDone q) u o) (words (writeDone q) u o) q (busy (writeDone q) u o .req)
+              write-done s (places * f + p) e (small (writeDone q) u o) (busy (writeDone q) u o .acc) (sided (writeDone q) u o)
+              (rowed (writeDone q) u o) (words (writeDone q) u o) q (busy (writeDone q) u o .req)
               (bound (writeDone q) u o)
           go idle u h = absurd (omega arith)
           go (reading q) u h = absurd (omega arith)

@@ -48,7 +48,7 @@ no-timers [] h = refl
 no-timers (t ∷ l) h = absurd (omega (arith, h (t .place), bit-eq (t .place) (t .place) refl))
 
 module _ (s blocks bufs : List ℕ) (ls : List (List ℕ)) (bytes : Bytes blocks) (long : length blocks ≡ shareBytes * files) (room : length bufs ≡ places * bufferBytes * files)
-    (ok : filesOk s blocks 0 files ≡ true) (U : Survey s bufs ls) where
+    (ok : filesOk s blocks 0 files ≡ true) (U : Survey s ls) where
   abbrev d : Desk
   d = deskFor s blocks bufs ls
 

@@ -49,7 +49,7 @@ by-size e t zero n h k = omega arith
 by-size e t (suc m) zero h k = omega arith
 by-size e t (suc m) (suc n) h k = omega arith
 
-module _ (s blocks bufs : List ℕ) (ls : List (List ℕ)) (ok : filesOk s blocks 0 files ≡ true) (U : Survey s bufs ls) where
+module _ (s blocks bufs : List ℕ) (ls : List (List ℕ)) (ok : filesOk s blocks 0 files ≡ true) (U : Survey s ls) where
   abbrev desk : Desk
   desk = deskFor s blocks bufs ls
 

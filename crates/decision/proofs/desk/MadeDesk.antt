@@ -13,6 +13,7 @@ use Rattle.rules.specs.Memories.{bufferAt, shareAt}
 use Rattle.segment.specs.Layout.{freeList, readQueue, writeQueue, replyPort, timerList}
 use Rattle.shares.specs.Sound.{storeAt}
 use Rattle.laws.specs.Entries.{sieve}
+use Rattle.memory.specs.Stands.{buffersAt}
 use Rattle.laws.specs.EightFiles.{deskOf}
 use Rattle.sound.specs.Rows.{fileWord, placeWord, builtAt, geoAt, sideAt}
 use Rattle.sound.specs.Walks.{entryWord, placeIn, sizeIn}
@@ -99,6 +100,7 @@ builtFor s blocks bufs ls f = record {
   geo = geoAt s f;
   store = storeAt (geoAt s f) (shareAt f blocks) (fileWord s f 3) (fileWord s f 4) (fileWord s f 5);
   accs = map (accFor s bufs ls) (upFrom (places * f) places);
+  buffers = buffersAt f bufs;
   rq = map (inFile s) (getD ls (readQueue f) []);
   wq = map (inFile s) (getD ls (writeQueue f) []);
   timers = sieve f (clockFor s ls);

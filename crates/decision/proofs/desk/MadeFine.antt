@@ -1,29 +1,32 @@
 -- A built file of the desk that memories say is fine, and its bytes are theirs.
-use Prim.Native.Nat.{ℕ, zero, suc, _+_, _-_, _*_, _/_, _%_, _≤_, _<_}
-use mathlib.Core.Bool.{true, false, true≢false}
+use Prim.Native.Nat.{ℕ, _+_, _*_, _/_, _%_, _≤_, _<_}
+use mathlib.Core.Bool.{true, false}
 use mathlib.Core.Path.{_≡_, refl, sym, ap, subst, _∙_}
-use mathlib.Core.List.{List, [], _∷_, _++_, map}
+use mathlib.Core.List.{List, [], _∷_, map}
 use mathlib.Core.Logic.{_⊎_, inl, inr}
 use mathlib.Core.Option.{Option, none, some}
 use native.Mathlib.Omega.{arith}
 use native.Mathlib.Decide.{decLt, ℕ-discrete}
 use borrow.Author.Tests.{eqb-true, eqb-false}
 use lib.Dec.{eqb}
-use lib.ListN.{length, getD}
-use Rattle.words.specs.Word.{zeros, Bytes}
+use lib.ListN.{length, getD, take, drop, length-drop}
+use lib.Seq.{length-take-le}
+use Rattle.words.specs.Word.{part, Bytes}
 use Rattle.occurrences.specs.Count.{bit, count}
 use Rattle.occurrences.proofs.Counts.{bit-eq, bit-ne}
 use Rattle.rules.specs.Limits.{files, places, shareBytes, bufferBytes}
 use Rattle.rules.specs.State.{idle, Acc, Timer, Built, built}
 use Rattle.rules.specs.Requests.{accAt}
-use Rattle.rules.specs.Memories.{bufferAt, shareAt, lies, buffer}
+use Rattle.rules.specs.Memories.{shareAt}
+use Rattle.rules.specs.Buffers.{lies}
 use Rattle.rules.specs.Allocation.{placeOf}
-use Rattle.rules.proofs.Split.{by-cases, pick-true, pick-false, pass-true}
+use Rattle.rules.proofs.Split.{by-cases}
 use Rattle.segment.specs.Layout.{placeWidth, readQueue, writeQueue, timerList}
 use Rattle.shares.specs.Sound.{storeAt}
 use Rattle.laws.specs.Outstanding.{reqAt, waitsRead, waitsWrite, awaits, reqOf}
 use Rattle.laws.specs.Outstanding as laws
 use Rattle.laws.specs.Bounds.{Bounded}
+use Rattle.laws.specs.Lying.{Lying}
 use Rattle.laws.specs.Sides.{Sided}
 use Rattle.laws.specs.Counts.{placesOf, countT}
 use Rattle.laws.specs.Entries.{local, sieve}
@@ -32,51 +35,17 @@ use Rattle.laws.proofs.Sieve.{sorted-sieve}
 use Rattle.memory.specs.Stands.{buffersAt, FileBytes}
 use Rattle.memory.specs.Fine.{Fine}
 use Rattle.memory.proofs.Held.{sieve-at}
-use Rattle.memory.proofs.Frames.{buffersAt-are}
+use Rattle.memory.proofs.Parts as memory
+use Rattle.memory.proofs.Frames.{buffersAt-part}
 use Rattle.sound.specs.Rows.{fileWord, placeWord, builtAt, geoAt, sideAt}
-use Rattle.sound.specs.Walks.{entryWord, placeIn, restZero}
-use Rattle.decision.specs.Survey.{Each, InOrder, ReadEntry, WriteEntry, named, waitingAt, completedAt, timersAt, Survey, Marked}
-use Rattle.sound.specs.Sound.{filesOk, idleZero, idlesZero}
+use Rattle.sound.specs.Walks.{entryWord, placeIn}
+use Rattle.decision.specs.Survey.{Each, InOrder, ReadEntry, WriteEntry, named, waitingAt, timersAt, Survey}
+use Rattle.sound.specs.Sound.{filesOk}
 use Rattle.decision.proofs.desk.MadeFacts.{OpenRow, place-at}
 use Rattle.decision.proofs.desk.MadeDesk.{readsAt, writesAt, reqFor, openFor, accFor, timerFor, clockFor, inFile, builtFor}
-use Rattle.decision.proofs.desk.MadeRequests.{counts, fitting, bounded, body}
-use Rattle.decision.proofs.desk.MadeBase.{small, viewed, acc-none, acc-req, accs-at, accs-long, accs-past}
+use Rattle.decision.proofs.desk.MadeRequests.{counts, fitting, bounded, lain}
+use Rattle.decision.proofs.desk.MadeBase.{small, viewed, acc-none, acc-req, accs-at, accs-past}
 use Rattle.decision.proofs.desk.MadeRows.{stored, acc-some, roomy}
-
--- the buffers that no request uses
-
-idle-each : (bufs busy : List ℕ) (i n : ℕ) → idleZero bufs busy i n ≡ true → (p : ℕ) → p < n → getD busy (i + p) 0 ≡ 0 → restZero bufs (i + p) 0 ≡ true
-unfolding idleZero
-idle-each bufs busy i zero h p k z = absurd (omega arith)
-idle-each bufs busy i (suc n) h p k z = by-cases (eqb (getD busy i 0) 0)
-    (λ t. let q = pass-true (restZero bufs i 0) (idleZero bufs busy (suc i) n) (sym (pick-true (eqb (getD busy i 0) 0) _ _ t) ∙ h) in
-    go p k z (q .0) (λ m l y. idle-each bufs busy (suc i) n (q .1) m l y))
-    (λ t. let q : idleZero bufs busy (suc i) n ≡ true = sym (pick-false (eqb (getD busy i 0) 0) _ _ t) ∙ h in
-    on p k z (eqb-false (getD busy i 0) 0 t) (λ m l y. idle-each bufs busy (suc i) n q m l y))
-  where
-    go : (p : ℕ) → p < suc n → getD busy (i + p) 0 ≡ 0 → restZero bufs i 0 ≡ true → ((m : ℕ) → m < n → getD busy (suc i + m) 0 ≡ 0 → restZero bufs (suc i + m) 0 ≡ true)
-        → restZero bufs (i + p) 0 ≡ true
-    go zero k z a r = let e : i + 0 ≡ i = omega arith in rw e a
-    go (suc p) k z a r = let e : suc i + p ≡ i + suc p = omega arith in rw e at (r p (omega arith)) z
-
-    on : (p : ℕ) → p < suc n → getD busy (i + p) 0 ≡ 0 → (getD busy i 0 ≡ 0 → ⊥) → ((m : ℕ) → m < n → getD busy (suc i + m) 0 ≡ 0 → restZero bufs (suc i + m) 0 ≡ true)
-        → restZero bufs (i + p) 0 ≡ true
-    on zero k z a r = let e : i + 0 ≡ i = omega arith in absurd (a (rw e at z))
-    on (suc p) k z a r = let e : suc i + p ≡ i + suc p = omega arith in rw e at (r p (omega arith)) z
-
-idles-each : (s bufs busy : List ℕ) (f n : ℕ) → idlesZero s bufs busy f n ≡ true → (g : ℕ) → g < n → builtAt s (f + g) ≡ true → idleZero bufs busy (places * (f + g)) places ≡ true
-unfolding idlesZero
-idles-each s bufs busy f zero h g k t = absurd (omega arith)
-idles-each s bufs busy f (suc n) h g k t = by-cases (builtAt s f)
-    (λ u. let q = pass-true (idleZero bufs busy (places * f) places) (idlesZero s bufs busy (suc f) n) (sym (pick-true (builtAt s f) _ _ u) ∙ h) in
-    go g k t (λ _. q .0) (λ m l y. idles-each s bufs busy (suc f) n (q .1) m l y))
-    (λ u. let q : idlesZero s bufs busy (suc f) n ≡ true = sym (pick-false (builtAt s f) _ _ u) ∙ h in
-    go g k t (λ v. absurd (true≢false (sym v ∙ u))) (λ m l y. idles-each s bufs busy (suc f) n q m l y))
-  where
-    go : (g : ℕ) → g < suc n → builtAt s (f + g) ≡ true → (builtAt s f ≡ true → idleZero bufs busy (places * f) places ≡ true)
-        → ((m : ℕ) → m < n → builtAt s (suc f + m) ≡ true → idleZero bufs busy (places * (suc f + m)) places ≡ true) → idleZero bufs busy (places * (f + g)) places ≡ true
-    go zero k t a r = let e : f + 0 ≡ f = omega arith in rw e (a (rw e at t))
-    go (suc g) k t a r = let e : suc f + g ≡ f + suc g = omega arith in rw e at (r g (omega arith)) t
 
 -- places of a file and of the desk
 
@@ -132,7 +101,7 @@ OnAcc P none = Unit {0}
 OnAcc P (some a) = P a
 
 module _ (s blocks bufs : List ℕ) (ls : List (List ℕ)) (bytes : Bytes blocks) (long : length blocks ≡ shareBytes * files) (size : length bufs ≡ places * bufferBytes * files)
-    (ok : filesOk s blocks 0 files ≡ true) (U : Survey s bufs ls) where
+    (ok : filesOk s blocks 0 files ≡ true) (U : Survey s ls) where
   module _ (i : ℕ) (h : i < files * places) where
     sided : OnAcc Sided (accFor s bufs ls i)
     unfolding OnAcc openFor sideAt
@@ -152,17 +121,6 @@ module _ (s blocks bufs : List ℕ) (ls : List (List ℕ)) (bytes : Bytes blocks
 
     pub req-at : laws.reqOf (accFor s bufs ls i) ≡ reqFor s bufs ls i
     req-at = acc-req s blocks bufs ls ok U i h
-
-    body-is : (readsAt s ls i ≡ 0 → writesAt s ls i ≡ 0 → completedAt ls i ≡ 0 → restZero bufs i 0 ≡ true) → bufferAt i bufs ≡ buffer (accFor s bufs ls i)
-    unfolding buffer reqOf lies
-    body-is z = go (accFor s bufs ls i) (acc-req s blocks bufs ls ok U i h)
-      where
-        full : bufferAt i bufs ≡ lies (reqFor s bufs ls i) ++ zeros (bufferBytes - length (lies (reqFor s bufs ls i)))
-        full = body s bufs ls i size h (small s blocks bufs ls ok U i h) (reqFor s bufs ls i) (viewed s blocks bufs ls ok U i h) z
-
-        go : (o : Option Acc) → reqOf o ≡ reqFor s bufs ls i → bufferAt i bufs ≡ buffer o
-        go none e = full ∙ ap (λ q. lies q ++ zeros (bufferBytes - length (lies q))) (sym e)
-        go (some a) e = full ∙ ap (λ q. lies q ++ zeros (bufferBytes - length (lies q))) (sym e)
 
   -- a built file
   module _ (f : ℕ) (h : f < files) (t : builtAt s f ≡ true) where
@@ -212,7 +170,7 @@ module _ (s blocks bufs : List ℕ) (ls : List (List ℕ)) (bytes : Bytes blocks
       where
         go : Dec (x < places) → count x (map (inFile s) (getD ls (readQueue f) [])) ≡ waitsRead (reqAt (b .accs) x)
         go (yes k) =
-            in-count s f x k (getD ls (readQueue f) []) (each-less (ReadEntry s bufs f) (λ e. placeIn s e / places ≡ f) (λ e r. r .file) (getD ls (readQueue f) []) (U .reads f h))
+            in-count s f x k (getD ls (readQueue f) []) (each-less (ReadEntry s f) (λ e. placeIn s e / places ≡ f) (λ e r. r .file) (getD ls (readQueue f) []) (U .reads f h))
             ∙ sym (counted x k .0)
         go (no k) = in-past s f x (omega arith) (getD ls (readQueue f) []) ∙ sym (ap waitsRead (req-high x (omega arith)))
 
@@ -222,7 +180,7 @@ module _ (s blocks bufs : List ℕ) (ls : List (List ℕ)) (bytes : Bytes blocks
       where
         go : Dec (x < places) → count x (map (inFile s) (getD ls (writeQueue f) [])) ≡ waitsWrite (reqAt (b .accs) x)
         go (yes k) =
-            in-count s f x k (getD ls (writeQueue f) []) (each-less (WriteEntry s bufs f) (λ e. placeIn s e / places ≡ f) (λ e r. r .file) (getD ls (writeQueue f) []) (U .writes f h))
+            in-count s f x k (getD ls (writeQueue f) []) (each-less (WriteEntry s f) (λ e. placeIn s e / places ≡ f) (λ e r. r .file) (getD ls (writeQueue f) []) (U .writes f h))
             ∙ sym (counted x k .1)
         go (no k) = in-past s f x (omega arith) (getD ls (writeQueue f) []) ∙ sym (ap waitsWrite (req-high x (omega arith)))
 
@@ -238,28 +196,31 @@ module _ (s blocks bufs : List ℕ) (ls : List (List ℕ)) (bytes : Bytes blocks
             omega (arith, c, clock-count s ls (places * f + x), U .timed (places * f + x) (omega arith), w, counted x k)
         go (no k) = omega (arith, sieve-past f x (omega arith) (clockFor s ls))
 
+    -- its record buffers
+    buffers : Lying b
+    unfolding builtFor memory.part placeOf
+    buffers = record { size = unfold buffersAt in all; each = there }
+      where
+        all : length (take (places * bufferBytes) (drop (places * bufferBytes * f) bufs)) ≡ places * bufferBytes
+        all = length-take-le (places * bufferBytes) (drop (places * bufferBytes * f) bufs) (rw (length-drop (places * bufferBytes * f) bufs) (omega arith))
+
+        there : (p : ℕ) → p < places → take (length (lies (reqAt (b .accs) p))) (part bufferBytes p (buffersAt f bufs)) ≡ lies (reqAt (b .accs) p)
+        there p k =
+            rw (req-low p k, buffersAt-part f p bufs k)
+            (lain s bufs ls (places * f + p) size (omega arith) (small s blocks bufs ls ok U (places * f + p) (omega arith)) (reqFor s bufs ls (places * f + p))
+            (viewed s blocks bufs ls ok U (places * f + p) (omega arith)))
+
     pub fine : Fine b
     fine = record {
       room = roomy s blocks bufs ls bytes long ok U f h t;
       records = stored s blocks bufs ls bytes long ok U f h t .1;
       bounds = bounds;
+      buffers = buffers;
       queues = λ x. record { reads = reads-is x; writes = writes-is x; times = times-is x };
       timers = unfold builtFor in sorted-sieve f 1 (clockFor s ls) (clock-order s ls (U .order));
       sides = sides;
     }
 
-    pub bodies : (busy : List ℕ) → Marked s ls busy → idlesZero s bufs busy 0 files ≡ true → FileBytes (built b) (shareAt f blocks) (buffersAt f bufs)
-    unfolding FileBytes storeAt builtFor waitingAt readsAt writesAt Marked
-    bodies busy m z = (
-      refl,
-      buffersAt-are f bufs (b .accs) h size (accs-long s blocks bufs ls ok U f h) at,
-    )
-      where
-        rest : (p : ℕ) → p < places → readsAt s ls (places * f + p) ≡ 0 → writesAt s ls (places * f + p) ≡ 0 → completedAt ls (places * f + p) ≡ 0 → restZero bufs (places * f + p) 0 ≡ true
-        rest p k e g c =
-            let u : 0 + f ≡ f = omega arith in
-            let w : waitingAt s ls (places * f + p) + completedAt ls (places * f + p) ≡ 0 = omega (arith, e, g, c) in
-            idle-each bufs busy (places * f) places (rw u at (idles-each s bufs busy 0 files z f h) t) p k (m (places * f + p) (omega arith) .1 w)
-
-        at : (p : ℕ) → p < places → bufferAt (8 * f + p) bufs ≡ buffer (getD (b .accs) p none)
-        at p k = body-is (places * f + p) (omega arith) (rest p k) ∙ sym (ap buffer (accs-at s blocks bufs ls ok U f h p k))
+    pub bodies : FileBytes (built b) (shareAt f blocks) (buffersAt f bufs)
+    unfolding FileBytes storeAt builtFor
+    bodies = (refl, refl)

@@ -49,7 +49,7 @@ free-said : (s : List ℕ) (e : ℕ) → freeEntry s e ≡ true → dataOf s e �
 unfolding dataOf freeEntry
 free-said s e t = row-is s (dataAt e) dataWords (replicate dataWords 0) (length-replicate {A = ℕ} dataWords 0) (λ j h. zero-words s (dataAt e) dataWords t j h ∙ sym (none-at dataWords j))
 
-module _ (s blocks bufs : List ℕ) (ls : List (List ℕ)) (size : length bufs ≡ places * bufferBytes * files) (ok : filesOk s blocks 0 files ≡ true) (U : Survey s bufs ls) where
+module _ (s blocks bufs : List ℕ) (ls : List (List ℕ)) (size : length bufs ≡ places * bufferBytes * files) (ok : filesOk s blocks 0 files ≡ true) (U : Survey s ls) where
   -- an entry of one of file f's queues
   record Queued (f e : ℕ) : Type 0 where
     place : placeIn s e < files * places
@@ -60,7 +60,7 @@ module _ (s blocks bufs : List ℕ) (ls : List (List ℕ)) (size : length bufs �
   read-in : (f e : ℕ) → f < files → 1 ≤ count e (getD ls (readQueue f) []) → Queued f e
   unfolding waitingAt readsAt
   read-in f e h c =
-      let r : ReadEntry s bufs f e = each-at (ReadEntry s bufs f) (getD ls (readQueue f) []) (U .reads f h) e c in
+      let r : ReadEntry s f e = each-at (ReadEntry s f) (getD ls (readQueue f) []) (U .reads f h) e c in
       let c′ : 1 ≤ count e (getD ls (readQueue (placeIn s e / places)) []) = rw (r .file) c in
       let n : 1 ≤ named s (placeIn s e) (getD ls (readQueue (placeIn s e / places)) []) = named-in s e (getD ls (readQueue (placeIn s e / places)) []) c′ in
       record {
@@ -74,7 +74,7 @@ module _ (s blocks bufs : List ℕ) (ls : List (List ℕ)) (size : length bufs �
   write-in : (f e : ℕ) → f < files → 1 ≤ count e (getD ls (writeQueue f) []) → Queued f e
   unfolding waitingAt readsAt writesAt
   write-in f e h c =
-      let r : WriteEntry s bufs f e = each-at (WriteEntry s bufs f) (getD ls (writeQueue f) []) (U .writes f h) e c in
+      let r : WriteEntry s f e = each-at (WriteEntry s f) (getD ls (writeQueue f) []) (U .writes f h) e c in
       let c′ : 1 ≤ count e (getD ls (writeQueue (placeIn s e / places)) []) = rw (r .file) c in
       let n : 1 ≤ named s (placeIn s e) (getD ls (writeQueue (placeIn s e / places)) []) = named-in s e (getD ls (writeQueue (placeIn s e / places)) []) c′ in
       record {
@@ -125,18 +125,18 @@ module _ (s blocks bufs : List ℕ) (ls : List (List ℕ)) (size : length bufs �
 
   no-reads : (f : ℕ) → f < files → builtAt s f ≡ false → getD ls (readQueue f) [] ≡ []
   unfolding sideAt
-  no-reads f h t = none-in (ReadEntry s bufs f) (getD ls (readQueue f) []) (U .reads f h) (λ e r. shut e r)
+  no-reads f h t = none-in (ReadEntry s f) (getD ls (readQueue f) []) (U .reads f h) (λ e r. shut e r)
     where
-      shut : (e : ℕ) → ReadEntry s bufs f e → ⊥
+      shut : (e : ℕ) → ReadEntry s f e → ⊥
       shut e r =
           let u : placeIn s e ≡ places * f + placeIn s e % places = omega (arith, r .file) in
           omega (arith, ap (sideAt s) u, r .side, blank-at s blocks ok f h t .closed (placeIn s e % places) (omega arith) 0 (omega arith))
 
   no-writes : (f : ℕ) → f < files → builtAt s f ≡ false → getD ls (writeQueue f) [] ≡ []
   unfolding sideAt
-  no-writes f h t = none-in (WriteEntry s bufs f) (getD ls (writeQueue f) []) (U .writes f h) (λ e r. shut e r)
+  no-writes f h t = none-in (WriteEntry s f) (getD ls (writeQueue f) []) (U .writes f h) (λ e r. shut e r)
     where
-      shut : (e : ℕ) → WriteEntry s bufs f e → ⊥
+      shut : (e : ℕ) → WriteEntry s f e → ⊥
       shut e r =
           let u : placeIn s e ≡ places * f + placeIn s e % places = omega (arith, r .file) in
           omega (arith, ap (sideAt s) u, r .side, blank-at s blocks ok f h t .closed (placeIn s e % places) (omega arith) 0 (omega arith))

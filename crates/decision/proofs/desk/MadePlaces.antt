@@ -18,16 +18,16 @@ use Rattle.decision.proofs.desk.MadeEntries.{each-at, entry-in, entry-l
 -- one request at most, and what its entry holds
 pub data View (s bufs : List ℕ) (ls : List (List ℕ)) (i : ℕ) : Req → Type 0 where
   idles : readsAt s ls i ≡ 0 → writesAt s ls i ≡ 0 → completedAt ls i ≡ 0 → View s bufs ls i idle
-  reads : readsAt s ls i ≡ 1 → writesAt s ls i ≡ 0 → completedAt ls i ≡ 0 → ReadEntry s bufs (i / places) (entryOf s ls i) → placeIn s (entryOf s ls i) ≡ i
+  reads : readsAt s ls i ≡ 1 → writesAt s ls i ≡ 0 → completedAt ls i ≡ 0 → ReadEntry s (i / places) (entryOf s ls i) → placeIn s (entryOf s ls i) ≡ i
       → View s bufs ls i (reading (wantedBy s (entryOf s ls i)))
-  writes : readsAt s ls i ≡ 0 → writesAt s ls i ≡ 1 → completedAt ls i ≡ 0 → WriteEntry s bufs (i / places) (entryOf s ls i) → placeIn s (entryOf s ls i) ≡ i
+  writes : readsAt s ls i ≡ 0 → writesAt s ls i ≡ 1 → completedAt ls i ≡ 0 → WriteEntry s (i / places) (entryOf s ls i) → placeIn s (entryOf s ls i) ≡ i
       → View s bufs ls i (writing (offeredBy s bufs i (entryOf s ls i)))
-  readsDone : readsAt s ls i ≡ 0 → writesAt s ls i ≡ 0 → completedAt ls i ≡ 1 → getD ls (replyPort i) [] ≡ entryOf s ls i ∷ [] → PortEntry s bufs i (entryOf s ls i) → sideAt s i ≡ 1
+  readsDone : readsAt s ls i ≡ 0 → writesAt s ls i ≡ 0 → completedAt ls i ≡ 1 → getD ls (replyPort i) [] ≡ entryOf s ls i ∷ [] → PortEntry s i (entryOf s ls i) → sideAt s i ≡ 1
       → View s bufs ls i (readDone (broughtBy s bufs i (entryOf s ls i)))
-  writesDone : readsAt s ls i ≡ 0 → writesAt s ls i ≡ 0 → completedAt ls i ≡ 1 → getD ls (replyPort i) [] ≡ entryOf s ls i ∷ [] → PortEntry s bufs i (entryOf s ls i) → sideAt s i ≡ 2
+  writesDone : readsAt s ls i ≡ 0 → writesAt s ls i ≡ 0 → completedAt ls i ≡ 1 → getD ls (replyPort i) [] ≡ entryOf s ls i ∷ [] → PortEntry s i (entryOf s ls i) → sideAt s i ≡ 2
       → View s bufs ls i (writeDone (wroteBy s (entryOf s ls i)))
 
-module _ (s bufs : List ℕ) (ls : List (List ℕ)) (U : Survey s bufs ls) (i : ℕ) (h : i < files * places) (sides : sideAt s i ≤ 2) where
+module _ (s bufs : List ℕ) (ls : List (List ℕ)) (U : Survey s ls) (i : ℕ) (h : i < files * places) (sides : sideAt s i ≤ 2) where
   abbrev readers : List ℕ
   readers = getD ls (readQueue (i / places)) []
 
@@ -63,7 +63,7 @@ module _ (s bufs : List ℕ) (ls : List (List ℕ)) (U : Survey s bufs ls) (i : 
       let c : 1 ≤ named s i readers = unfold readsAt in omega (arith, e) in
       let (a, b) = entry-in s i readers c in
       let m : mine ≡ theEntry s i readers = read-mine (omega (arith, e)) in
-      let r : ReadEntry s bufs (i / places) (theEntry s i readers) = each-at (ReadEntry s bufs (i / places)) readers (U .reads (i / places) (omega arith)) (theEntry s i readers) a in
+      let r : ReadEntry s (i / places) (theEntry s i readers) = each-at (ReadEntry s (i / places)) readers (U .reads (i / places) (omega arith)) (theEntry s i readers) a in
       rw (req-by 1 0 0 e f g) (reads e f g (rw m r) (rw m b))
 
   write-view : readsAt s ls i ≡ 0 → writesAt s ls i ≡ 1 → completedAt ls i ≡ 0 → View s bufs ls i (reqFor s bufs ls i)
@@ -72,11 +72,11 @@ module _ (s bufs : List ℕ) (ls : List (List ℕ)) (U : Survey s bufs ls) (i : 
       let c : 1 ≤ named s i writers = unfold writesAt in omega (arith, f) in
       let (a, b) = entry-in s i writers c in
       let m : mine ≡ theEntry s i writers = write-mine e (omega (arith, f)) in
-      let r : WriteEntry s bufs (i / places) (theEntry s i writers) = each-at (WriteEntry s bufs (i / places)) writers (U .writes (i / places) (omega arith)) (theEntry s i writers) a in
+      let r : WriteEntry s (i / places) (theEntry s i writers) = each-at (WriteEntry s (i / places)) writers (U .writes (i / places) (omega arith)) (theEntry s i writers) a in
       rw (req-by 0 1 0 e f g) (writes e f g (rw m r) (rw m b))
 
   -- a port with one entry
-  only : (l : List ℕ) → length l ≡ 1 → Each (PortEntry s bufs i) l → (l ≡ theEntry s i l ∷ []) × PortEntry s bufs i (theEntry s i l)
+  only : (l : List ℕ) → length l ≡ 1 → Each (PortEntry s i) l → (l ≡ theEntry s i l ∷ []) × PortEntry s i (theEntry s i l)
   unfolding Each theEntry
   only [] e a = absurd (omega arith)
   only (x ∷ []) e a = rw (eq-eqb (placeIn s x) i (a .0 .place)) (refl, a .0)
@@ -88,11 +88,11 @@ module _ (s bufs : List ℕ) (ls : List (List ℕ)) (U : Survey s bufs ls) (i : 
       let c : length port ≡ 1 = unfold completedAt in g in
       let (a, b) = only port c (U .ports i h) in
       let m : theEntry s i port ≡ mine = sym (port-mine e f) in
-      let p : PortEntry s bufs i mine = rw m at b in
+      let p : PortEntry s i mine = rw m at b in
       let l : port ≡ mine ∷ [] = a ∙ ap (λ x. x ∷ []) m in
       go p l (ℕ-discrete (sideAt s i) 1)
     where
-      go : PortEntry s bufs i mine → port ≡ mine ∷ [] → Dec (sideAt s i ≡ 1) → View s bufs ls i (reqFor s bufs ls i)
+      go : PortEntry s i mine → port ≡ mine ∷ [] → Dec (sideAt s i ≡ 1) → View s bufs ls i (reqFor s bufs ls i)
       go p l (yes u) = rw (req-by 0 0 1 e f g, eq-eqb (sideAt s i) 1 u) (readsDone e f g l p u)
       go p l (no u) = rw (req-by 0 0 1 e f g, ne-eqb (sideAt s i) 1 u) (writesDone e f g l p (omega (arith, p .side)))
 

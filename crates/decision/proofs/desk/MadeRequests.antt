@@ -2,18 +2,18 @@
 use Prim.Native.Nat.{ℕ, zero, suc, _+_, _-_, _*_, _/_, _≤_, _<_}
 use mathlib.Core.Bool.{true}
 use mathlib.Core.Path.{_≡_, refl, sym, ap, _∙_}
-use mathlib.Core.List.{List, [], _∷_, _++_, map}
+use mathlib.Core.List.{List, [], _∷_, map}
 use native.Mathlib.Omega.{arith}
 use borrow.Author.Tests.{eq-eqb, ne-eqb}
 use lib.Dec.{eqb}
 use lib.ListN.{length, getD, take}
 use lib.Seq.{length-take-le}
-use Rattle.words.specs.Word.{zeros}
 use Rattle.words.proofs.Parts.{length-zero}
 use Rattle.occurrences.specs.Count.{bit}
 use Rattle.rules.specs.Limits.{files, places, bufferBytes, roomWords}
 use Rattle.rules.specs.State.{Req, idle}
-use Rattle.rules.specs.Memories.{bufferAt, lies}
+use Rattle.rules.specs.Memories.{bufferAt}
+use Rattle.rules.specs.Buffers.{lies}
 use Rattle.rules.specs.Allocation.{Alloc, heldAt, ownEntry, portOf}
 use Rattle.segment.specs.Layout.{dataAt, replyPort}
 use Rattle.segment.specs.Table.{nth, dataOf}
@@ -23,9 +23,9 @@ use Rattle.laws.specs.Bounds.{Bounded}
 use Rattle.laws.specs.Sides.{Fitting}
 use Rattle.memory.specs.Image.{reqWords, portWords}
 use Rattle.sound.specs.Rows.{fileWord, sideAt, zeroWords}
-use Rattle.sound.specs.Walks.{entryWord, placeIn, sizeIn, restZero}
+use Rattle.sound.specs.Walks.{entryWord, placeIn, sizeIn}
 use Rattle.decision.specs.Survey.{WriteEntry, PortEntry, completedAt}
-use Rattle.decision.proofs.desk.Words.{zero-words, row-nine, buffer-long, rest-is}
+use Rattle.decision.proofs.desk.Words.{zero-words, row-nine, buffer-long}
 use Rattle.decision.proofs.desk.MadeDesk.{readsAt, writesAt, entryOf}
 use Rattle.decision.proofs.desk.MadePlaces.{View, idles, reads, writes, readsDone, writesDone}
 
@@ -80,13 +80,13 @@ module _ (s bufs : List ℕ) (ls : List (List ℕ)) (i : ℕ) where
     took : (n : ℕ) → n ≤ bufferBytes → length (take n (bufferAt i bufs)) ≡ n
     took n k = length-take-le n (bufferAt i bufs) (omega (arith, buffer-long bufs size i h))
 
-    write-size : WriteEntry s bufs (i / places) mine → placeIn s mine ≡ i → (sizeIn s mine ≤ 2 * fileWord s (i / places) 0) × (sizeIn s mine ≤ bufferBytes)
+    write-size : WriteEntry s (i / places) mine → placeIn s mine ≡ i → (sizeIn s mine ≤ 2 * fileWord s (i / places) 0) × (sizeIn s mine ≤ bufferBytes)
     write-size r p = (r .size, omega (arith, r .size, small (omega (arith, sym (ap (sideAt s) p) ∙ r .side))))
 
-    read-size : PortEntry s bufs i mine → sideAt s i ≡ 1 → sizeIn s mine ≤ bufferBytes
+    read-size : PortEntry s i mine → sideAt s i ≡ 1 → sizeIn s mine ≤ bufferBytes
     read-size r d = rw d at (r .size)
 
-    none-size : PortEntry s bufs i mine → sideAt s i ≡ 2 → sizeIn s mine ≡ 0
+    none-size : PortEntry s i mine → sideAt s i ≡ 2 → sizeIn s mine ≡ 0
     none-size r d = let k : sizeIn s mine ≤ 0 = rw d at (r .size) in omega arith
 
     pub bounded : (q : Req) → View s bufs ls i q → Bounded (fileWord s (i / places) 0) q
@@ -97,23 +97,14 @@ module _ (s bufs : List ℕ) (ls : List (List ℕ)) (i : ℕ) where
     bounded _ (readsDone e f g l r d) = (omega (arith, took (sizeIn s mine) (read-size r d), read-size r d), r .status)
     bounded _ (writesDone e f g l r d) = r .status
 
-    -- the record buffer
-
-    all-zero : restZero bufs i 0 ≡ true → bufferAt i bufs ≡ [] ++ zeros (bufferBytes - 0)
-    all-zero z = rest-is bufs size i h 0 (omega arith) z
-
-    some-zero : (n : ℕ) → n ≤ bufferBytes → restZero bufs i n ≡ true
-        → bufferAt i bufs ≡ take n (bufferAt i bufs) ++ zeros (bufferBytes - length (take n (bufferAt i bufs)))
-    some-zero n k z = rest-is bufs size i h n k z ∙ ap (λ m. take n (bufferAt i bufs) ++ zeros (bufferBytes - m)) (sym (took n k))
-
-    pub body : (q : Req) → View s bufs ls i q → (readsAt s ls i ≡ 0 → writesAt s ls i ≡ 0 → completedAt ls i ≡ 0 → restZero bufs i 0 ≡ true)
-        → bufferAt i bufs ≡ lies q ++ zeros (bufferBytes - length (lies q))
+    -- what lies in the record buffer
+    pub lain : (q : Req) → View s bufs ls i q → take (length (lies q)) (bufferAt i bufs) ≡ lies q
     unfolding lies
-    body _ (idles e f g) k = all-zero (k e f g)
-    body _ (reads e f g r p) k = all-zero (rw p at (r .buffer))
-    body _ (writes e f g r p) k = some-zero (sizeIn s mine) (write-size r p .1) (rw p at (r .buffer))
-    body _ (readsDone e f g l r d) k = some-zero (sizeIn s mine) (read-size r d) (r .buffer)
-    body _ (writesDone e f g l r d) k = all-zero (rw (none-size r d) at (r .buffer))
+    lain _ (idles e f g) = refl
+    lain _ (reads e f g r p) = refl
+    lain _ (writes e f g r p) = ap (λ n. take n (bufferAt i bufs)) (took (sizeIn s mine) (write-size r p .1))
+    lain _ (readsDone e f g l r d) = ap (λ n. take n (bufferAt i bufs)) (took (sizeIn s mine) (read-size r d))
+    lain _ (writesDone e f g l r d) = refl
 
     -- the words of its entry
 

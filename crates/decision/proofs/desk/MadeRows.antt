@@ -25,9 +25,9 @@ use Rattle.segment.specs.Table.{row}
 use Rattle.shares.specs.Groups.{All}
 use Rattle.shares.specs.Laid.{GoodRec}
 use Rattle.shares.specs.Back.{usedRecs}
-use Rattle.shares.specs.Holds.{Holds}
+use Rattle.shares.specs.Holds.{InShare}
 use Rattle.shares.specs.Sound.{storeAt}
-use Rattle.shares.proofs.Good.{sized}
+use Rattle.shares.proofs.Good.{geometry-sized}
 use Rattle.shares.proofs.Sound.{sound-holds}
 use Rattle.laws.specs.Room.{Roomy}
 use Rattle.memory.specs.Image.{fileWords, placeWords, rowOf}
@@ -68,7 +68,7 @@ share-bytes blocks f b i = go (decLt i shareBytes)
 share-long : (blocks : List ℕ) (f : ℕ) → length blocks ≡ shareBytes * files → f < files → length (shareAt f blocks) ≡ shareBytes
 share-long blocks f e h = length-take-le shareBytes (drop (shareBytes * f) blocks) (rw (length-drop (shareBytes * f) blocks) (omega arith))
 
-module _ (s blocks bufs : List ℕ) (ls : List (List ℕ)) (bytes : Bytes blocks) (long : length blocks ≡ shareBytes * files) (ok : filesOk s blocks 0 files ≡ true) (U : Survey s bufs ls) where
+module _ (s blocks bufs : List ℕ) (ls : List (List ℕ)) (bytes : Bytes blocks) (long : length blocks ≡ shareBytes * files) (ok : filesOk s blocks 0 files ≡ true) (U : Survey s ls) where
   -- the records of a built file
   module _ (f : ℕ) (h : f < files) (t : builtAt s f ≡ true) where
     abbrev b : Built
@@ -77,10 +77,10 @@ module _ (s blocks bufs : List ℕ) (ls : List (List ℕ)) (bytes : Bytes blocks
     file : BuiltRow s blocks f
     file = built-at s blocks ok f h t
 
-    pub stored : Holds (b .geo) (b .store) × All GoodRec (usedRecs (b .geo) (b .store)) × (length (b .store .recs) ≡ fileWord s f 5)
+    pub stored : InShare (b .geo) (b .store) × All GoodRec (usedRecs (b .geo) (b .store)) × (length (b .store .recs) ≡ fileWord s f 5)
     unfolding builtFor storeAt
     stored =
-        sound-holds (geoAt s f) (shareAt f blocks) (fileWord s f 3) (fileWord s f 4) (fileWord s f 5) (sized (geoAt s f) (file .geo .factor-low) (file .geo .room) (file .geo .share))
+        sound-holds (geoAt s f) (shareAt f blocks) (fileWord s f 3) (fileWord s f 4) (fileWord s f 5) (geometry-sized (geoAt s f) (file .geo .factor-low) (file .geo .room) (file .geo .share))
         (share-bytes blocks f bytes) (share-long blocks f long h) (file .laid)
 
     built-row : row s (fileRowAt f) fileWidth ≡ fileWords (built b)

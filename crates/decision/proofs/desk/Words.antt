@@ -1,16 +1,14 @@
 -- Words and bytes by their number: rows of words, zeros, record buffers.
-use Prim.Native.Nat.{ℕ, zero, suc, _+_, _-_, _*_, _≤_, _<_}
+use Prim.Native.Nat.{ℕ, zero, suc, _+_, _*_, _<_}
 use mathlib.Core.Bool.{true}
 use mathlib.Core.Path.{_≡_, refl, sym, ap, _∙_}
-use mathlib.Core.List.{List, [], _∷_, _++_}
+use mathlib.Core.List.{List, [], _∷_}
 use native.Mathlib.Omega.{arith}
 use native.Mathlib.Numerals.{unary-clauses}
 use borrow.Author.Tests.{eqb-true, eq-eqb}
 use lib.Dec.{eqb}
-use lib.ListN.{length, getD, take, drop, length-drop, take-append-drop, replicate}
-use lib.Seq.{ext-getD, getD-take, getD-drop, length-take-le, getD-append-add}
-use Rattle.words.specs.Word.{zeros, quiet}
-use Rattle.words.proofs.Runs.{length-zeros, getD-zeros}
+use lib.ListN.{length, getD, drop, length-drop, replicate}
+use lib.Seq.{ext-getD, length-take-le}
 use Rattle.rules.specs.Limits.{files, places, bufferBytes}
 use Rattle.rules.specs.Memories.{bufferAt}
 use Rattle.rules.proofs.Split.{pick-true, pass-true}
@@ -18,7 +16,7 @@ use Rattle.segment.specs.Layout.{dataAt, dataWords}
 use Rattle.segment.proofs.Rows.{row-at, length-row}
 use Rattle.segment.specs.Table.{nth, row, dataOf}
 use Rattle.sound.specs.Rows.{zeroWords}
-use Rattle.sound.specs.Walks.{entryWord, restZero}
+use Rattle.sound.specs.Walks.{entryWord}
 
 -- rows
 
@@ -63,55 +61,7 @@ words-zero s k (suc n) h =
     pick-true (eqb (nth s k) 0) _ _ (eq-eqb (nth s k) 0 (ap (nth s) e ∙ h 0 (omega arith)))
     ∙ words-zero s (suc k) n (λ j i. let d : suc k + j ≡ k + suc j = omega arith in ap (nth s) d ∙ h (suc j) (omega arith))
 
-pub quiet-at : (xs : List ℕ) (p n : ℕ) → quiet xs p n ≡ true → (j : ℕ) → j < n → getD xs (p + j) 0 ≡ 0
-unfolding quiet
-quiet-at xs p zero h j i = absurd (omega arith)
-quiet-at xs p (suc n) h zero i =
-    let e : p + 0 ≡ p = omega arith in
-    ap (λ (k : ℕ). getD xs k 0) e ∙ eqb-true (getD xs p 0) 0 (pass-true (eqb (getD xs p 0) 0) (quiet xs (suc p) n) h .0)
-quiet-at xs p (suc n) h (suc j) i =
-    let e : p + suc j ≡ suc p + j = omega arith in
-    ap (λ (k : ℕ). getD xs k 0) e ∙ quiet-at xs (suc p) n (pass-true (eqb (getD xs p 0) 0) (quiet xs (suc p) n) h .1) j (omega arith)
-
-pub at-quiet : (xs : List ℕ) (p n : ℕ) → ((j : ℕ) → j < n → getD xs (p + j) 0 ≡ 0) → quiet xs p n ≡ true
-unfolding quiet
-at-quiet xs p zero h = refl
-at-quiet xs p (suc n) h =
-    let e : p ≡ p + 0 = omega arith in
-    pick-true (eqb (getD xs p 0) 0) _ _ (eq-eqb (getD xs p 0) 0 (ap (λ (k : ℕ). getD xs k 0) e ∙ h 0 (omega arith)))
-    ∙ at-quiet xs (suc p) n (λ j i. let d : suc p + j ≡ p + suc j = omega arith in ap (λ (k : ℕ). getD xs k 0) d ∙ h (suc j) (omega arith))
-
 -- record buffers
 
-module _ (bufs : List ℕ) (size : length bufs ≡ places * bufferBytes * files) (i : ℕ) (h : i < files * places) where
-  pub buffer-long : length (bufferAt i bufs) ≡ bufferBytes
-  buffer-long = length-take-le bufferBytes (drop (bufferBytes * i) bufs) (rw (length-drop (bufferBytes * i) bufs) (omega arith))
-
-  buffer-byte : (j : ℕ) → j < bufferBytes → getD (bufferAt i bufs) j 0 ≡ getD bufs (bufferBytes * i + j) 0
-  buffer-byte j k = getD-take bufferBytes (drop (bufferBytes * i) bufs) j 0 k ∙ getD-drop (bufferBytes * i) bufs j 0
-
-  pub rest-is : (n : ℕ) → n ≤ bufferBytes → restZero bufs i n ≡ true → bufferAt i bufs ≡ take n (bufferAt i bufs) ++ zeros (bufferBytes - n)
-  unfolding restZero
-  rest-is n k q = sym (take-append-drop n (bufferAt i bufs)) ∙ ap (λ (l : List ℕ). take n (bufferAt i bufs) ++ l) rest
-    where
-      long : length (drop n (bufferAt i bufs)) ≡ bufferBytes - n
-      long = length-drop n (bufferAt i bufs) ∙ omega (arith, buffer-long)
-
-      byte : (j : ℕ) → j < bufferBytes - n → getD (drop n (bufferAt i bufs)) j 0 ≡ getD (zeros (bufferBytes - n)) j 0
-      byte j l =
-          let e : bufferBytes * i + (n + j) ≡ bufferBytes * i + n + j = omega arith in
-          getD-drop n (bufferAt i bufs) j 0 ∙ buffer-byte (n + j) (omega arith) ∙ ap (λ (m : ℕ). getD bufs m 0) e
-          ∙ quiet-at bufs (bufferBytes * i + n) (bufferBytes - n) q j l ∙ sym (getD-zeros (bufferBytes - n) j l)
-
-      rest : drop n (bufferAt i bufs) ≡ zeros (bufferBytes - n)
-      rest = ext-getD 0 (drop n (bufferAt i bufs)) (zeros (bufferBytes - n)) (long ∙ sym (length-zeros (bufferBytes - n))) (λ j l. byte j (rw long at l))
-
-  pub is-rest : (ds : List ℕ) → length ds ≤ bufferBytes → bufferAt i bufs ≡ ds ++ zeros (bufferBytes - length ds) → restZero bufs i (length ds) ≡ true
-  unfolding restZero
-  is-rest ds k q = at-quiet bufs (bufferBytes * i + length ds) (bufferBytes - length ds) byte
-    where
-      byte : (j : ℕ) → j < bufferBytes - length ds → getD bufs (bufferBytes * i + length ds + j) 0 ≡ 0
-      byte j l =
-          let e : bufferBytes * i + length ds + j ≡ bufferBytes * i + (length ds + j) = omega arith in
-          ap (λ (m : ℕ). getD bufs m 0) e ∙ sym (buffer-byte (length ds + j) (omega arith)) ∙ ap (λ (b : List ℕ). getD b (length ds + j) 0) q
-          ∙ getD-append-add ds (zeros (bufferBytes - length ds)) j 0 ∙ getD-zeros (bufferBytes - length ds) j l
+pub buffer-long : (bufs : List ℕ) → length bufs ≡ places * bufferBytes * files → (i : ℕ) → i < files * places → length (bufferAt i bufs) ≡ bufferBytes
+buffer-long bufs size i h = length-take-le bufferBytes (drop (bufferBytes * i) bufs) (rw (length-drop (bufferBytes * i) bufs) (omega arith))

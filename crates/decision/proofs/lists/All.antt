@@ -28,30 +28,30 @@ module _ (s busy : List ℕ) (p : Parts) where
   abbrev pub pastTimers : List ℕ
   pastTimers = marks 3 pastPorts (owners s (p .timers))
 
-pub record Good (s bufs busy : List ℕ) (p : Parts) : Type 0 where
-  pub free : FreeOk s bufs busy (p .free)
-  pub reads : ReadsOk s bufs busy (p .reads)
-  pub writes : WritesOk s bufs (pastReads s busy p) (p .writes)
-  pub ports : PortsOk s bufs (pastWrites s busy p) (p .ports)
-  pub timers : TimersOk s bufs (pastPorts s busy p) (p .timers)
+pub record Good (s busy : List ℕ) (p : Parts) : Type 0 where
+  pub free : FreeOk s busy (p .free)
+  pub reads : ReadsOk s busy (p .reads)
+  pub writes : WritesOk s (pastReads s busy p) (p .writes)
+  pub ports : PortsOk s (pastWrites s busy p) (p .ports)
+  pub timers : TimersOk s (pastPorts s busy p) (p .timers)
 
-module _ (s bufs : List ℕ) where
+module _ (s : List ℕ) where
   -- all lists, with any marks to begin with
   unfoldable pub walksFrom : List ℕ → List ℕ → Walked
   walksFrom seen busy =
       andThen (freeWalk s freeList seen busy most) (λ seen busy.
-      andThen (queueWalks s bufs 1 0 seen busy files) (λ seen busy.
-      andThen (queueWalks s bufs 2 0 seen busy files) (λ seen busy.
-      andThen (portWalks s bufs 0 seen busy (files * places)) (λ seen busy.
+      andThen (queueWalks s 1 0 seen busy files) (λ seen busy.
+      andThen (queueWalks s 2 0 seen busy files) (λ seen busy.
+      andThen (portWalks s 0 seen busy (files * places)) (λ seen busy.
       timerWalk s 1 timerList seen busy most))))
 
   pub record AllFound (seen busy : List ℕ) (w : Walked) : Type 0 where
     pub parts : Parts
-    pub good : Good s bufs busy parts
+    pub good : Good s busy parts
     pub fresh : Met 0 1 seen (flat (whole parts))
     pub is : w ≡ walked true (marks 1 seen (flat (whole parts))) (pastTimers s busy parts)
 
-  found-parts : (p : Parts) (seen busy : List ℕ) (w : Walked) → Good s bufs busy p
+  found-parts : (p : Parts) (seen busy : List ℕ) (w : Walked) → Good s busy p
       → Met 0 1 seen (p .free ++ (flat (p .reads) ++ (flat (p .writes) ++ (flat (p .ports) ++ p .timers))))
       → w ≡ walked true (marks 1 seen (p .free ++ (flat (p .reads) ++ (flat (p .writes) ++ (flat (p .ports) ++ p .timers))))) (pastTimers s busy p)
       → AllFound seen busy w
@@ -65,22 +65,22 @@ module _ (s bufs : List ℕ) where
   pub walks-found : (seen busy : List ℕ) → walksFrom seen busy .ok ≡ true → AllFound seen busy (walksFrom seen busy)
   unfolding walksFrom
   walks-found seen busy h =
-      let st = stage-then (free-found s bufs) (stage-then (reads-found s bufs) (stage-then (writes-found s bufs) (stage-then (ports-found s bufs) (timers-found s bufs)))) in
+      let st = stage-then (free-found s) (stage-then (reads-found s) (stage-then (writes-found s) (stage-then (ports-found s) (timers-found s)))) in
       let r = st .found seen busy h in
       let (fr, (rs, (ws, (ps, ts)))) = r .it in
       let (a, (b, (c, (d, e)))) = r .holds in
       found-parts (record { free = fr; reads = rs; writes = ws; ports = ps; timers = ts; readSize = b .0; writeSize = c .0; portSize = d .0 }) seen busy
       (walksFrom seen busy) (record { free = a; reads = b; writes = c; ports = d; timers = e }) (r .fresh) (r .is)
 
-  pub walks-well : (p : Parts) (seen busy : List ℕ) → Good s bufs busy p → Met 0 1 seen (flat (whole p))
+  pub walks-well : (p : Parts) (seen busy : List ℕ) → Good s busy p → Met 0 1 seen (flat (whole p))
       → walksFrom seen busy ≡ walked true (marks 1 seen (flat (whole p))) (pastTimers s busy p)
   unfolding walksFrom
   walks-well p seen busy g m =
-      let st = stage-then (free-found s bufs) (stage-then (reads-found s bufs) (stage-then (writes-found s bufs) (stage-then (ports-found s bufs) (timers-found s bufs)))) in
+      let st = stage-then (free-found s) (stage-then (reads-found s) (stage-then (writes-found s) (stage-then (ports-found s) (timers-found s)))) in
       st .well (p .free, (p .reads, (p .writes, (p .ports, p .timers)))) seen busy (g .free, (g .reads, (g .writes, (g .ports, g .timers)))) (rw (flat-whole p) at m)
       ∙ ap (λ (l : List ℕ). walked true (marks 1 seen l) (pastTimers s busy p)) (sym (flat-whole p))
 
 -- the walks of all lists, beginning with no marks
-pub all-walks : (s bufs : List ℕ) → allWalks s bufs ≡ walksFrom s bufs (blank entries) (blank (files * places))
+pub all-walks : (s : List ℕ) → allWalks s ≡ walksFrom s (blank entries) (blank (files * places))
 unfolding allWalks walksFrom blank
-all-walks s bufs = refl
+all-walks s = refl

@@ -1,4 +1,4 @@
--- The walks say yes exactly where there are lists as the survey has them, and leave a mark on a place exactly where something is outstanding.
+-- The walks say yes exactly where there are lists as the survey has them.
 use Prim.Native.Nat.{ℕ, _+_, _*_, _≤_, _<_}
 use mathlib.Core.Bool.{Bool, true, false}
 use mathlib.Core.Path.{_≡_, sym, ap, _∙_}
@@ -11,7 +11,7 @@ use Rattle.rules.specs.Limits.{files, places, entries}
 use Rattle.segment.specs.Layout.{listCount, freeList, readQueue, writeQueue, replyPort, timerList}
 use Rattle.occurrences.specs.Count.{bit}
 use Rattle.sound.specs.Walks.{Walked, walked, freeEntry, allWalks, allMet}
-use Rattle.decision.specs.Survey.{Each, ReadEntry, WriteEntry, PortEntry, TimerEntry, completedAt, Survey, Marked}
+use Rattle.decision.specs.Survey.{Each, ReadEntry, WriteEntry, PortEntry, TimerEntry, completedAt, Survey}
 use Rattle.occurrences.proofs.Counts.{total-one}
 use Rattle.occurrences.proofs.Pigeons.{Below, holes}
 use Rattle.decision.proofs.lists.Flat.{below-count, flat, count-flat, below-flat}
@@ -23,12 +23,12 @@ use Rattle.decision.proofs.lists.Means.{owners}
 use Rattle.decision.proofs.lists.Stages.{Holding}
 use Rattle.decision.proofs.lists.Parts.{Parts, whole, whole-length, at-free, at-read, at-write, at-port, at-timers, split}
 use Rattle.decision.proofs.lists.All.{Good, AllFound, pastTimers, walks-found, walks-well, all-walks}
-use Rattle.decision.proofs.lists.Stands.{Stands, readsOf, writesOf, portsOf, timersOf, read-at, write-at, port-at, chain-at, reads-below, writes-below, ports-below, timers-below, waiting-is, completed-is, timers-is}
+use Rattle.decision.proofs.lists.Stands.{ListsStand, readsOf, writesOf, portsOf, timersOf, read-at, write-at, port-at, chain-at, reads-below, writes-below, ports-below, timers-below, waiting-is, completed-is, timers-is}
 use Rattle.ports.proofs.Chains.{chain-below}
 use Rattle.decision.proofs.lists.Places.{idle, ports-counted, timers-counted, reads-met, writes-met, ports-met, timers-met}
 
-module _ (s bufs : List ℕ) (p : Parts) where
-  good-stands : Good s bufs idle p → Stands s bufs p
+module _ (s : List ℕ) (p : Parts) where
+  good-stands : Good s idle p → ListsStand s p
   good-stands g = record {
     free = g .free;
     reads = g .reads .1;
@@ -38,48 +38,34 @@ module _ (s bufs : List ℕ) (p : Parts) where
     order = g .timers .1;
   }
 
-  module _ (t : Stands s bufs p) where
+  module _ (t : ListsStand s p) where
     entries-below : Below entries (flat (whole p))
     entries-below =
-        below-flat entries (whole p) (λ l h. chain-below s l (getD (whole p) l []) (chain-at s bufs p t l (omega (arith, whole-length p))))
-
-    -- marks by the numbers of the survey
-    marks-right : ((i : ℕ) → (getD (pastTimers s idle p) i 0 ≡ readsOf s p i + writesOf s p i + 2 * portsOf s p i + 2 * timersOf s p i) × (timersOf s p i ≤ readsOf s p i + writesOf s p i))
-        → Marked s (whole p) (pastTimers s idle p)
-    unfolding Marked
-    marks-right c i h =
-        let w = waiting-is s bufs p t i h in
-        let d = completed-is s bufs p t i h in
-        (λ z. omega (arith, c i, w, d), λ z. omega (arith, c i, w, d))
+        below-flat entries (whole p) (λ l h. chain-below s l (getD (whole p) l []) (chain-at s p t l (omega (arith, whole-length p))))
 
   -- from what the walks found to the survey
-  module _ (g : Good s bufs idle p) (m : Met 0 1 (blank entries) (flat (whole p))) (k : allMet (marks 1 (blank entries) (flat (whole p))) entries ≡ true) where
-    found-survey : Survey s bufs (whole p)
+  module _ (g : Good s idle p) (m : Met 0 1 (blank entries) (flat (whole p))) (k : allMet (marks 1 (blank entries) (flat (whole p))) entries ≡ true) where
+    found-survey : Survey s (whole p)
     found-survey =
         let t = good-stands g in
-        let c = ports-counted s bufs p t (g .reads .2) (g .writes .2) (g .ports .2) in
-        let d = timers-counted s bufs p t (g .reads .2) (g .writes .2) (g .ports .2) (g .timers .2) in
+        let c = ports-counted s p t (g .reads .2) (g .writes .2) (g .ports .2) in
+        let d = timers-counted s p t (g .reads .2) (g .writes .2) (g .ports .2) (g .timers .2) in
         record {
           heads = whole-length p;
-          chains = chain-at s bufs p t;
+          chains = chain-at s p t;
           once = λ x. sym (count-flat x (whole p)) ∙ met-once entries (flat (whole p)) (entries-below t) m k x;
           free = rw (at-free p) (t .free .2);
-          reads = λ f h. read-at s bufs p t f h .2;
-          writes = λ f h. write-at s bufs p t f h .2;
-          ports = λ i h. port-at s bufs p t i h .2;
+          reads = λ f h. read-at s p t f h .2;
+          writes = λ f h. write-at s p t f h .2;
+          ports = λ i h. port-at s p t i h .2;
           timers = rw (at-timers p) (t .timers .2);
           order = rw (at-timers p) (t .order);
-          single = λ i h. omega (arith, c i, waiting-is s bufs p t i h, completed-is s bufs p t i h);
-          timed = λ i h. omega (arith, d i, waiting-is s bufs p t i h, timers-is s bufs p t i);
+          single = λ i h. omega (arith, c i, waiting-is s p t i h, completed-is s p t i h);
+          timed = λ i h. omega (arith, d i, waiting-is s p t i h, timers-is s p t i);
         }
 
-    found-marked : Marked s (whole p) (pastTimers s idle p)
-    found-marked =
-        let t = good-stands g in
-        marks-right t (timers-counted s bufs p t (g .reads .2) (g .writes .2) (g .ports .2) (g .timers .2))
-
   -- the way back, from the survey to what the walks find
-  module _ (v : Survey s bufs (whole p)) where
+  module _ (v : Survey s (whole p)) where
     short : (l : ℕ) → l < listCount → length (getD (whole p) l []) < most
     short l h =
         let r = holes entries (getD (whole p) l []) (chain-below s l (getD (whole p) l []) (v .chains l h))
@@ -94,18 +80,18 @@ module _ (s bufs : List ℕ) (p : Parts) where
     unfolding completedAt
     port-short i h = omega (arith, v .single i h, ap length (at-port p i h))
 
-    survey-stands : Stands s bufs p
+    survey-stands : ListsStand s p
     survey-stands = record {
       free = held freeList (λ e. freeEntry s e ≡ true) (p .free) (at-free p) (omega arith) (v .free);
       reads =
-          at-lists (λ f. Holding s most (readQueue f) (ReadEntry s bufs f)) files (p .reads) (p .readSize)
-          (λ f h. held (readQueue f) (ReadEntry s bufs f) (getD (p .reads) f []) (at-read p f h) (omega arith) (v .reads f h));
+          at-lists (λ f. Holding s most (readQueue f) (ReadEntry s f)) files (p .reads) (p .readSize)
+          (λ f h. held (readQueue f) (ReadEntry s f) (getD (p .reads) f []) (at-read p f h) (omega arith) (v .reads f h));
       writes =
-          at-lists (λ f. Holding s most (writeQueue f) (WriteEntry s bufs f)) files (p .writes) (p .writeSize)
-          (λ f h. held (writeQueue f) (WriteEntry s bufs f) (getD (p .writes) f []) (at-write p f h) (omega arith) (v .writes f h));
+          at-lists (λ f. Holding s most (writeQueue f) (WriteEntry s f)) files (p .writes) (p .writeSize)
+          (λ f h. held (writeQueue f) (WriteEntry s f) (getD (p .writes) f []) (at-write p f h) (omega arith) (v .writes f h));
       ports =
-          at-lists (λ i. Holding s 2 (replyPort i) (PortEntry s bufs i)) (files * places) (p .ports) (p .portSize)
-          (λ i h. let r = held (replyPort i) (PortEntry s bufs i) (getD (p .ports) i []) (at-port p i h) (omega arith) (v .ports i h) in (port-short i h, r .1, r .2));
+          at-lists (λ i. Holding s 2 (replyPort i) (PortEntry s i)) (files * places) (p .ports) (p .portSize)
+          (λ i h. let r = held (replyPort i) (PortEntry s i) (getD (p .ports) i []) (at-port p i h) (omega arith) (v .ports i h) in (port-short i h, r .1, r .2));
       timers = held timerList (TimerEntry s) (p .timers) (at-timers p) (omega arith) (v .timers);
       order = rw (at-timers p) at (v .order);
     }
@@ -117,72 +103,66 @@ module _ (s bufs : List ℕ) (p : Parts) where
     survey-single : (i : ℕ) → readsOf s p i + writesOf s p i + portsOf s p i ≤ 1
     survey-single i = go (decLt i (files * places))
       where
-        t : Stands s bufs p
+        t : ListsStand s p
         t = survey-stands
 
         go : Dec (i < files * places) → readsOf s p i + writesOf s p i + portsOf s p i ≤ 1
-        go (yes h) = omega (arith, v .single i h, waiting-is s bufs p t i h, completed-is s bufs p t i h)
+        go (yes h) = omega (arith, v .single i h, waiting-is s p t i h, completed-is s p t i h)
         go (no d) =
             omega (
               arith,
-              below-count (files * places) i (owners s (flat (p .reads))) (reads-below s bufs p t) (omega arith),
-              below-count (files * places) i (owners s (flat (p .writes))) (writes-below s bufs p t) (omega arith),
-              below-count (files * places) i (owners s (flat (p .ports))) (ports-below s bufs p t) (omega arith),
+              below-count (files * places) i (owners s (flat (p .reads))) (reads-below s p t) (omega arith),
+              below-count (files * places) i (owners s (flat (p .writes))) (writes-below s p t) (omega arith),
+              below-count (files * places) i (owners s (flat (p .ports))) (ports-below s p t) (omega arith),
             )
 
     survey-timed : (i : ℕ) → timersOf s p i ≤ readsOf s p i + writesOf s p i
     survey-timed i = go (decLt i (files * places))
       where
-        t : Stands s bufs p
+        t : ListsStand s p
         t = survey-stands
 
         go : Dec (i < files * places) → timersOf s p i ≤ readsOf s p i + writesOf s p i
-        go (yes h) = omega (arith, v .timed i h, waiting-is s bufs p t i h, timers-is s bufs p t i)
-        go (no d) = omega (arith, below-count (files * places) i (owners s (p .timers)) (timers-below s bufs p t) (omega arith))
+        go (yes h) = omega (arith, v .timed i h, waiting-is s p t i h, timers-is s p t i)
+        go (no d) = omega (arith, below-count (files * places) i (owners s (p .timers)) (timers-below s p t) (omega arith))
 
-    survey-good : Good s bufs idle p
+    survey-good : Good s idle p
     survey-good =
         let t = survey-stands in
         record {
           free = t .free;
-          reads = (p .readSize, t .reads, reads-met s bufs p t survey-single);
-          writes = (p .writeSize, t .writes, writes-met s bufs p t survey-single);
-          ports = (p .portSize, t .ports, ports-met s bufs p t survey-single);
-          timers = (t .timers, t .order, timers-met s bufs p t survey-single survey-timed);
+          reads = (p .readSize, t .reads, reads-met s p t survey-single);
+          writes = (p .writeSize, t .writes, writes-met s p t survey-single);
+          ports = (p .portSize, t .ports, ports-met s p t survey-single);
+          timers = (t .timers, t .order, timers-met s p t survey-single survey-timed);
         }
 
     survey-once : Met 0 1 (blank entries) (flat (whole p)) × (allMet (marks 1 (blank entries) (flat (whole p))) entries ≡ true)
     survey-once = once-met entries (flat (whole p)) (entries-below survey-stands) (λ x. count-flat x (whole p) ∙ v .once x)
 
-    survey-walks : allWalks s bufs ≡ walked true (marks 1 (blank entries) (flat (whole p))) (pastTimers s idle p)
-    survey-walks = all-walks s bufs ∙ walks-well s bufs p (blank entries) idle survey-good (survey-once .0)
+    survey-walks : allWalks s ≡ walked true (marks 1 (blank entries) (flat (whole p))) (pastTimers s idle p)
+    survey-walks = all-walks s ∙ walks-well s p (blank entries) idle survey-good (survey-once .0)
 
-module _ (s bufs : List ℕ) where
+module _ (s : List ℕ) where
   -- what a result of the walks says
-  says-well : (w : Walked) (seen busy : List ℕ) → w ≡ walked true seen busy → (w .ok ≡ true) × (w .seen ≡ seen) × (w .busy ≡ busy)
+  says-well : (w : Walked) (seen busy : List ℕ) → w ≡ walked true seen busy → (w .ok ≡ true) × (w .seen ≡ seen)
   unfolding walked
-  says-well w seen busy e = (ap (λ (u : Walked). u .ok) e, ap (λ (u : Walked). u .seen) e, ap (λ (u : Walked). u .busy) e)
+  says-well w seen busy e = (ap (λ (u : Walked). u .ok) e, ap (λ (u : Walked). u .seen) e)
 
-  yes-parts : (a : AllFound s bufs (blank entries) idle (allWalks s bufs)) → allMet (allWalks s bufs .seen) entries ≡ true
-      → Survey s bufs (whole (a .parts)) × Marked s (whole (a .parts)) (allWalks s bufs .busy)
+  yes-parts : (a : AllFound s (blank entries) idle (allWalks s)) → allMet (allWalks s .seen) entries ≡ true → Survey s (whole (a .parts))
   yes-parts a k =
-      let (_, e, d) = says-well (allWalks s bufs) (marks 1 (blank entries) (flat (whole (a .parts)))) (pastTimers s idle (a .parts)) (a .is) in
-      let k2 = rw e at k in
-      (found-survey s bufs (a .parts) (a .good) (a .fresh) k2, rw d (found-marked s bufs (a .parts) (a .good) (a .fresh) k2))
+      let (_, e) = says-well (allWalks s) (marks 1 (blank entries) (flat (whole (a .parts)))) (pastTimers s idle (a .parts)) (a .is) in
+      found-survey s (a .parts) (a .good) (a .fresh) (rw e at k)
 
-  pub decides-yes : allWalks s bufs .ok ≡ true → allMet (allWalks s bufs .seen) entries ≡ true
-      → (ls : List (List ℕ)) × Survey s bufs ls × Marked s ls (allWalks s bufs .busy)
+  pub decides-yes : allWalks s .ok ≡ true → allMet (allWalks s .seen) entries ≡ true → (ls : List (List ℕ)) × Survey s ls
   decides-yes h k =
-      let a = rw (← all-walks s bufs) at (walks-found s bufs (blank entries) idle (rw (all-walks s bufs) at h)) in
-      let r = yes-parts a k in
-      (whole (a .parts), r .0, r .1)
+      let a = rw (← all-walks s) at (walks-found s (blank entries) idle (rw (all-walks s) at h)) in
+      (whole (a .parts), yes-parts a k)
 
-  no-parts : (p : Parts) → Survey s bufs (whole p)
-      → (allWalks s bufs .ok ≡ true) × (allMet (allWalks s bufs .seen) entries ≡ true) × Marked s (whole p) (allWalks s bufs .busy)
+  no-parts : (p : Parts) → Survey s (whole p) → (allWalks s .ok ≡ true) × (allMet (allWalks s .seen) entries ≡ true)
   no-parts p v =
-      let (o, e, d) = says-well (allWalks s bufs) (marks 1 (blank entries) (flat (whole p))) (pastTimers s idle p) (survey-walks s bufs p v) in
-      (o, rw e (survey-once s bufs p v .1), rw d (found-marked s bufs p (survey-good s bufs p v) (survey-once s bufs p v .0) (survey-once s bufs p v .1)))
+      let (o, e) = says-well (allWalks s) (marks 1 (blank entries) (flat (whole p))) (pastTimers s idle p) (survey-walks s p v) in
+      (o, rw e (survey-once s p v .1))
 
-  pub decides-no : (ls : List (List ℕ)) → Survey s bufs ls
-      → (allWalks s bufs .ok ≡ true) × (allMet (allWalks s bufs .seen) entries ≡ true) × Marked s ls (allWalks s bufs .busy)
-  decides-no ls v = let (p, e) = split ls (v .heads) in rw e at (no-parts p (rw e v))
+  pub decides-no : (ls : List (List ℕ)) → Survey s ls → (allWalks s .ok ≡ true) × (allMet (allWalks s .seen) entries ≡ true)
+  decides-no ls v = let (p, e) = split ls (v .heads) in no-parts p (rw e v)

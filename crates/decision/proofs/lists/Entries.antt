@@ -18,11 +18,10 @@ infixl 35 _&_
 _&_ : {t u : Bool} → t ≡ true → u ≡ true → t && u ≡ true
 _&_ {t} {u} a b = true-and t u a b
 
-module _ (s bufs busy : List ℕ) (f e : ℕ) where
-  pub read-true : readEntry s bufs busy f e ≡ true → ReadEntry s bufs f e × (getD busy (placeIn s e) 0 ≡ 0)
+module _ (s busy : List ℕ) (f e : ℕ) where
+  pub read-true : readEntry s busy f e ≡ true → ReadEntry s f e × (getD busy (placeIn s e) 0 ≡ 0)
   unfolding readEntry
   read-true h =
-      let (h, t9) = and-true _ _ h in
       let (h, t8) = and-true _ _ h in
       let (h, t7) = and-true _ _ h in
       let (h, t6) = and-true _ _ h in
@@ -38,12 +37,11 @@ module _ (s bufs busy : List ℕ) (f e : ℕ) where
           limit = leb-true (entryWord s e 2) bufferBytes t6;
           keep = leb-true (entryWord s e 3) 1 t7;
           rest = t8;
-          buffer = t9;
         },
         eqb-true (getD busy (placeIn s e) 0) 0 t3,
       )
 
-  pub true-read : ReadEntry s bufs f e → getD busy (placeIn s e) 0 ≡ 0 → readEntry s bufs busy f e ≡ true
+  pub true-read : ReadEntry s f e → getD busy (placeIn s e) 0 ≡ 0 → readEntry s busy f e ≡ true
   unfolding readEntry
   true-read r b =
       lt-ltb (placeIn s e) (files * places) (r .place)
@@ -54,12 +52,10 @@ module _ (s bufs busy : List ℕ) (f e : ℕ) where
       & le-leb (entryWord s e 2) bufferBytes (r .limit)
       & le-leb (entryWord s e 3) 1 (r .keep)
       & r .rest
-      & r .buffer
 
-  pub write-true : writeEntry s bufs busy f e ≡ true → WriteEntry s bufs f e × (getD busy (placeIn s e) 0 ≡ 0)
+  pub write-true : writeEntry s busy f e ≡ true → WriteEntry s f e × (getD busy (placeIn s e) 0 ≡ 0)
   unfolding writeEntry
   write-true h =
-      let (h, t9) = and-true _ _ h in
       let (h, t8) = and-true _ _ h in
       let (h, t7) = and-true _ _ h in
       let (h, t6) = and-true _ _ h in
@@ -75,12 +71,11 @@ module _ (s bufs busy : List ℕ) (f e : ℕ) where
           middle = t6;
           size = leb-true (sizeIn s e) (2 * fileWord s f 0) t7;
           rest = t8;
-          buffer = t9;
         },
         eqb-true (getD busy (placeIn s e) 0) 0 t3,
       )
 
-  pub true-write : WriteEntry s bufs f e → getD busy (placeIn s e) 0 ≡ 0 → writeEntry s bufs busy f e ≡ true
+  pub true-write : WriteEntry s f e → getD busy (placeIn s e) 0 ≡ 0 → writeEntry s busy f e ≡ true
   unfolding writeEntry
   true-write r b =
       lt-ltb (placeIn s e) (files * places) (r .place)
@@ -91,13 +86,11 @@ module _ (s bufs busy : List ℕ) (f e : ℕ) where
       & r .middle
       & le-leb (sizeIn s e) (2 * fileWord s f 0) (r .size)
       & r .rest
-      & r .buffer
 
-module _ (s bufs busy : List ℕ) (i e : ℕ) where
-  pub port-true : portEntry s bufs busy i e ≡ true → PortEntry s bufs i e × (getD busy i 0 ≡ 0)
+module _ (s busy : List ℕ) (i e : ℕ) where
+  pub port-true : portEntry s busy i e ≡ true → PortEntry s i e × (getD busy i 0 ≡ 0)
   unfolding portEntry
   port-true h =
-      let (h, t8) = and-true _ _ h in
       let (h, t7) = and-true _ _ h in
       let (h, t6) = and-true _ _ h in
       let (h, t5) = and-true _ _ h in
@@ -111,12 +104,11 @@ module _ (s bufs busy : List ℕ) (i e : ℕ) where
           status = ltb-true (entryWord s e 4) leastRefusal t5;
           size = leb-true (sizeIn s e) (cond (eqb (sideAt s i) 1) bufferBytes 0) t6;
           rest = t7;
-          buffer = t8;
         },
         eqb-true (getD busy i 0) 0 t2,
       )
 
-  pub true-port : PortEntry s bufs i e → getD busy i 0 ≡ 0 → portEntry s bufs busy i e ≡ true
+  pub true-port : PortEntry s i e → getD busy i 0 ≡ 0 → portEntry s busy i e ≡ true
   unfolding portEntry
   true-port r b =
       eq-eqb (placeIn s e) i (r .place)
@@ -126,7 +118,6 @@ module _ (s bufs busy : List ℕ) (i e : ℕ) where
       & lt-ltb (entryWord s e 4) leastRefusal (r .status)
       & le-leb (sizeIn s e) (cond (eqb (sideAt s i) 1) bufferBytes 0) (r .size)
       & r .rest
-      & r .buffer
 
 module _ (s busy : List ℕ) (low e : ℕ) where
   pub timer-true : timerEntry s busy low e ≡ true → TimerEntry s e × (low ≤ entryWord s e 7) × (getD busy (placeIn s e) 0 ≡ 1)

@@ -60,29 +60,29 @@ each-row s Q low [] a = tt
 each-row s Q low (x ∷ xs) a = (a .0, each-row s Q (entryWord s x 7) xs (a .1))
 
 -- what the kinds mean
-module _ (s bufs : List ℕ) where
-  pub read-means : (f : ℕ) → Means s 0 1 (λ low. ReadEntry s bufs f) (queueKind s bufs 1 f)
+module _ (s : List ℕ) where
+  pub read-means : (f : ℕ) → Means s 0 1 (λ low. ReadEntry s f) (queueKind s 1 f)
   unfolding queueKind
   read-means f = record {
     marked = λ busy e. refl;
-    says = λ busy low e h. read-true s bufs busy f e h;
-    said = λ busy low e r b. true-read s bufs busy f e r b;
+    says = λ busy low e h. read-true s busy f e h;
+    said = λ busy low e r b. true-read s busy f e r b;
   }
 
-  pub write-means : (f : ℕ) → Means s 0 1 (λ low. WriteEntry s bufs f) (queueKind s bufs 2 f)
+  pub write-means : (f : ℕ) → Means s 0 1 (λ low. WriteEntry s f) (queueKind s 2 f)
   unfolding queueKind
   write-means f = record {
     marked = λ busy e. refl;
-    says = λ busy low e h. write-true s bufs busy f e h;
-    said = λ busy low e r b. true-write s bufs busy f e r b;
+    says = λ busy low e h. write-true s busy f e h;
+    said = λ busy low e r b. true-write s busy f e r b;
   }
 
-  pub port-means : (i : ℕ) → Means s 0 2 (λ low. PortEntry s bufs i) (portKind s bufs i)
+  pub port-means : (i : ℕ) → Means s 0 2 (λ low. PortEntry s i) (portKind s i)
   unfolding portKind
   port-means i = record {
     marked = λ busy e. refl;
-    says = λ busy low e h. let r = port-true s bufs busy i e h in (r .0, ap (λ (j : ℕ). getD busy j 0) (r .0 .place) ∙ r .1);
-    said = λ busy low e r b. true-port s bufs busy i e r (sym (ap (λ (j : ℕ). getD busy j 0) (r .place)) ∙ b);
+    says = λ busy low e h. let r = port-true s busy i e h in (r .0, ap (λ (j : ℕ). getD busy j 0) (r .0 .place) ∙ r .1);
+    said = λ busy low e r b. true-port s busy i e r (sym (ap (λ (j : ℕ). getD busy j 0) (r .place)) ∙ b);
   }
 
 pub timer-means : (s : List ℕ) → Means s 1 3 (λ low e. TimerEntry s e × (low ≤ entryWord s e 7)) (timerKind s)

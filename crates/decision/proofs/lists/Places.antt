@@ -1,4 +1,4 @@
--- The marks on places after each stage, by counting: 1 for a request that waits, 2 for one completed, 3 for one that waits with a timer.
+-- The marks on places after each stage but the last, by counting: 1 for a request that waits, 2 for one completed.
 use Prim.Native.Nat.{ℕ, _+_, _*_, _≤_}
 use mathlib.Core.Path.{_≡_}
 use mathlib.Core.List.{List}
@@ -11,22 +11,22 @@ use Rattle.decision.proofs.lists.Marks.{Met, length-marks, blank, lengt
 use Rattle.decision.proofs.lists.Tallied.{waiting-marks, marks-waiting, completed-marks, marks-completed, timer-marks, marks-timer}
 use Rattle.decision.proofs.lists.Means.{owners}
 use Rattle.decision.proofs.lists.Parts.{Parts}
-use Rattle.decision.proofs.lists.All.{pastReads, pastWrites, pastPorts, pastTimers}
-use Rattle.decision.proofs.lists.Stands.{Stands, readsOf, writesOf, portsOf, timersOf, reads-below, writes-below, ports-below, timers-below}
+use Rattle.decision.proofs.lists.All.{pastReads, pastWrites, pastPorts}
+use Rattle.decision.proofs.lists.Stands.{ListsStand, readsOf, writesOf, portsOf, timersOf, reads-below, writes-below, ports-below, timers-below}
 
 abbrev pub idle : List ℕ
 idle = blank (files * places)
 
-module _ (s bufs : List ℕ) (p : Parts) (t : Stands s bufs p) where
+module _ (s : List ℕ) (p : Parts) (t : ListsStand s p) where
   below-idle : Below (length idle) (owners s (flat (p .reads)))
-  below-idle = rw (length-blank (files * places)) (reads-below s bufs p t)
+  below-idle = rw (length-blank (files * places)) (reads-below s p t)
 
   below-reads : Below (length (pastReads s idle p)) (owners s (flat (p .writes)))
-  below-reads = rw (length-marks 0 1 idle (owners s (flat (p .reads))), length-blank (files * places)) (writes-below s bufs p t)
+  below-reads = rw (length-marks 0 1 idle (owners s (flat (p .reads))), length-blank (files * places)) (writes-below s p t)
 
   below-writes : Below (length (pastWrites s idle p)) (owners s (flat (p .ports)))
   below-writes =
-      rw (length-marks 0 1 (pastReads s idle p) (owners s (flat (p .writes))), length-marks 0 1 idle (owners s (flat (p .reads))), length-blank (files * places)) (ports-below s bufs p t)
+      rw (length-marks 0 1 (pastReads s idle p) (owners s (flat (p .writes))), length-marks 0 1 idle (owners s (flat (p .reads))), length-blank (files * places)) (ports-below s p t)
 
   below-ports : Below (length (pastPorts s idle p)) (owners s (p .timers))
   below-ports =
@@ -35,7 +35,7 @@ module _ (s bufs : List ℕ) (p : Parts) (t : Stands s bufs p) where
         length-marks 0 1 (pastReads s idle p) (owners s (flat (p .writes))),
         length-marks 0 1 idle (owners s (flat (p .reads))),
         length-blank (files * places),
-      ) (timers-below s bufs p t)
+      ) (timers-below s p t)
 
   -- what the marks are, if each was met as it should
   module _ (mr : Met 0 1 idle (owners s (flat (p .reads)))) where
@@ -53,8 +53,7 @@ module _ (s bufs : List ℕ) (p : Parts) (t : Stands s bufs p) where
             → (getD (pastPorts s idle p) i 0 ≡ readsOf s p i + writesOf s p i + 2 * portsOf s p i) × (readsOf s p i + writesOf s p i + portsOf s p i ≤ 1)
         ports-counted = completed-marks (pastWrites s idle p) (owners s (flat (p .ports))) below-writes (λ i. readsOf s p i + writesOf s p i) writes-counted mp
 
-        pub timers-counted : Met 1 3 (pastPorts s idle p) (owners s (p .timers)) → (i : ℕ)
-            → (getD (pastTimers s idle p) i 0 ≡ readsOf s p i + writesOf s p i + 2 * portsOf s p i + 2 * timersOf s p i) × (timersOf s p i ≤ readsOf s p i + writesOf s p i)
+        pub timers-counted : Met 1 3 (pastPorts s idle p) (owners s (p .timers)) → (i : ℕ) → timersOf s p i ≤ readsOf s p i + writesOf s p i
         timers-counted = timer-marks (pastPorts s idle p) (owners s (p .timers)) below-ports (λ i. readsOf s p i + writesOf s p i) (portsOf s p) ports-counted
 
   -- each is met as it should, by the numbers

@@ -72,7 +72,7 @@ module _ (s : List ℕ) (need v : ℕ) (S : ℕ → List ℕ → Type 0) where
       (λ busy ls o. (o .0, lists-row j busy ls (o .1) (o .2)))
       (λ busy ls. row-marks j busy ls)
 
-module _ (s bufs : List ℕ) where
+module _ (s : List ℕ) where
   -- free entries belong to no place
   abbrev pub FreeOk : List ℕ → List ℕ → Type 0
   FreeOk busy xs = Holding s most freeList (λ e. freeEntry s e ≡ true) xs
@@ -83,41 +83,41 @@ module _ (s bufs : List ℕ) where
       (λ busy xs o. (o .0, o .1, pass-free s 0 busy xs (o .2))) (λ busy xs o. (o .0, o .1, free-pass s 0 busy xs (o .2))) (λ busy xs. free-after s busy xs) (free-stage s)
 
   -- the queues of one side, whose entries hold Q
-  queues-found : (side : ℕ) (Q : ℕ → ℕ → Type 0) → ((f : ℕ) → Means s 0 1 (λ low. Q f) (queueKind s bufs side f))
-      → Stage (λ seen busy. queueWalks s bufs side 0 seen busy files) flat (Holdings s 0 1 (λ f. Holding s most (queueOf f side) (Q f)) files 0)
+  queues-found : (side : ℕ) (Q : ℕ → ℕ → Type 0) → ((f : ℕ) → Means s 0 1 (λ low. Q f) (queueKind s side f))
+      → Stage (λ seen busy. queueWalks s side 0 seen busy files) flat (Holdings s 0 1 (λ f. Holding s most (queueOf f side) (Q f)) files 0)
       (λ busy ls. marks 1 busy (owners s (flat ls)))
   unfolding queueWalks
   queues-found side Q means =
       let S : ℕ → List ℕ → Type 0 = λ f. Holding s most (queueOf f side) (Q f) in
-      let walk : ℕ → List ℕ → List ℕ → Walked = λ f seen busy. queueWalk s bufs side f (queueOf f side) seen busy most in
-      stage-all s 0 1 S files 0 (λ seen busy. queueWalks s bufs side 0 seen busy files)
+      let walk : ℕ → List ℕ → List ℕ → Walked = λ f seen busy. queueWalk s side f (queueOf f side) seen busy most in
+      stage-all s 0 1 S files 0 (λ seen busy. queueWalks s side 0 seen busy files)
       (stage-row (λ f busy xs. S f xs × Met 0 1 busy (owners s xs)) (λ f busy xs. marks 1 busy (owners s xs)) walk
-      (λ f. stage-one s 0 1 most (queueOf f side) (Q f) (queueKind s bufs side f) (means f) (walk f) (queue-stage s bufs side f (queueOf f side)))
-      (queueWalks s bufs side) (λ f seen busy. refl) (λ f seen busy n. refl) files 0)
+      (λ f. stage-one s 0 1 most (queueOf f side) (Q f) (queueKind s side f) (means f) (walk f) (queue-stage s side f (queueOf f side)))
+      (queueWalks s side) (λ f seen busy. refl) (λ f seen busy n. refl) files 0)
 
   abbrev pub ReadsOk : List ℕ → List (List ℕ) → Type 0
-  ReadsOk = Holdings s 0 1 (λ f. Holding s most (readQueue f) (ReadEntry s bufs f)) files 0
+  ReadsOk = Holdings s 0 1 (λ f. Holding s most (readQueue f) (ReadEntry s f)) files 0
 
-  pub reads-found : Stage (λ seen busy. queueWalks s bufs 1 0 seen busy files) flat ReadsOk (λ busy ls. marks 1 busy (owners s (flat ls)))
-  reads-found = queues-found 1 (ReadEntry s bufs) (read-means s bufs)
+  pub reads-found : Stage (λ seen busy. queueWalks s 1 0 seen busy files) flat ReadsOk (λ busy ls. marks 1 busy (owners s (flat ls)))
+  reads-found = queues-found 1 (ReadEntry s) (read-means s)
 
   abbrev pub WritesOk : List ℕ → List (List ℕ) → Type 0
-  WritesOk = Holdings s 0 1 (λ f. Holding s most (writeQueue f) (WriteEntry s bufs f)) files 0
+  WritesOk = Holdings s 0 1 (λ f. Holding s most (writeQueue f) (WriteEntry s f)) files 0
 
-  pub writes-found : Stage (λ seen busy. queueWalks s bufs 2 0 seen busy files) flat WritesOk (λ busy ls. marks 1 busy (owners s (flat ls)))
-  writes-found = queues-found 2 (WriteEntry s bufs) (write-means s bufs)
+  pub writes-found : Stage (λ seen busy. queueWalks s 2 0 seen busy files) flat WritesOk (λ busy ls. marks 1 busy (owners s (flat ls)))
+  writes-found = queues-found 2 (WriteEntry s) (write-means s)
 
   abbrev pub PortsOk : List ℕ → List (List ℕ) → Type 0
-  PortsOk = Holdings s 0 2 (λ i. Holding s 2 (replyPort i) (PortEntry s bufs i)) (files * places) 0
+  PortsOk = Holdings s 0 2 (λ i. Holding s 2 (replyPort i) (PortEntry s i)) (files * places) 0
 
-  pub ports-found : Stage (λ seen busy. portWalks s bufs 0 seen busy (files * places)) flat PortsOk (λ busy ls. marks 2 busy (owners s (flat ls)))
+  pub ports-found : Stage (λ seen busy. portWalks s 0 seen busy (files * places)) flat PortsOk (λ busy ls. marks 2 busy (owners s (flat ls)))
   unfolding portWalks
   ports-found =
-      let S : ℕ → List ℕ → Type 0 = λ i. Holding s 2 (replyPort i) (PortEntry s bufs i) in
-      stage-all s 0 2 S (files * places) 0 (λ seen busy. portWalks s bufs 0 seen busy (files * places))
-      (stage-row (λ i busy xs. S i xs × Met 0 2 busy (owners s xs)) (λ i busy xs. marks 2 busy (owners s xs)) (portWalk s bufs)
-      (λ i. stage-one s 0 2 2 (replyPort i) (PortEntry s bufs i) (portKind s bufs i) (port-means s bufs i) (portWalk s bufs i) (port-stage s bufs i))
-      (portWalks s bufs) (λ i seen busy. refl) (λ i seen busy n. refl) (files * places) 0)
+      let S : ℕ → List ℕ → Type 0 = λ i. Holding s 2 (replyPort i) (PortEntry s i) in
+      stage-all s 0 2 S (files * places) 0 (λ seen busy. portWalks s 0 seen busy (files * places))
+      (stage-row (λ i busy xs. S i xs × Met 0 2 busy (owners s xs)) (λ i busy xs. marks 2 busy (owners s xs)) (portWalk s)
+      (λ i. stage-one s 0 2 2 (replyPort i) (PortEntry s i) (portKind s i) (port-means s i) (portWalk s i) (port-stage s i))
+      (portWalks s) (λ i seen busy. refl) (λ i seen busy n. refl) (files * places) 0)
 
   abbrev pub TimersOk : List ℕ → List ℕ → Type 0
   TimersOk busy xs = Holding s most timerList (TimerEntry s) xs × InOrder s 1 xs × Met 1 3 busy (owners s xs)

@@ -21,11 +21,11 @@ use Rattle.decision.proofs.lists.Stages.{Holding}
 use Rattle.decision.proofs.lists.Parts.{Parts, whole, at-free, at-read, at-write, at-port, at-timers}
 use Rattle.decision.proofs.lists.Owners.{each-below, row-below, each-none, each-all, row-one}
 
-pub record Stands (s bufs : List ℕ) (p : Parts) : Type 0 where
+pub record ListsStand (s : List ℕ) (p : Parts) : Type 0 where
   pub free : Holding s most freeList (λ e. freeEntry s e ≡ true) (p .free)
-  pub reads : Lists (λ f. Holding s most (readQueue f) (ReadEntry s bufs f)) 0 (p .reads)
-  pub writes : Lists (λ f. Holding s most (writeQueue f) (WriteEntry s bufs f)) 0 (p .writes)
-  pub ports : Lists (λ i. Holding s 2 (replyPort i) (PortEntry s bufs i)) 0 (p .ports)
+  pub reads : Lists (λ f. Holding s most (readQueue f) (ReadEntry s f)) 0 (p .reads)
+  pub writes : Lists (λ f. Holding s most (writeQueue f) (WriteEntry s f)) 0 (p .writes)
+  pub ports : Lists (λ i. Holding s 2 (replyPort i) (PortEntry s i)) 0 (p .ports)
   pub timers : Holding s most timerList (TimerEntry s) (p .timers)
   pub order : InOrder s 1 (p .timers)
 
@@ -43,15 +43,15 @@ module _ (s : List ℕ) (p : Parts) (i : ℕ) where
   abbrev pub timersOf : ℕ
   timersOf = count i (owners s (p .timers))
 
-module _ (s bufs : List ℕ) (p : Parts) (t : Stands s bufs p) where
-  pub read-at : (f : ℕ) → f < files → Holding s most (readQueue f) (ReadEntry s bufs f) (getD (whole p) (readQueue f) [])
-  read-at f h = rw (at-read p f h) (lists-at (λ j. Holding s most (readQueue j) (ReadEntry s bufs j)) files (p .reads) (p .readSize) (t .reads) f h)
+module _ (s : List ℕ) (p : Parts) (t : ListsStand s p) where
+  pub read-at : (f : ℕ) → f < files → Holding s most (readQueue f) (ReadEntry s f) (getD (whole p) (readQueue f) [])
+  read-at f h = rw (at-read p f h) (lists-at (λ j. Holding s most (readQueue j) (ReadEntry s j)) files (p .reads) (p .readSize) (t .reads) f h)
 
-  pub write-at : (f : ℕ) → f < files → Holding s most (writeQueue f) (WriteEntry s bufs f) (getD (whole p) (writeQueue f) [])
-  write-at f h = rw (at-write p f h) (lists-at (λ j. Holding s most (writeQueue j) (WriteEntry s bufs j)) files (p .writes) (p .writeSize) (t .writes) f h)
+  pub write-at : (f : ℕ) → f < files → Holding s most (writeQueue f) (WriteEntry s f) (getD (whole p) (writeQueue f) [])
+  write-at f h = rw (at-write p f h) (lists-at (λ j. Holding s most (writeQueue j) (WriteEntry s j)) files (p .writes) (p .writeSize) (t .writes) f h)
 
-  pub port-at : (i : ℕ) → i < files * places → Holding s 2 (replyPort i) (PortEntry s bufs i) (getD (whole p) (replyPort i) [])
-  port-at i h = rw (at-port p i h) (lists-at (λ j. Holding s 2 (replyPort j) (PortEntry s bufs j)) (files * places) (p .ports) (p .portSize) (t .ports) i h)
+  pub port-at : (i : ℕ) → i < files * places → Holding s 2 (replyPort i) (PortEntry s i) (getD (whole p) (replyPort i) [])
+  port-at i h = rw (at-port p i h) (lists-at (λ j. Holding s 2 (replyPort j) (PortEntry s j)) (files * places) (p .ports) (p .portSize) (t .ports) i h)
 
   -- list l, by the part that it is in
   pub chain-at : (l : ℕ) → l < listCount → Chain s l (getD (whole p) l [])
@@ -67,18 +67,18 @@ module _ (s bufs : List ℕ) (p : Parts) (t : Stands s bufs p) where
   -- every entry belongs to one of the 64 places
   pub reads-below : Below (files * places) (owners s (flat (p .reads)))
   reads-below =
-      row-below s (files * places) (λ f. Holding s most (readQueue f) (ReadEntry s bufs f)) 0 (p .reads)
-      (λ f xs h r. each-below s (files * places) (ReadEntry s bufs f) (λ e x. x .place) xs (r .2)) (t .reads)
+      row-below s (files * places) (λ f. Holding s most (readQueue f) (ReadEntry s f)) 0 (p .reads)
+      (λ f xs h r. each-below s (files * places) (ReadEntry s f) (λ e x. x .place) xs (r .2)) (t .reads)
 
   pub writes-below : Below (files * places) (owners s (flat (p .writes)))
   writes-below =
-      row-below s (files * places) (λ f. Holding s most (writeQueue f) (WriteEntry s bufs f)) 0 (p .writes)
-      (λ f xs h r. each-below s (files * places) (WriteEntry s bufs f) (λ e x. x .place) xs (r .2)) (t .writes)
+      row-below s (files * places) (λ f. Holding s most (writeQueue f) (WriteEntry s f)) 0 (p .writes)
+      (λ f xs h r. each-below s (files * places) (WriteEntry s f) (λ e x. x .place) xs (r .2)) (t .writes)
 
   pub ports-below : Below (files * places) (owners s (flat (p .ports)))
   ports-below =
-      row-below s (files * places) (λ i. Holding s 2 (replyPort i) (PortEntry s bufs i)) 0 (p .ports)
-      (λ i xs h r. each-below s (files * places) (PortEntry s bufs i) (λ e x. omega (arith, x .place, p .portSize)) xs (r .2)) (t .ports)
+      row-below s (files * places) (λ i. Holding s 2 (replyPort i) (PortEntry s i)) 0 (p .ports)
+      (λ i xs h r. each-below s (files * places) (PortEntry s i) (λ e x. omega (arith, x .place, p .portSize)) xs (r .2)) (t .ports)
 
   pub timers-below : Below (files * places) (owners s (p .timers))
   timers-below = each-below s (files * places) (TimerEntry s) (λ e x. x .place) (p .timers) (t .timers .2)
@@ -89,16 +89,16 @@ module _ (s bufs : List ℕ) (p : Parts) (t : Stands s bufs p) where
     unfolding named
     reads-home =
         ap (λ (l : List ℕ). count i (owners s l)) (at-read p (i / places) (omega arith))
-        ∙ sym (row-one s i (λ f. Holding s most (readQueue f) (ReadEntry s bufs f)) (i / places)
-        (λ f xs d r. each-none s i (ReadEntry s bufs f) (λ e x u. d (sym (x .file) ∙ ap (λ (j : ℕ). j / places) u)) xs (r .2))
+        ∙ sym (row-one s i (λ f. Holding s most (readQueue f) (ReadEntry s f)) (i / places)
+        (λ f xs d r. each-none s i (ReadEntry s f) (λ e x u. d (sym (x .file) ∙ ap (λ (j : ℕ). j / places) u)) xs (r .2))
         (i / places) 0 (p .reads) (omega arith) (t .reads))
 
     writes-home : named s i (getD (whole p) (writeQueue (i / places)) []) ≡ writesOf s p i
     unfolding named
     writes-home =
         ap (λ (l : List ℕ). count i (owners s l)) (at-write p (i / places) (omega arith))
-        ∙ sym (row-one s i (λ f. Holding s most (writeQueue f) (WriteEntry s bufs f)) (i / places)
-        (λ f xs d r. each-none s i (WriteEntry s bufs f) (λ e x u. d (sym (x .file) ∙ ap (λ (j : ℕ). j / places) u)) xs (r .2))
+        ∙ sym (row-one s i (λ f. Holding s most (writeQueue f) (WriteEntry s f)) (i / places)
+        (λ f xs d r. each-none s i (WriteEntry s f) (λ e x u. d (sym (x .file) ∙ ap (λ (j : ℕ). j / places) u)) xs (r .2))
         (i / places) 0 (p .writes) (omega arith) (t .writes))
 
     pub waiting-is : waitingAt s (whole p) i ≡ readsOf s p i + writesOf s p i
@@ -108,10 +108,10 @@ module _ (s bufs : List ℕ) (p : Parts) (t : Stands s bufs p) where
     pub completed-is : completedAt (whole p) i ≡ portsOf s p i
     unfolding completedAt
     completed-is =
-        sym (each-all s i (PortEntry s bufs i) (λ e x. x .place) (getD (whole p) (replyPort i) []) (port-at i h .2))
+        sym (each-all s i (PortEntry s i) (λ e x. x .place) (getD (whole p) (replyPort i) []) (port-at i h .2))
         ∙ (ap (λ (l : List ℕ). count i (owners s l)) (at-port p i h)
-        ∙ sym (row-one s i (λ j. Holding s 2 (replyPort j) (PortEntry s bufs j)) i
-        (λ j xs d r. each-none s i (PortEntry s bufs j) (λ e x u. d (sym (x .place) ∙ u)) xs (r .2))
+        ∙ sym (row-one s i (λ j. Holding s 2 (replyPort j) (PortEntry s j)) i
+        (λ j xs d r. each-none s i (PortEntry s j) (λ e x u. d (sym (x .place) ∙ u)) xs (r .2))
         i 0 (p .ports) (omega arith) (t .ports)))
 
   pub timers-is : (i : ℕ) → timersAt s (whole p) i ≡ timersOf s p i

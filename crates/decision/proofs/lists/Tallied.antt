@@ -40,14 +40,13 @@ module _ (t ys : List ℕ) (b : Below (length t) ys) (q : ℕ → ℕ) where
   pub marks-completed : ((i : ℕ) → getD t i 0 ≡ q i) → ((i : ℕ) → q i + count i ys ≤ 1) → Met 0 2 t ys
   marks-completed h o = untouched 0 2 t ys b (λ i c. (omega (arith, o i), omega (arith, h i, o i)))
 
-  -- the marks after the timers, where c counts the completed requests
-  pub timer-marks : (c : ℕ → ℕ) → ((i : ℕ) → (getD t i 0 ≡ q i + 2 * c i) × (q i + c i ≤ 1)) → Met 1 3 t ys
-      → (i : ℕ) → (getD (marks 3 t ys) i 0 ≡ q i + 2 * c i + 2 * count i ys) × (count i ys ≤ q i)
+  -- timers are met only where something waits; c counts the completed requests
+  pub timer-marks : (c : ℕ → ℕ) → ((i : ℕ) → (getD t i 0 ≡ q i + 2 * c i) × (q i + c i ≤ 1)) → Met 1 3 t ys → (i : ℕ) → count i ys ≤ q i
   timer-marks c h m i = go (touched 1 3 (λ e. omega arith) t ys b m i)
     where
-      go : Changed 1 3 (count i ys) (getD t i 0) (getD (marks 3 t ys) i 0) → (getD (marks 3 t ys) i 0 ≡ q i + 2 * c i + 2 * count i ys) × (count i ys ≤ q i)
-      go (inl a) = (omega (arith, a, h i), omega (arith, a, h i))
-      go (inr a) = (omega (arith, a, h i), omega (arith, a, h i))
+      go : Changed 1 3 (count i ys) (getD t i 0) (getD (marks 3 t ys) i 0) → count i ys ≤ q i
+      go (inl a) = omega (arith, a, h i)
+      go (inr a) = omega (arith, a, h i)
 
   pub marks-timer : (c : ℕ → ℕ) → ((i : ℕ) → (getD t i 0 ≡ q i + 2 * c i) × (q i + c i ≤ 1)) → ((i : ℕ) → count i ys ≤ q i) → Met 1 3 t ys
   marks-timer c h o = untouched 1 3 t ys b (λ i k. (omega (arith, h i, o i), omega (arith, h i, o i)))

@@ -1,7 +1,7 @@
 -- `event` meets its contract: an answer to each need, in the order of the code.
 use Rattle.words.specs.Word.{Bytes}
 use Rattle.desk.proofs.Refuses.{frame-refused, not-refused, purge-found, first-refused}
-use Rattle.desk.proofs.First.{first-there}
+use Rattle.promises.proofs.First.{first-there}
 use Rattle.promises.proofs.Events.{event-length, event-unsound, event-done}
 use Rattle.promises.proofs.Room.{with-room}
 use Rattle.decision.proofs.desk.Both.{sound-stands}

@@ -1,20 +1,20 @@
 -- `fresh` meets its contract: an answer to each need, in the order of the code.
 use Rattle.fresh.proofs.Lengths.{no-segment, no-blocks, no-buffers, makes}
-use Rattle.fresh.specs.Made.{unmade}
+use Rattle.fresh.specs.Made.{nothingMade}
 use borrow.Author.Needs.{needs}
 use Rattle.fresh.proofs.fresh.Statement.{statement}
 use Rattle.fresh.proofs.fresh.Tie as tie
 
 returns : tie.Need-returns
-unfolding unmade
+unfolding nothingMade
 returns c = no-segment _ (c .if1 .taken)
 
 returns-2 : tie.Need-returns-2
-unfolding unmade
+unfolding nothingMade
 returns-2 c = no-blocks _ (c .before .if1 .left) (c .if2 .taken)
 
 returns-3 : tie.Need-returns-3
-unfolding unmade
+unfolding nothingMade
 returns-3 c = no-buffers _ (c .before .before .if1 .left) (c .before .if2 .left) (c .if3 .taken)
 
 returns-4 : tie.Need-returns-4

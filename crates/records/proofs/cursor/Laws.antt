@@ -25,7 +25,7 @@ use Rattle.ring.proofs.Laws.{advanced-inside}
 use Rattle.ring.proofs.Held.{own, held-long, held-ranged, held-recs, held-advanced, held-rest}
 use Rattle.records.specs.declared.cursor.Cursor.{Cursor}
 use Rattle.records.specs.Reading.{Readable}
-use Rattle.records.specs.Cursor.{headPlace, heldRecs, Behind, Stands}
+use Rattle.records.specs.Cursor.{headPlace, heldRecs, Behind, AtRecord}
 use Rattle.records.proofs.reading.Stores.{readable-head}
 
 -- Skip.
@@ -110,7 +110,7 @@ module _ (w : ℕ) (r : Ring) (xs : List ℕ) (h : Held w r xs) where
 
   -- all records of its block being of the full size
   pub stands-full : (b : Span) → b ≡ spanOf g (r .block) → wordAt xs (b .at + 2) ≡ 2 + wordAt xs (b .at) * (w + 3) → (p : ℕ) → p ≡ b .at + 4 + r .spent * (6 + 2 * w)
-      → Stands w xs (record { ring = r; at = p })
+      → AtRecord w xs (record { ring = r; at = p })
   unfolding headAt
   stands-full b e t p f =
       let at : b .at ≡ r .block * blockBytes g = ap (λ (x : Span). x .at) e in
@@ -148,7 +148,7 @@ module _ (w : ℕ) (r : Ring) (xs : List ℕ) (h : Held w r xs) where
 
 -- Cursors.
 
-module _ (w : ℕ) (xs : List ℕ) (c : Cursor) (S : Stands w xs c) where
+module _ (w : ℕ) (xs : List ℕ) (c : Cursor) (S : AtRecord w xs c) where
   pub stands-long : length xs ≡ shareBytes
   stands-long = held-long w (c .ring) xs (S .held)
 
@@ -167,14 +167,14 @@ module _ (w : ℕ) (xs : List ℕ) (c : Cursor) (S : Stands w xs c) where
     stands-held z e = rw e (held-on w (c .ring) xs (S .held) l)
 
     -- the cursor one record further is at the start of the next block, or right after the record
-    pub stands-start : (z : Ring) → z ≡ advanced (c .ring) → (b : Span) → b ≡ spanOf (geo w z) (z .block) → z .spent ≡ 0 → Stands w xs (record { ring = z; at = b .at + 4 })
+    pub stands-start : (z : Ring) → z ≡ advanced (c .ring) → (b : Span) → b ≡ spanOf (geo w z) (z .block) → z .spent ≡ 0 → AtRecord w xs (record { ring = z; at = b .at + 4 })
     unfolding placeIn skip
     stands-start z e b f n = record {
       held = stands-held z e;
       at = ap (λ (t : Span). t .at + 4) f ∙ ap (λ (i : ℕ). placeIn (geo w z) xs (z .block) i) (sym n);
     }
 
-    pub stands-next : (z : Ring) → z ≡ advanced (c .ring) → (z .spent ≡ 0 → ⊥) → (p : ℕ) → p ≡ next xs (c .at) → Stands w xs (record { ring = z; at = p })
+    pub stands-next : (z : Ring) → z ≡ advanced (c .ring) → (z .spent ≡ 0 → ⊥) → (p : ℕ) → p ≡ next xs (c .at) → AtRecord w xs (record { ring = z; at = p })
     stands-next z e n p f = record {
       held = stands-held z e;
       at = f ∙ (ap (next xs) (S .at) ∙ (head-next w (c .ring) xs (S .held) l (λ y. n (ap (λ (t : Ring). t .spent) e ∙ y)) ∙ ap (λ (t : Ring). headPlace w t xs) (sym e)));

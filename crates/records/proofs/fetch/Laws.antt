@@ -8,7 +8,7 @@ use lib.ListN.{length}
 use Rattle.words.specs.Word.{wordAt}
 use Rattle.rules.specs.State.{Rec, Geo, Store}
 use Rattle.rules.specs.Store.{advance, discard}
-use Rattle.shares.specs.Holds.{Sized, Holds}
+use Rattle.shares.specs.Holds.{Sized, InShare}
 use Rattle.shares.specs.Back.{recAt}
 use Rattle.shares.specs.Places.{placeIn, headAt}
 use Rattle.shares.proofs.Taken.{share-advance}
@@ -80,7 +80,7 @@ module _ (w : ℕ) (q r : Ring) (xs : List ℕ) (k : Comes w q r xs) (h : Held w
     unfolding next
     comes-on = record {
       to = next;
-      holds = λ s S. on (Holds g) s S (λ d rest e. holds-advance g (t s S) d rest e (k .holds s S));
+      holds = λ s S. on (InShare g) s S (λ d rest e. holds-advance g (t s S) d rest e (k .holds s S));
       ring = λ s S. on (λ x. ringOf g x ≡ advanced r) s S (λ d rest e. ring-advance g (t s S) d rest (k .holds s S .block) e ∙ ap advanced (k .ring s S));
       share = λ s S. share-advance g (t s S) ∙ k .share s S;
       same = λ s S. on (λ x. discard g x ≡ discard g s) s S

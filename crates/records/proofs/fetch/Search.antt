@@ -20,7 +20,7 @@ use Rattle.ring.proofs.Held.{held-ranged}
 use Rattle.records.specs.declared.cursor.Cursor.{Cursor}
 use Rattle.records.specs.declared.reading.Found.{Found}
 use Rattle.records.specs.declared.reading.Found.the-variants.{At, Nothing}
-use Rattle.records.specs.Cursor.{headPlace, Stands}
+use Rattle.records.specs.Cursor.{headPlace, AtRecord}
 use Rattle.records.specs.Fetch.{Stores, ahead, Comes, oldestOf, shown}
 use Rattle.records.proofs.fetch.Laws.{comes-here, comes-stop, comes-end, comes-on}
 
@@ -107,10 +107,10 @@ module _ (w : ℕ) (r : Ring) (xs : List ℕ) (o : Ranged r) where
 
 pub record Search (w : ℕ) (q : Ring) (xs : List ℕ) (c : Cursor) : Type 0 where
   pub comes : Comes w q (c .ring) xs
-  pub stands : Stands w xs c
+  pub stands : AtRecord w xs c
   pub same : searchOf w q xs ≡ searchOf w (c .ring) xs
 
-pub search-start : (w : ℕ) (q : Ring) (xs : List ℕ) (c : Cursor) → c .ring ≡ q → Stands w xs c → Search w q xs c
+pub search-start : (w : ℕ) (q : Ring) (xs : List ℕ) (c : Cursor) → c .ring ≡ q → AtRecord w xs c → Search w q xs c
 search-start w q xs c e S = record { comes = rw e (comes-here w q xs); stands = S; same = rw e }
 
 pub shown-at : (c : Cursor) → 0 < c .ring .held → shown c ≡ At (c .at)
@@ -123,7 +123,7 @@ shown-none c l = pick-false (ltb 0 (c .ring .held)) _ _ (le-ltb 0 (c .ring .held
 
 -- what the search has found
 abbrev Ends : ℕ → Ring → List ℕ → Cursor → Type 0
-Ends w q xs c = ((s : Store) → Stores w q xs s → c .ring ≡ ringOf (geo w q) (ahead (geo w q) false s)) × (Stands w xs c × (searchOf w q xs ≡ shown c))
+Ends w q xs c = ((s : Store) → Stores w q xs s → c .ring ≡ ringOf (geo w q) (ahead (geo w q) false s)) × (AtRecord w xs c × (searchOf w q xs ≡ shown c))
 
 module _ (w : ℕ) (q : Ring) (xs : List ℕ) (h : Held w q xs) (c : Cursor) (k : Search w q xs c) where
   ranged : Ranged (c .ring)
@@ -146,7 +146,7 @@ module _ (w : ℕ) (q : Ring) (xs : List ℕ) (h : Held w q xs) (c : Cursor) (k 
     )
 
     -- the search goes past an open or close record
-    pub search-next : (wordAt xs (c .at + 2) ≡ 0 → ⊥) → (d : Cursor) → d .ring ≡ advanced (c .ring) → Stands w xs d → Search w q xs d
+    pub search-next : (wordAt xs (c .at + 2) ≡ 0 → ⊥) → (d : Cursor) → d .ring ≡ advanced (c .ring) → AtRecord w xs d → Search w q xs d
     search-next z d e S =
         let y : wordAt xs (headPlace w (c .ring) xs + 2) ≡ 0 → ⊥ = λ x. z (sym at-head ∙ x) in
         record { comes = rw e (comes-on w q (c .ring) xs (k .comes) h l y); stands = S; same = rw e (k .same ∙ search-on w (c .ring) xs ranged l y) }

@@ -13,7 +13,7 @@ use Rattle.rules.specs.State.{Rec, Geo, Store}
 use Rattle.rules.specs.Store.{used, recordWords, blockBytes, advance, advanceBy, dropped, discard}
 use Rattle.rules.specs.Look as rules
 use Rattle.rules.proofs.Split.{by-cases, pick-true, pick-false}
-use Rattle.shares.specs.Holds.{Sized, Holds}
+use Rattle.shares.specs.Holds.{Sized, InShare}
 use Rattle.shares.specs.Back.{recAt, usedRecs}
 use Rattle.shares.specs.Places.{placeOf, headAt}
 use Rattle.shares.proofs.Ring.{block-inside, ring-inside}
@@ -28,7 +28,7 @@ readable : (xs : List ℕ) (p e : ℕ) (r : Rec) → Whole xs p e r → e ≤ le
 unfolding Whole recordWords
 readable xs p e r h l = let f = fields xs p r (h .0) in record { low = omega (arith, f .size); inside = omega (arith, f .size, h .1) }
 
-module _ (g : Geo) (s : Store) (o : Sized g) (h : Holds g s) where
+module _ (g : Geo) (s : Store) (o : Sized g) (h : InShare g s) where
   -- each record held can be read
   pub legible : (i : ℕ) → i < length (s .recs) → Readable (s .share) (placeOf g (s .share) (s .block) (s .spent + i))
   unfolding used

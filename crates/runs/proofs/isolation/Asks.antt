@@ -10,7 +10,7 @@ use Rattle.rules.proofs.Split.{by-cases, pick-true, pick-false}
 use Rattle.laws.specs.Runs.{Own, mine, only, names}
 use Rattle.promises.specs.Promise.{HostCall}
 use Rattle.runs.specs.Condition2.{stretch}
-use Rattle.runs.specs.Condition3.{Sort, made, sortOf, namesFile, isTime, passes, ours, unmade}
+use Rattle.runs.specs.Condition3.{Sort, made, sortOf, namesFile, isTime, passes, ours, neverFresh}
 use Rattle.runs.specs.Condition3 as sort
 use Rattle.runs.proofs.isolation.Cases.{callIn, right, Case, fits, misfits, case-of, stretch-unfit, stretch-asks}
 
@@ -63,7 +63,7 @@ asks-none f s e =
     (λ r. asks-wrong f s r)
 
 -- what a run asks of f is asked by our calls
-pub only-ours : (f : ℕ) (xs : List HostCall) → unmade xs ≡ true → only f (stretch xs) ≡ asksAll f (ours f xs)
+pub only-ours : (f : ℕ) (xs : List HostCall) → neverFresh xs ≡ true → only f (stretch xs) ≡ asksAll f (ours f xs)
 unfolding only stretch ours asksAll
 only-ours f [] u = refl
 only-ours f (x ∷ xs) u = let (k, v) = case-of x xs u in step k ∙ ap (λ (l : List Own). asksOf f (sortOf x) ++ l) (only-ours f xs v) ∙ own (namesFile f (sortOf x) || passes (sortOf x)) refl

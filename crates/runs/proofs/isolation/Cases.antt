@@ -12,7 +12,7 @@ use Rattle.rules.proofs.Split.{pick-true, pick-false}
 use Rattle.promises.specs.Promise.{HostCall, fresh, event, look, save, load, Given}
 use Rattle.runs.specs.Run.{Meant, anew, unfit, asks, lending, meant, gives}
 use Rattle.runs.specs.Condition2.{stretch, heard, since}
-use Rattle.runs.specs.Condition3.{Sort, made, sortOf, unmade}
+use Rattle.runs.specs.Condition3.{Sort, made, sortOf, neverFresh}
 use Rattle.runs.specs.Condition3 as sort
 
 -- the call of the rules that a call asks for if its lengths are right
@@ -38,21 +38,21 @@ pub data Case (x : HostCall) : Type 0 where
 
 -- what is left of a run after a call
 abbrev Rest : Meant → List HostCall → Bool
-Rest w xs = elim w as (λ (v : Meant). Bool) [ anew ↦ false | unfit ↦ unmade xs | asks c ↦ unmade xs ]
+Rest w xs = elim w as (λ (v : Meant). Bool) [ anew ↦ false | unfit ↦ neverFresh xs | asks c ↦ neverFresh xs ]
 
-pub case-of : (x : HostCall) (xs : List HostCall) → unmade (x ∷ xs) ≡ true → Case x × (unmade xs ≡ true)
-unfolding unmade meant lending right sortOf callIn
+pub case-of : (x : HostCall) (xs : List HostCall) → neverFresh (x ∷ xs) ≡ true → Case x × (neverFresh xs ≡ true)
+unfolding neverFresh meant lending right sortOf callIn
 case-of fresh xs u = absurd (false≢true u)
 case-of (event memory frame) xs u = go (eqb (length memory) answerRoom) refl u
   where
     go : (t : Bool) → eqb (length memory) answerRoom ≡ t → Rest (elim t as (λ (b : Bool). Meant) [ true ↦ asks (rules.event frame) | false ↦ unfit ]) xs ≡ true
-        → Case (event memory frame) × (unmade xs ≡ true)
+        → Case (event memory frame) × (neverFresh xs ≡ true)
     go true e k = (fits e (pick-true (eqb (length memory) answerRoom) _ _ e), k)
     go false e k = (misfits e (pick-false (eqb (length memory) answerRoom) _ _ e), k)
 case-of (look f p memory) xs u = go (eqb (length memory) recordRoom) refl u
   where
     go : (t : Bool) → eqb (length memory) recordRoom ≡ t → Rest (elim t as (λ (b : Bool). Meant) [ true ↦ asks (rules.look f p) | false ↦ unfit ]) xs ≡ true
-        → Case (look f p memory) × (unmade xs ≡ true)
+        → Case (look f p memory) × (neverFresh xs ≡ true)
     go true e k = (fits e (pick-true (eqb (length memory) recordRoom) _ _ e), k)
     go false e k = (misfits e (pick-false (eqb (length memory) recordRoom) _ _ e), k)
 case-of (save f output) xs u = (fits refl refl, u)
@@ -98,7 +98,7 @@ module _ (x : HostCall) (xs : List HostCall) where
     since-asks cs = ap (λ (w : Meant). elim w as (λ (v : Meant). List Call) [ anew ↦ since [] xs | unfit ↦ since cs xs | asks c ↦ since (cs ++ (c ∷ [])) xs ]) e
 
 -- where the desk is not made fresh again, all calls are made since it was
-pub since-all : (xs : List HostCall) (cs : List Call) → unmade xs ≡ true → since cs xs ≡ cs ++ stretch xs
+pub since-all : (xs : List HostCall) (cs : List Call) → neverFresh xs ≡ true → since cs xs ≡ cs ++ stretch xs
 unfolding since stretch
 since-all [] cs u = sym (append-nil cs)
 since-all (x ∷ xs) cs u = let (k, v) = case-of x xs u in go k (since-all xs cs v) (λ c. since-all xs (cs ++ (c ∷ [])) v)

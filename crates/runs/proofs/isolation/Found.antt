@@ -25,7 +25,7 @@ use Rattle.promises.proofs.Room.{event-fits}
 use Rattle.promises.proofs.Fits.{FineDesk, look-fits, save-fits}
 use Rattle.runs.specs.Run.{unfit, asks, meant, gives}
 use Rattle.runs.specs.Condition2.{stretch, heard}
-use Rattle.runs.specs.Condition3.{Sort, made, sortOf, namesFile, passes, ours, unmade, Found, found, finds}
+use Rattle.runs.specs.Condition3.{Sort, made, sortOf, namesFile, passes, ours, neverFresh, Found, found, finds}
 use Rattle.runs.specs.Condition3 as sort
 use Rattle.runs.proofs.isolation.Cases.{callIn, right, Case, fits, misfits, case-of, stretch-unfit, heard-unfit, stretch-asks, heard-asks}
 use Rattle.runs.proofs.isolation.Asks.{names-is}
@@ -147,7 +147,7 @@ SaysNext f x xs d cs =
     ≡ foundAll f (elim (namesFile f (sortOf x) || passes (sortOf x)) as (λ (b : Bool). List Sort) [ true ↦ sortOf x ∷ ours f xs | false ↦ ours f xs ]) (theirs f cs (replies d cs))
 
 -- all answers to calls naming f are found in the replies to these calls
-pub finds-ours : (f : ℕ) (xs : List HostCall) (d : Desk) → EightFiles d → FineDesk d → unmade xs ≡ true → Says f xs d
+pub finds-ours : (f : ℕ) (xs : List HostCall) (d : Desk) → EightFiles d → FineDesk d → neverFresh xs ≡ true → Says f xs d
 unfolding finds heard stretch theirs ours foundAll
 finds-ours f [] d n h u = refl
 finds-ours f (x ∷ xs) d n h u =

@@ -19,7 +19,7 @@ use Rattle.ring.proofs.Laws.{advanced-held}
 use Rattle.ring.proofs.Held.{held-recs}
 use Rattle.records.specs.declared.cursor.Cursor.{Cursor}
 use Rattle.records.specs.Reading.{Readable}
-use Rattle.records.specs.Cursor.{heldRecs, Stands}
+use Rattle.records.specs.Cursor.{heldRecs, AtRecord}
 use Rattle.records.proofs.cursor.Laws.{recs-none, stands-long, stands-readable, stands-recs}
 use Rattle.saving.specs.Sheets.{sheetOf}
 
@@ -42,14 +42,14 @@ lines w xs r = recLines (heldRecs w r xs)
 
 -- with the cursor so far `total` bytes of the ring's sheet are counted
 pub record Measured (w : ℕ) (xs : List ℕ) (r : Ring) (c : Cursor) (total : ℕ) : Type 0 where
-  pub stands : Stands w xs c
+  pub stands : AtRecord w xs c
   pub few : c .ring .held ≤ r .held
   pub low : total ≤ headLine + (2 * shareBytes + 1) * (r .held - c .ring .held)
   pub same : total + length (lines w xs (c .ring)) ≡ length (sheetOf w r xs)
 
 -- the midst of writing: the output, which was out₀, has the lines up to the cursor and takes the rest from `used` onward
 pub record Written (w : ℕ) (xs : List ℕ) (r : Ring) (from : ℕ) (out₀ : List ℕ) (c : Cursor) (used : ℕ) (out : List ℕ) : Type 0 where
-  pub stands : Stands w xs c
+  pub stands : AtRecord w xs c
   pub room : used + length (lines w xs (c .ring)) ≤ length out
   pub long : length out ≡ length out₀
   pub same : sets out used (lines w xs (c .ring)) ≡ sets out₀ from (lines w xs r)
@@ -91,7 +91,7 @@ lines-none : (w : ℕ) (xs : List ℕ) (r : Ring) → r .held ≤ 0 → lines w 
 unfolding recLines
 lines-none w xs r l = ap recLines (recs-none w r xs l)
 
-module _ (w : ℕ) (xs : List ℕ) (c : Cursor) (S : Stands w xs c) where
+module _ (w : ℕ) (xs : List ℕ) (c : Cursor) (S : AtRecord w xs c) where
   pub measured-start : Measured w xs (c .ring) c headLine
   measured-start = record { stands = S; few = omega arith; low = omega arith; same = sym (sheet-length w (c .ring) xs (S .held)) }
 
@@ -107,7 +107,7 @@ written-end w xs r from out₀ c used out k l = sym (ap (sets out used) (lines-n
 
 -- A turn: the line of the record under the cursor, its frame f as it was lent.
 
-module _ (w : ℕ) (xs : List ℕ) (c : Cursor) (S : Stands w xs c) (l : 0 < c .ring .held) (f : List ℕ) (e : f ≡ recFrame (recAt xs (c .at))) where
+module _ (w : ℕ) (xs : List ℕ) (c : Cursor) (S : AtRecord w xs c) (l : 0 < c .ring .held) (f : List ℕ) (e : f ≡ recFrame (recAt xs (c .at))) where
   lines-on : lines w xs (c .ring) ≡ lineOf f ++ lines w xs (advanced (c .ring))
   unfolding recLines
   lines-on = ap recLines (stands-recs w xs c S l) ∙ ap (λ (x : List ℕ). lineOf x ++ lines w xs (advanced (c .ring))) (sym e)
@@ -121,7 +121,7 @@ module _ (w : ℕ) (xs : List ℕ) (c : Cursor) (S : Stands w xs c) (l : 0 < c .
   pub turn-room : (r : Ring) (from : ℕ) (out₀ : List ℕ) (used : ℕ) (out : List ℕ) → Written w xs r from out₀ c used out → used + (2 * length f + 1) ≤ length out
   turn-room r from out₀ used out k = omega (arith, k .room, turn-length)
 
-  module _ (d : Cursor) (a : d .ring ≡ advanced (c .ring)) (T : Stands w xs d) where
+  module _ (d : Cursor) (a : d .ring ≡ advanced (c .ring)) (T : AtRecord w xs d) where
     rest : lines w xs (d .ring) ≡ lines w xs (advanced (c .ring))
     rest = ap (lines w xs) a
 

@@ -11,7 +11,7 @@ use Rattle.words.specs.Word.{quiet}
 use Rattle.segment.specs.Layout.{dataWords}
 use Rattle.sound.specs.Rows.{zeroWords}
 use Rattle.sound.proofs.Bytes.{zero-bytes}
-use Rattle.sound.proofs.quick.Joined.{quiet-join}
+use Rattle.words.proofs.Joins.{quiet-join}
 
 -- where the eight before are zero, the last two are zero exactly where the last eight are
 overlap : (s : List ℕ) (p : ℕ) → quiet s (p + 8) 8 ≡ true → quiet s (p + 10) 8 ≡ quiet s (p + 16) 2

@@ -4,46 +4,25 @@ use mathlib.Core.Path.{_≡_, refl, sym, ap, _∙_}
 use mathlib.Core.Bool.{Bool, true, false, _&&_}
 use mathlib.Core.List.{List}
 use native.Mathlib.Omega.{arith}
-use borrow.Author.Tests.{eq-eqb, ne-eqb}
+use borrow.Author.Tests.{ne-eqb}
 use lib.Dec.{eqb}
 use lib.ListN.{getD, set}
 use lib.Seq.{getD-set-other}
 use lib.Bits.{bitOr, bitXor}
 use Rattle.rules.specs.Limits.{entries}
 use Rattle.words.specs.Word.{quiet}
-use Rattle.words.proofs.Zeros.{quiet-end}
+use Rattle.words.specs.Led.{Led, Lone}
+use Rattle.words.proofs.Led.{none}
 use Rattle.words.proofs.Ors.{or-left, or-right, xor-same}
 use Rattle.segment.specs.Layout.{nil, dataWords, linkAt, dataAt}
 use Rattle.segment.specs.Table.{nth}
 use Rattle.sound.specs.Walks.{walked, freeEntry, freeWalk}
-use Rattle.sound.specs.quick.Onward.{Led, Linked, freeFrom}
+use Rattle.sound.specs.quick.Onward.{Linked, freeFrom}
 use Rattle.sound.proofs.Steps.{free-end, free-bad, free-step, both-held}
 use Rattle.sound.proofs.Bytes.{zero-bytes}
-use Rattle.sound.proofs.quick.Joined.{both-quiet}
+use Rattle.words.proofs.Joins.{both-quiet}
 
--- a number that is 0 where its bytes are
-
-none : (xs : List ℕ) (p n b : ℕ) → eqb b 0 ≡ quiet xs p n → b ≡ 0 → quiet xs p n ≡ true
-none xs p n b e z = sym e ∙ eq-eqb b 0 z
-
-pub led-two : (xs : List ℕ) (p a b n : ℕ) → a ≡ getD xs p 0 → b ≡ getD xs (p + 1) 0 → a < 256 → a + b * 256 ≡ n * 256 → Led xs p n 0
-unfolding Led
-led-two xs p a b n ea eb l e = (omega arith, omega arith, quiet-end xs (p + 2) 0 (omega arith))
-
-pub led-four : (xs : List ℕ) (p a b n : ℕ) → ((m : ℕ) → a ≡ m * 256 → Led xs p m 0) → eqb b 0 ≡ quiet xs (p + 2) 2 → a < 65536 → n < 256 → a + b * 65536 ≡ n * 256 → Led xs p n 2
-unfolding Led
-led-four xs p a b n f eb l k e =
-    let z : b ≡ 0 = omega arith in
-    let v = f n (omega arith) in
-    (v .0, v .1, none xs (p + 2) 2 b eb z)
-
-pub led-eight : (xs : List ℕ) (p a b n : ℕ) → ((m : ℕ) → m < 256 → a ≡ m * 256 → Led xs p m 2) → eqb b 0 ≡ quiet xs (p + 4) 4 → a < 4294967296 → n < 256
-    → a + b * 4294967296 ≡ n * 256 → Led xs p n 6
-unfolding Led
-led-eight xs p a b n f eb l k e =
-    let z : b ≡ 0 = omega arith in
-    let v = f n k (omega arith) in
-    (v .0, v .1, both-quiet xs 2 4 6 (p + 2) (p + 4) refl (omega arith) (v .2) (none xs (p + 4) 4 b eb z))
+-- what an entry's bytes are where the numbers that they make are 0, or a link's
 
 pub led-twenty : (xs : List ℕ) (p a b d n : ℕ) → ((m : ℕ) → m < 256 → a ≡ m * 256 → Led xs p m 6) → eqb b 0 ≡ quiet xs (p + 8) 8 → eqb d 0 ≡ quiet xs (p + 16) 4 → n < 256
     → bitOr (bitOr (bitXor a (n * 256)) b) d ≡ 0 → Linked xs p n
@@ -55,12 +34,37 @@ led-twenty xs p a b d n f eb ed k e =
     let z : quiet xs (p + 16) 4 ≡ true = none xs (p + 16) 4 d ed (or-right (bitOr (bitXor a (n * 256)) b) d e) in
     (v .0, v .1, both-quiet xs 6 12 18 (p + 2) (p + 8) refl (omega arith) (v .2) (both-quiet xs 8 4 12 (p + 8) (p + 16) refl (omega arith) y z))
 
--- four numbers that are 0
-pub or-four : (a b c d : ℕ) → bitOr (bitOr (bitOr a b) c) d ≡ 0 → (a ≡ 0) × (b ≡ 0) × (c ≡ 0) × (d ≡ 0)
-or-four a b c d e =
-    let x : bitOr (bitOr a b) c ≡ 0 = or-left (bitOr (bitOr a b) c) d e in
-    let y : bitOr a b ≡ 0 = or-left (bitOr a b) c x in
-    (or-left a b y, or-right a b y, or-right (bitOr a b) c x, or-right (bitOr (bitOr a b) c) d e)
+pub led-forty : (xs : List ℕ) (p a b d e f n : ℕ) → ((m : ℕ) → m < 256 → a ≡ m * 256 → Led xs p m 6) → eqb b 0 ≡ quiet xs (p + 8) 8
+    → ((m : ℕ) → m < 256 → d ≡ m * 1099511627776 → Lone xs (p + 16) 4 m 2) → eqb e 0 ≡ quiet xs (p + 24) 8 → eqb f 0 ≡ quiet xs (p + 32) 8 → n + 1 < 256
+    → bitOr (bitOr (bitOr (bitOr (bitXor a (n * 256)) b) (bitXor d ((n + 1) * 1099511627776))) e) f ≡ 0 → Linked xs p n × Linked xs (p + 20) (n + 1)
+unfolding Led Lone
+led-forty xs p a b d e f n ka eb kd ee ef k h =
+    let x : ℕ = bitXor a (n * 256) in
+    let y : ℕ = bitXor d ((n + 1) * 1099511627776) in
+    let h₄ : bitOr (bitOr (bitOr x b) y) e ≡ 0 = or-left (bitOr (bitOr (bitOr x b) y) e) f h in
+    let h₃ : bitOr (bitOr x b) y ≡ 0 = or-left (bitOr (bitOr x b) y) e h₄ in
+    let h₂ : bitOr x b ≡ 0 = or-left (bitOr x b) y h₃ in
+    let v = ka n (omega arith) (xor-same a (n * 256) (or-left x b h₂)) in
+    let w = kd (n + 1) k (xor-same d ((n + 1) * 1099511627776) (or-right (bitOr x b) y h₃)) in
+    let q : quiet xs (p + 8) 8 ≡ true = none xs (p + 8) 8 b eb (or-right x b h₂) in
+    let r : quiet xs (p + 24) 8 ≡ true = none xs (p + 24) 8 e ee (or-right (bitOr (bitOr x b) y) e h₄) in
+    let s : quiet xs (p + 32) 8 ≡ true = none xs (p + 32) 8 f ef (or-right (bitOr (bitOr (bitOr x b) y) e) f h) in
+    let at : p + 16 + 4 ≡ p + 20 = omega arith in
+    let w₀ : getD xs (p + 20) 0 ≡ 0 = rw at at (w .1 .0) in
+    let w₁ : getD xs (p + 20 + 1) 0 ≡ n + 1 = rw at at (w .1 .1) in
+    let w₂ : quiet xs (p + 20 + 2) 2 ≡ true = rw at at (w .1 .2) in (
+      (v .0, v .1, both-quiet xs 6 12 18 (p + 2) (p + 8) refl (omega arith) (v .2) (both-quiet xs 8 4 12 (p + 8) (p + 16) refl (omega arith) q (w .0))),
+      (w₀, w₁, both-quiet xs 2 16 18 (p + 20 + 2) (p + 24) refl (omega arith) w₂ (both-quiet xs 8 8 16 (p + 24) (p + 32) refl (omega arith) r s)),
+    )
+
+-- two entries and two more
+pub four-of-two : (xs : List ℕ) (p e : ℕ) → Linked xs p (e + 1) × Linked xs (p + 20) (e + 1 + 1) → Linked xs (p + 40) (e + 3) × Linked xs (p + 40 + 20) (e + 3 + 1)
+    → Linked xs p (e + 1) × Linked xs (p + 20) (e + 2) × Linked xs (p + 40) (e + 3) × Linked xs (p + 60) (e + 4)
+four-of-two xs p e a b =
+    let x : e + 1 + 1 ≡ e + 2 = omega arith in
+    let y : e + 3 + 1 ≡ e + 4 = omega arith in
+    let z : p + 40 + 20 ≡ p + 60 = omega arith in
+    (a .0, rw x at (a .1), b .0, rw (y, z) at (b .1))
 
 -- the walk
 
@@ -100,20 +104,23 @@ high-byte s p v e d = le (getD s (2 * p) 0) refl
     le zero z = absurd (d z)
     le (suc x) z = omega arith
 
+pub high-place : (s : List ℕ) (p : ℕ) → (getD s (2 * p) 0 ≡ 0 → ⊥) → entries ≤ nth s p
+high-place s p d = high-byte s p (nth s p) refl d
+
 pub end-low : (s seen busy : List ℕ) (p n v : ℕ) → v ≡ getD s (2 * p + 1) 0 → getD s (2 * p) 0 ≡ 0 → 0 < n → entries ≤ v → v < 256 → freeWalk s p seen busy n ≡ walked false seen busy
 end-low s seen busy p n v e z a h l =
     free-end s p seen busy v (low-byte s p v e z) n a h ∙ ap (λ (b : Bool). walked b seen busy) (ne-eqb v nil (λ q. absurd (omega arith)))
 
 -- one entry that is linked to the next
 
-linked : (s : List ℕ) (e at n : ℕ) → at ≡ 2 * linkAt e → Linked s at n → nth s (linkAt e) ≡ n
+pub linked : (s : List ℕ) (e at n : ℕ) → at ≡ 2 * linkAt e → Linked s at n → nth s (linkAt e) ≡ n
 unfolding Led nth
 linked s e at n a l =
     let h : getD s (2 * linkAt e) 0 ≡ 0 = rw a at (l .0) in
     let k : getD s (2 * linkAt e + 1) 0 ≡ n = rw a at (l .1) in
     omega (arith, h, k)
 
-clean : (s : List ℕ) (e at n : ℕ) → at ≡ 2 * linkAt e → Linked s at n → freeEntry s e ≡ true
+pub clean : (s : List ℕ) (e at n : ℕ) → at ≡ 2 * linkAt e → Linked s at n → freeEntry s e ≡ true
 unfolding Led freeEntry
 clean s e at n a l =
     let p : at + 2 ≡ 2 * dataAt e = omega arith in

@@ -1,18 +1,25 @@
--- A place's fields, eight bytes at a time, where it is not open or its settings are all 0, and nothing is in the words to spare.
-use Prim.Native.Nat.{ℕ, _+_, _*_, _-_, _<_}
+-- A place's fields, eight bytes at a time, where it is not open or its settings are the usual ones, and nothing is in the words to spare.
+use Prim.Native.Nat.{ℕ, _+_, _*_, _-_, _≤_, _<_}
 use mathlib.Core.Path.{_≡_, refl, sym, ap, _∙_}
 use mathlib.Core.Bool.{Bool, true, false, _&&_, _||_, and-true, true≢false}
 use mathlib.Core.List.{List}
 use native.Mathlib.Omega.{arith}
-use borrow.Author.Tests.{eq-eqb, ne-eqb, eqb-true, eqb-false}
+use borrow.Author.Tests.{eq-eqb, ne-eqb, eqb-true, eqb-false, le-leb}
 use lib.Dec.{leb, eqb}
+use lib.ListN.{getD}
+use Rattle.rules.proofs.Split.{by-cases}
 use Rattle.words.specs.Word.{quiet}
+use Rattle.words.specs.Led.{Led, Lone}
 use Rattle.segment.specs.Layout.{placeFields, placeSpare, placeWidth, placeRowAt}
 use Rattle.segment.specs.Table.{nth}
 use Rattle.sound.specs.Rows.{placeWord, sideAt, zeroWords, goodPlace, placeOk}
 use Rattle.sound.proofs.Steps.{zero-bad, zero-step}
 use Rattle.sound.proofs.Bytes.{zero-bytes}
-use Rattle.sound.proofs.quick.Joined.{quiet-join}
+use Rattle.words.proofs.Joins.{quiet-join}
+
+-- a reader's ID is 0 and a writer's at least 1
+abbrev pub goodSide : ℕ → ℕ → Bool
+goodSide side id = eqb side 1 && eqb id 0 || eqb side 2 && leb 1 id
 
 and-held : (t : Bool) → t ≡ (t && true && true && true && true)
 and-held true = refl
@@ -59,51 +66,62 @@ closed-row s i a b h ea ha eb =
     let g : nth s (placeRowAt i + 0) ≡ 0 = rw n f in
     sym (rw (eq-eqb (nth s (placeRowAt i + 0)) 0 g, placeOk) z)
 
--- where the settings are 0
-module _ (s : List ℕ) (i a b : ℕ) (none : zeroWords s (placeRowAt i + placeFields) placeSpare ≡ true) (eb : eqb b 0 ≡ quiet s (2 * placeRowAt i + 8) 8) (hb : b ≡ 0) (ea : eqb a 0 ≡ quiet s (2 * placeRowAt i) 8) where
-  row-zero : zeroWords s (placeRowAt i) placeWidth ≡ eqb a 0
-  row-zero =
-      let q : quiet s (2 * placeRowAt i + 8) 8 ≡ true = sym eb ∙ eq-eqb b 0 hb in
-      zero-row s i none ∙ rw q (and-true (quiet s (2 * placeRowAt i) 8) ∙ sym ea)
+-- the four settings starting at word k are each 0 or 1: where they are zero, and where the last is 1 and the three before it are zero
 
-  settings : (nth s (placeRowAt i + 4) ≡ 0) × (nth s (placeRowAt i + 5) ≡ 0) × (nth s (placeRowAt i + 6) ≡ 0) × (nth s (placeRowAt i + 7) ≡ 0)
-  settings =
-      let p : 2 * placeRowAt i + 8 ≡ 2 * (placeRowAt i + 4) = omega arith in
-      let q : quiet s (2 * placeRowAt i + 8) 8 ≡ true = sym eb ∙ eq-eqb b 0 hb in
-      let q′ : quiet s (2 * (placeRowAt i + 4)) 8 ≡ true = rw p at q in
-      let z = four-zero s (placeRowAt i + 4) (sym (zero-bytes s 4 (placeRowAt i + 4)) ∙ q′) in
+abbrev pub Switches : List ℕ → ℕ → Type 0
+Switches s k = (nth s k ≤ 1) × (nth s (k + 1) ≤ 1) × (nth s (k + 2) ≤ 1) × (nth s (k + 3) ≤ 1)
+
+pub switches-off : (s : List ℕ) (k p b : ℕ) → p ≡ 2 * k → eqb b 0 ≡ quiet s p 8 → b ≡ 0 → Switches s k
+switches-off s k p b a e h =
+    let e′ : eqb b 0 ≡ quiet s (2 * k) 8 = rw a at e in
+    let z = four-zero s k (sym (zero-bytes s 4 k) ∙ sym e′ ∙ eq-eqb b 0 h) in
+    (omega arith, omega arith, omega arith, omega arith)
+
+pub switches-first : (s : List ℕ) (k p : ℕ) → p ≡ 2 * k → Lone s p 6 1 0 → Switches s k
+unfolding Lone Led nth
+switches-first s k p at l =
+    let h : Lone s (2 * k) 6 1 0 = rw at at l in
+    let a = first-zero s k 3 (omega arith) (sym (zero-bytes s 3 k) ∙ h .0) in
+    let b = first-zero s (k + 1) 2 (omega arith) (a .1) in
+    let c = first-zero s (k + 1 + 1) 1 (omega arith) (b .1) in
+    let o : k + 1 + 1 ≡ k + 2 = omega arith in
+    let q : 2 * k + 6 ≡ 2 * (k + 3) = omega arith in
+    let third : nth s (k + 2) ≡ 0 = rw o at (c .0) in
+    let high : getD s (2 * (k + 3)) 0 ≡ 0 = rw q at (h .1 .0) in
+    let low : getD s (2 * (k + 3) + 1) 0 ≡ 1 = rw q at (h .1 .1) in
+    (omega (arith, a .0), omega (arith, b .0), omega (arith, third), omega (arith, high, low))
+
+-- where something stands before the settings, and each of them is 0 or 1
+module _ (s : List ℕ) (i a : ℕ) (none : zeroWords s (placeRowAt i + placeFields) placeSpare ≡ true) (ea : eqb a 0 ≡ quiet s (2 * placeRowAt i) 8) (ha : a ≡ 0 → ⊥) (fair : Switches s (placeRowAt i + 4)) where
+  row-filled : zeroWords s (placeRowAt i) placeWidth ≡ false
+  row-filled = zero-row s i none ∙ rw (sym ea ∙ ne-eqb a 0 ha)
+
+  good : goodSide (placeWord s i 0) (placeWord s i 1) ≡ goodPlace s i
+  unfolding goodPlace sideAt placeWord
+  good =
       let x : placeRowAt i + 4 + 1 ≡ placeRowAt i + 5 = omega arith in
       let y : placeRowAt i + 4 + 2 ≡ placeRowAt i + 6 = omega arith in
       let w : placeRowAt i + 4 + 3 ≡ placeRowAt i + 7 = omega arith in
-      (z .0, rw x at (z .1), rw y at (z .2), rw w at (z .3))
+      rw (
+        le-leb (nth s (placeRowAt i + 4)) 1 (fair .0),
+        le-leb (nth s (placeRowAt i + 5)) 1 (rw x at (fair .1)),
+        le-leb (nth s (placeRowAt i + 6)) 1 (rw y at (fair .2)),
+        le-leb (nth s (placeRowAt i + 7)) 1 (rw w at (fair .3)),
+      )
+      (and-held (goodSide (nth s (placeRowAt i + 0)) (nth s (placeRowAt i + 1))))
 
-  module _ (side id : ℕ) (es : side ≡ placeWord s i 0) (ei : id ≡ placeWord s i 1) where
-    good : (eqb side 1 && eqb id 0 || eqb side 2 && leb 1 id) ≡ goodPlace s i
-    unfolding goodPlace sideAt placeWord
-    good = rw (es, ei, settings .0, settings .1, settings .2, settings .3)
-        (and-held (eqb (nth s (placeRowAt i + 0)) 1 && eqb (nth s (placeRowAt i + 1)) 0 || eqb (nth s (placeRowAt i + 0)) 2 && leb 1 (nth s (placeRowAt i + 1))))
+  -- side and ID say the rest
+  row-open : goodSide (placeWord s i 0) (placeWord s i 1) ≡ placeOk s i
+  unfolding placeOk sideAt
+  row-open =
+      by-cases (eqb (placeWord s i 0) 0)
+      (λ h.
+      let z : placeWord s i 0 ≡ 0 = eqb-true (placeWord s i 0) 0 h in
+      let n : goodSide (placeWord s i 0) (placeWord s i 1) ≡ false = rw z in
+      n ∙ sym (rw (h, placeOk) row-filled))
+      (λ h.
+      let e : placeOk s i ≡ (goodPlace s i && zeroWords s (placeRowAt i + placeFields) placeSpare) = rw (h, placeOk) in
+      good ∙ sym (e ∙ ap (λ (t : Bool). goodPlace s i && t) none ∙ and-true (goodPlace s i)))
 
-    at-side : (t : Bool) → eqb side 0 ≡ t → eqb (sideAt s i) 0 ≡ t
-    unfolding sideAt
-    at-side t h = ap (λ (x : ℕ). eqb x 0) (sym es) ∙ h
-
-    closed : eqb (sideAt s i) 0 ≡ true → placeOk s i ≡ zeroWords s (placeRowAt i) placeWidth
-    unfolding placeOk
-    closed h = rw (h, placeOk)
-
-    opened : eqb (sideAt s i) 0 ≡ false → placeOk s i ≡ goodPlace s i
-    unfolding placeOk
-    opened h =
-        let e : placeOk s i ≡ (goodPlace s i && zeroWords s (placeRowAt i + placeFields) placeSpare) = rw (h, placeOk) in
-        e ∙ ap (λ (t : Bool). goodPlace s i && t) none ∙ and-true (goodPlace s i)
-
-    -- something stands before them: side and ID say the rest
-    pub open-row : (a ≡ 0 → ⊥) → (eqb side 1 && eqb id 0 || eqb side 2 && leb 1 id) ≡ placeOk s i
-    open-row ha = go (eqb side 0) refl
-      where
-        go : (t : Bool) → eqb side 0 ≡ t → (eqb side 1 && eqb id 0 || eqb side 2 && leb 1 id) ≡ placeOk s i
-        go true h =
-            let z : side ≡ 0 = eqb-true side 0 h in
-            let n : (eqb side 1 && eqb id 0 || eqb side 2 && leb 1 id) ≡ false = rw z in
-            n ∙ sym (closed (at-side true h) ∙ row-zero ∙ ne-eqb a 0 ha)
-        go false h = good ∙ sym (opened (at-side false h))
+  pub open-row : (side id : ℕ) → side ≡ placeWord s i 0 → id ≡ placeWord s i 1 → goodSide side id ≡ placeOk s i
+  open-row side id es ei = rw (es, ei) row-open

@@ -7,12 +7,8 @@ use lib.Dec.{eqb}
 use lib.ListN.{getD, set}
 use Rattle.rules.specs.Limits.{entries}
 use Rattle.segment.specs.Layout.{linkAt, dataWords}
-use Rattle.words.specs.Word.{quiet}
+use Rattle.words.specs.Led.{Led}
 use Rattle.sound.specs.Walks.{Walked, walked, freeEntry, freeWalk}
-
--- the word n, below 256, lies at p, and the m bytes after it are zero
-unfoldable pub Led : List ℕ → ℕ → ℕ → ℕ → Type 0
-Led s p n m = (getD s p 0 ≡ 0) × (getD s (p + 1) 0 ≡ n) × (quiet s (p + 2) m ≡ true)
 
 -- the number of an entry's bytes, its link's among them
 abbrev pub entryBytes : ℕ

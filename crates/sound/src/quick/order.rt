@@ -3,10 +3,10 @@
 // (proofs/quick/Onward.antt): the plain walk goes the same way.
 use crate::marks::ENTRY_COUNT;
 use crate::marks::MET;
-use crate::quick::bytes::broad;
-use crate::quick::bytes::eight;
-use crate::quick::bytes::four;
 use segment::layout;
+use words::joined::broad;
+use words::joined::eight;
+use words::joined::four;
 ghost use mathlib.Core.Path.{_≡_};
 ghost use Prim.Native.Nat.{_+_, _-_, _*_, _≤_, _<_};
 ghost use lib.ListN.{length, getD};
@@ -14,12 +14,12 @@ ghost use Rattle.rules.specs.Limits.{entries};
 ghost use Rattle.segment.specs.Layout.{segmentBytes};
 ghost use Rattle.sound.specs.quick.Onward.{entryBytes, Linked, Onward};
 
-const LAST: usize = layout::ENTRIES as usize - 1;
+pub const LAST: usize = layout::ENTRIES as usize - 1;
 
-const ENTRY_BYTES: usize = 2 * layout::ENTRY_WORDS;
+pub const ENTRY_BYTES: usize = 2 * layout::ENTRY_WORDS;
 
 // The last entry that a run from e may reach.
-fn farthest(e: usize, most: usize) -> usize
+pub fn farthest(e: usize, most: usize) -> usize
     requires { ⌜ e < entries ⌝ }
     ensures { λ r. ⌜ (e ≤ r) × (r < entries) × (r ≤ e + most) ⌝ }
 {
@@ -37,22 +37,37 @@ fn four_marks(seen: &[u8; ENTRY_COUNT], e: usize) -> u64
 }
 
 // A number for the entry at byte `at`: 0 only if it is free and linked to entry n.
-fn linked(s: &[u8], at: usize, n: usize) -> u64
+pub fn linked(s: &[u8], at: usize, n: usize) -> u64
     requires { ⌜ (at + entryBytes ≤ length (now s)) × (n < 256) ⌝ }
     ensures { λ r. ⌜ (r ≡ 0 → Linked (now (s .entry)) at n) ⌝ }
 {
     (eight(s, at) ^ (n as u64 * 256)) | eight(s, at + 8) | four(s, at + 16)
 }
 
-// A number for four entries, the first of them e at byte `at`: 0 only if each is free and linked to the next number.
-fn four_linked(s: &[u8], at: usize, e: usize) -> u64
+// The weights of the low bytes of the first word and of the third, in a number of eight bytes.
+const FIRST: u64 = 256;
+
+const THIRD: u64 = 1099511627776;
+
+// A number for two entries at byte `at`: 0 only if each is free, and they are linked to entry n and to the next. Five loads for forty bytes.
+fn two_linked(s: &[u8], at: usize, n: usize) -> u64
+    requires { ⌜ (at + 2 * entryBytes ≤ length (now s)) × (n + 1 < 256) ⌝ }
+    ensures { λ r. ⌜ (r ≡ 0 → Linked (now (s .entry)) at n × Linked (now (s .entry)) (at + entryBytes) (n + 1)) ⌝ }
+{
+    let link = n as u64;
+    (eight(s, at) ^ (link * FIRST))
+        | eight(s, at + 8)
+        | (eight(s, at + 16) ^ ((link + 1) * THIRD))
+        | eight(s, at + 24)
+        | eight(s, at + 32)
+}
+
+// A number for four entries, the first of them e at byte `at`: 0 only if each is free and linked to the next number. Ten loads for eighty bytes.
+pub fn four_linked(s: &[u8], at: usize, e: usize) -> u64
     requires { ⌜ (at + 4 * entryBytes ≤ length (now s)) × (e + 4 < 256) ⌝ }
     ensures { λ r. ⌜ (r ≡ 0 → Linked (now (s .entry)) at (e + 1) × Linked (now (s .entry)) (at + entryBytes) (e + 2) × Linked (now (s .entry)) (at + 2 * entryBytes) (e + 3) × Linked (now (s .entry)) (at + 3 * entryBytes) (e + 4)) ⌝ }
 {
-    linked(s, at, e + 1)
-        | linked(s, at + ENTRY_BYTES, e + 2)
-        | linked(s, at + 2 * ENTRY_BYTES, e + 3)
-        | linked(s, at + 3 * ENTRY_BYTES, e + 4)
+    two_linked(s, at, e + 1) | two_linked(s, at + 2 * ENTRY_BYTES, e + 3)
 }
 
 // Walks from a slot that holds e along the entries in order, at most `most` of them, four at a time. Marks those that it passes, and gives the last.

@@ -6,16 +6,9 @@ use super::twin::{text, Difference, Twin};
 use crate::generator::Call;
 use crate::model::desk::Desk;
 use crate::model::limits::LINE_BYTES;
-use crate::model::segment::Memories;
+use crate::model::segment::{Memories, Part};
 use crate::outcome::make_call;
 use crate::session::{call_text, hex};
-
-#[derive(Clone, Copy, PartialEq, Debug)]
-pub enum Part {
-    Segment,
-    Blocks,
-    Buffers,
-}
 
 /// A byte that is set to another value.
 #[derive(Clone, Debug)]
@@ -97,12 +90,7 @@ impl Case {
 
 pub fn apply(changes: &[Change], memories: &mut Memories) {
     for change in changes {
-        let memory = match change.part {
-            Part::Segment => &mut memories.segment,
-            Part::Blocks => &mut memories.blocks,
-            Part::Buffers => &mut memories.buffers,
-        };
-        memory[change.at] = change.byte;
+        memories.part_mut(change.part)[change.at] = change.byte;
     }
 }
 

@@ -1,12 +1,13 @@
 //! Bytes changed behind the library's back: mostly where a change means something.
 
-use super::case::{Change, Part};
+use super::case::Change;
 use crate::generator::random::Random;
 use crate::model::desk::Desk;
 use crate::model::file::MessageFile;
-use crate::model::limits::{BUFFER_BYTES, ENTRIES, FILES, PLACES, SHARE_BYTES};
-use crate::model::segment::{entry_word, file_row, place_row, Memories};
+use crate::model::limits::{ENTRIES, PLACES, SHARE_BYTES};
+use crate::model::segment::{entry_word, file_row, place_row, Memories, Part};
 use crate::model::segment::{ENTRY_WORDS, LISTS, ROW_WORDS, SEGMENT_BYTES};
+use crate::model::unread::{Kind, Stretch};
 use crate::model::word::{word, word_at};
 
 /// One to three changes of a desk's memories.
@@ -14,7 +15,7 @@ pub fn changes(desk: &Desk, memories: &Memories, random: &mut Random) -> Vec<Cha
     let used = words_in_use(desk);
     let mut all = Vec::new();
     for _ in 0..random.pick(&[1, 1, 1, 2, 3]) {
-        match random.below(18) {
+        match random.below(22) {
             0 => {
                 let at = random.below(SEGMENT_BYTES);
                 let bit = 1 << random.below(8);
@@ -41,10 +42,9 @@ pub fn changes(desk: &Desk, memories: &Memories, random: &mut Random) -> Vec<Cha
             }
             7 => all.extend(rearranged(desk, memories, random)),
             8..=9 => all.extend(block_change(desk, memories, random)),
-            10 => all.extend(buffer_change(desk, memories, random)),
-            11 => all.extend(unused_change(desk, random)),
-            12 => all.extend(crowded(desk, random)),
-            13 if !desk.entries.timers.is_empty() => {
+            10..=15 => all.extend(raw_change(desk, memories, random)),
+            16 => all.extend(crowded(desk, random)),
+            17 if !desk.entries.timers.is_empty() => {
                 let timer = random.pick(&desk.entries.timers);
                 all.extend(word_change(entry_word(timer.entry) + 8, random.pick(&[0, 1, 3, 9000])));
             }
@@ -149,30 +149,31 @@ fn block_change(desk: &Desk, memories: &Memories, random: &mut Random) -> Option
     Some(change(Part::Blocks, at, byte))
 }
 
-/// A byte of a built file's buffers, mostly near one that is in use.
-fn buffer_change(desk: &Desk, memories: &Memories, random: &mut Random) -> Option<Change> {
-    let f = built_file(desk, random)?;
-    let start = BUFFER_BYTES * PLACES * f.number;
-    let full: Vec<usize> =
-        (start..start + BUFFER_BYTES * PLACES).filter(|at| memories.buffers[*at] != 0).collect();
-    let at = match full.is_empty() || random.percent(30) {
-        true => start + random.below(BUFFER_BYTES * PLACES),
-        false => (random.pick(&full) + random.below(2)).min(BUFFER_BYTES * PLACES * FILES - 1),
+/// Bytes that nothing is asked of, of one kind: one, or a few side by side.
+pub fn raw_change(desk: &Desk, memories: &Memories, random: &mut Random) -> Vec<Change> {
+    let stretches = desk.stretches();
+    let mut kinds: Vec<Kind> = stretches.iter().map(|stretch| stretch.kind).collect();
+    kinds.sort_unstable();
+    kinds.dedup();
+    let kind = random.pick(&kinds);
+    let of_kind: Vec<&Stretch> = stretches.iter().filter(|s| s.kind == kind).collect();
+    let Stretch { part, range, .. } = random.pick(&of_kind);
+    // What goes too far, or not far enough, shows at an end.
+    let from = match random.below(4) {
+        0 => range.start,
+        1 => range.end - 1,
+        _ => range.start + random.below(range.len()),
     };
-    Some(change(Part::Buffers, at, memories.buffers[at] ^ (1 << random.below(8))))
+    let to = range.end.min(from + random.pick(&[1, 1, 2, 30]));
+    let memory = memories.part(*part);
+    (from..to).map(|at| change(*part, at, memory[at] ^ random.pick(&[1, 16, 128, 255]))).collect()
 }
 
-/// A byte of a file that is not built: no call may ask of it, nor lose it.
-fn unused_change(desk: &Desk, random: &mut Random) -> Option<Change> {
-    let file = (0..FILES).find(|n| desk.files[*n].is_none())?;
-    let byte = random.byte();
-    Some(match random.percent(50) {
-        true => change(Part::Blocks, SHARE_BYTES * file + random.below(SHARE_BYTES), byte),
-        false => {
-            let one = BUFFER_BYTES * PLACES;
-            change(Part::Buffers, one * file + random.below(one), byte)
-        }
-    })
+/// Every byte of these kinds.
+pub fn noise(desk: &Desk, kinds: &[Kind], random: &mut Random) -> Vec<Change> {
+    let stretches = desk.stretches().into_iter().filter(|stretch| kinds.contains(&stretch.kind));
+    let bytes = stretches.flat_map(|stretch| stretch.range.map(move |at| (stretch.part, at)));
+    bytes.map(|(part, at)| change(part, at, random.between(1, 255) as u8)).collect()
 }
 
 fn built_file<'a>(desk: &'a Desk, random: &mut Random) -> Option<&'a MessageFile> {

@@ -7,9 +7,9 @@
 //! though no run reaches them, the model is started from them and has to be met too.
 
 mod bad_sheets;
-mod caller;
-mod case;
-mod damage;
+pub mod caller;
+pub mod case;
+pub mod damage;
 mod frames;
 mod header;
 mod host;
@@ -17,10 +17,10 @@ pub mod isolation;
 mod lengths;
 mod numbers;
 mod program;
-mod reached;
+pub mod reached;
 mod sessions;
 mod sheets;
-mod tally;
+pub mod tally;
 pub mod twin;
 
 use crate::generator::Call;
@@ -30,7 +30,7 @@ use crate::session::{calls_of_text, line_of, memories_text};
 use case::Case;
 use host::Host;
 pub use program::Library;
-use sessions::{damaged_session, full_session, session};
+use sessions::{damaged_session, full_session, raw_session, session};
 use std::io::Write;
 use std::ops::Range;
 use tally::Tally;
@@ -59,6 +59,9 @@ pub fn compare_all(library: &Library, seed: u64, sessions: u64, calls: usize) ->
         for_seeds("numbers", library, seeds(few), numbers::all_numbers),
         for_seeds("sheets", library, seeds(few), sheets::all_sheets),
         for_seeds("damage", library, seeds(some), damaged_session),
+        for_seeds("raw bytes", library, seeds(some), |library, one, tally| {
+            raw_session(library, one, calls, tally)
+        }),
     ];
     parts.iter().all(|agrees| *agrees)
 }

@@ -3,8 +3,9 @@
 
 use super::caller::Caller;
 use super::case::{apply, Case};
-use super::damage::changes;
+use super::damage::{changes, noise};
 use super::program::Library;
+use super::reached::Reached;
 use super::sheets::comes_back;
 use super::tally::Tally;
 use super::twin::Twin;
@@ -13,6 +14,7 @@ use crate::generator::random::Random;
 use crate::generator::Call;
 use crate::model::desk::Desk;
 use crate::model::status::DONE;
+use crate::model::unread::KINDS;
 use crate::outcome::{make_call, Outcome};
 use std::ops::Range;
 
@@ -83,14 +85,41 @@ pub fn damaged_session(library: &Library, seed: u64, tally: &mut Tally) -> Resul
             apply(&changes, &mut memories);
             let mut twin = Twin::of(library, &memories);
             tally.memory(twin.model().err());
+            let taken = twin.model().map(|desk| desk.stretches()).unwrap_or_default();
             let mut case = Case { before: before.clone(), changes, calls: Vec::new() };
             for call in caller.one_of_each(twin.model().unwrap_or(&desk)) {
                 step(call, &mut case, &mut twin, tally)?;
             }
             let calls = if twin.model().is_ok() { 6 } else { 2 };
             play(case, &mut twin, &desk, &mut caller, calls, tally)?;
+            tally.taken(&taken, &reached, &memories, twin.memories());
         }
     }
+    Ok(())
+}
+
+/// A session on a desk with other bytes wherever nothing is asked of them: a call answers those that
+/// it reads, and all stay until the rules write there.
+pub fn raw_session(
+    library: &Library,
+    seed: u64,
+    calls: usize,
+    tally: &mut Tally,
+) -> Result<(), Case> {
+    let mut caller = Caller::new(seed);
+    let mut random = Random::new(seed.wrapping_add(1 << 33));
+    let kind = random.pick(&KINDS);
+    let Reached { desk, before } = Reached::having(kind, &mut caller, random.between(0, 80));
+    let reached = desk.memories();
+    let changes = noise(&desk, &KINDS, &mut random);
+    let mut memories = reached.clone();
+    apply(&changes, &mut memories);
+    let mut twin = Twin::of(library, &memories);
+    tally.memory(twin.model().err());
+    assert!(twin.model().is_ok(), "the model asks something of these bytes");
+    let case = Case { before, changes, calls: Vec::new() };
+    play(case, &mut twin, &desk, &mut caller, calls, tally)?;
+    tally.taken(&desk.stretches(), &reached, &memories, twin.memories());
     Ok(())
 }
 

@@ -4,6 +4,8 @@ use crate::coverage::kind;
 use crate::generator::Call;
 use crate::model::desk::Desk;
 use crate::model::loading::Unsound;
+use crate::model::segment::Memories;
+use crate::model::unread::{Kind, Stretch, KINDS};
 use crate::outcome::Outcome;
 use std::collections::{BTreeMap, BTreeSet};
 
@@ -13,6 +15,8 @@ pub struct Tally {
     calls: BTreeMap<&'static str, BTreeMap<u8, u64>>,
     sound: u64,
     unsound: BTreeMap<Unsound, u64>,
+    /// By kind, the changed bytes that nothing is asked of, and those of them that calls wrote over.
+    taken: BTreeMap<Kind, (u64, u64)>,
     notes: BTreeSet<&'static str>,
 }
 
@@ -44,6 +48,30 @@ impl Tally {
         }
     }
 
+    /// Counts the bytes of these stretches that were changed before they were lent, and those of them
+    /// that calls wrote over.
+    pub fn taken(
+        &mut self,
+        stretches: &[Stretch],
+        reached: &Memories,
+        lent: &Memories,
+        left: &Memories,
+    ) {
+        for Stretch { kind, part, range } in stretches {
+            let (reached, lent, left) = (reached.part(*part), lent.part(*part), left.part(*part));
+            for at in range.clone().filter(|at| reached[*at] != lent[*at]) {
+                let sum = self.taken.entry(*kind).or_insert((0, 0));
+                sum.0 += 1;
+                sum.1 += u64::from(lent[at] != left[at]);
+            }
+        }
+    }
+
+    /// How many changed bytes of a kind were taken, and how many of them calls wrote over.
+    pub fn taken_of(&self, kind: Kind) -> (u64, u64) {
+        self.taken.get(&kind).copied().unwrap_or_default()
+    }
+
     /// What of interest happened at a desk.
     pub fn notes(&mut self, desk: &Desk) {
         self.notes.extend(desk.all_notes().keys());
@@ -63,7 +91,20 @@ impl Tally {
         };
         let kinds: Vec<String> =
             self.calls.iter().map(|(kind, statuses)| kind_text(kind, statuses)).collect();
-        format!("{memories}{all} calls{notes}, by status: {}", kinds.join("; "))
+        let taken = match self.taken.is_empty() {
+            true => String::new(),
+            false => format!("; changed bytes taken (written over): {}", self.taken_text()),
+        };
+        format!("{memories}{all} calls{notes}, by status: {}{taken}", kinds.join("; "))
+    }
+
+    /// `idle buffer 812 (77)` and so on, for each kind.
+    fn taken_text(&self) -> String {
+        let each = KINDS.map(|kind| {
+            let (all, written) = self.taken_of(kind);
+            format!("{} {all} ({written})", kind.name())
+        });
+        each.join(", ")
     }
 }
 

@@ -72,6 +72,11 @@ impl<'a> Twin<'a> {
         self.model.as_ref().map_err(|why| *why)
     }
 
+    /// What the library's memories must be.
+    pub fn memories(&self) -> &Memories {
+        &self.memories
+    }
+
     /// Both go back to a desk and its memories.
     pub fn reset(&mut self, desk: &Desk, memories: &Memories) {
         self.host.set(memories);

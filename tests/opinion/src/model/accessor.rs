@@ -1,6 +1,6 @@
 //! An open accessor: its side, its settings, its request.
 
-use super::request::{Progress, Request, Want};
+use super::request::Request;
 
 #[derive(Clone, PartialEq, Debug)]
 pub struct Accessor {
@@ -47,14 +47,5 @@ impl Accessor {
 
     pub(super) fn has_completed(&self) -> bool {
         self.request.as_ref().map_or(false, |r| !r.waits())
-    }
-
-    /// A completed read's record, or a waiting write's data; otherwise nothing.
-    pub(super) fn in_buffer(&self) -> &[u8] {
-        match &self.request {
-            Some(Request { progress: Progress::Completed { shown, .. }, .. }) => shown,
-            Some(Request { want: Want::Write { data, .. }, .. }) => data,
-            _ => &[],
-        }
     }
 }

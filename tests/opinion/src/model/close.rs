@@ -52,7 +52,7 @@ impl Desk {
         self.notes.add_if(two_files, "time ends requests of two files");
         for timer in due {
             if let Some(f) = &mut self.files[timer.file] {
-                f.complete(timer.place, TIMED_OUT, 0, Vec::new(), &mut self.entries);
+                f.complete(timer.place, TIMED_OUT, 0, &[], &mut self.entries);
             }
         }
         Ok((DONE, Vec::new()))
@@ -70,7 +70,7 @@ fn end_waiting_readers(f: &mut MessageFile, entries: &mut Entries) {
         }
         f.notes.add("waiting reader ended by the last writer's close");
         f.notes.add_if(stayed, "waiting reader ended behind one with 45");
-        f.complete(place, END_OF_FILE, 0, Vec::new(), entries);
+        f.complete(place, END_OF_FILE, 0, &[], entries);
     }
     f.notes.add_if(stayed, "reader with 45 outlives the last writer's close");
 }

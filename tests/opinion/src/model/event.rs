@@ -27,6 +27,8 @@ impl Desk {
                 assert!(*self == before, "a refusal changed the desk");
             }
             assert!(answer.len() <= ANSWER_BYTES, "an answer is longer than its memory");
+            let zero = !before.otherwise_zero() || self.otherwise_zero();
+            assert!(zero, "a call left bytes where all else is zero");
             self.check();
         }
         answer

@@ -2,7 +2,7 @@
 
 use super::accessor::Accessor;
 use super::geometry::Geometry;
-use super::limits::{PLACES, SHARE_BYTES};
+use super::limits::{BUFFER_BYTES, PLACES, SHARE_BYTES};
 use super::notes::Notes;
 use super::record::{HeldBlock, Record};
 use super::status::NOT_OPEN;
@@ -14,6 +14,8 @@ pub struct MessageFile {
     pub geometry: Geometry,
     /// The 4,096 bytes, leftovers included.
     pub share: Vec<u8>,
+    /// The eight record buffers of 260 bytes, leftovers included.
+    pub buffers: Vec<Vec<u8>>,
     /// The blocks from the oldest still holding a record to the last one put to.
     pub ring: VecDeque<HeldBlock>,
     /// The block that is begun next: the one after the last begun.
@@ -25,12 +27,13 @@ pub struct MessageFile {
 }
 
 impl MessageFile {
-    /// Build and load zero the share.
+    /// Build and load zero the share, and the buffers.
     pub(super) fn new(number: usize, geometry: Geometry) -> MessageFile {
         MessageFile {
             number,
             geometry,
             share: vec![0; SHARE_BYTES],
+            buffers: vec![vec![0; BUFFER_BYTES]; PLACES],
             ring: VecDeque::new(),
             next_block: 0,
             accessors: vec![None; PLACES],

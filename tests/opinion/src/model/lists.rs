@@ -3,7 +3,7 @@
 use super::count::Count;
 use super::desk::Desk;
 use super::entries::Timer;
-use super::limits::{BUFFER_BYTES, ENTRIES, FILES, PLACES};
+use super::limits::{ENTRIES, FILES, PLACES};
 use super::loading::{ask, Unsound};
 use super::request::{Progress, Request, Want};
 use super::segment::{entry_word, ENTRY_WORDS, LISTS, NIL};
@@ -13,7 +13,7 @@ const LONGEST_READ: u16 = 260;
 
 impl Desk {
     /// Each entry is on exactly one list, and says what its list asks.
-    pub(super) fn load_lists(&mut self, words: &[u16], buffers: &[u8]) -> Result<(), Unsound> {
+    pub(super) fn load_lists(&mut self, words: &[u16]) -> Result<(), Unsound> {
         let mut met = vec![false; usize::from(ENTRIES)];
         for list in 0..LISTS {
             for entry in walk(words, list, &mut met)? {
@@ -25,8 +25,8 @@ impl Desk {
                         self.entries.free.push_back(entry);
                     }
                     1..=8 => self.load_read(list - 1, entry, data)?,
-                    9..=16 => self.load_write(list - 9, entry, data, buffers)?,
-                    17..=80 => self.load_completed(list - 17, entry, data, buffers)?,
+                    9..=16 => self.load_write(list - 9, entry, data)?,
+                    17..=80 => self.load_completed(list - 17, entry, data)?,
                     _ => self.load_timer(entry, data)?,
                 }
             }
@@ -44,32 +44,18 @@ impl Desk {
         self.put_request(data[0], entry, want, Progress::Waiting { timer: None })
     }
 
-    fn load_write(
-        &mut self,
-        file: usize,
-        entry: u16,
-        data: &[u16],
-        buffers: &[u8],
-    ) -> Result<(), Unsound> {
+    fn load_write(&mut self, file: usize, entry: u16, data: &[u16]) -> Result<(), Unsound> {
         let (unit, size) = (data[1], usize::from(data[6]));
         ask(usize::from(data[0]) / PLACES == file, "a waiting write's place")?;
         let most = self.files[file].as_ref().map_or(0, |f| 2 * f.geometry.record_words);
         ask(unit <= 1 && size <= most, "a waiting write")?;
         let other = data[2..6].iter().chain(&data[7..]);
         ask(other.into_iter().all(|w| *w == 0), "a waiting write's other words")?;
-        let count = Count { in_words: unit == 1, bytes: size };
-        let at = BUFFER_BYTES * usize::from(data[0]);
-        let want = Want::Write { count, data: buffers[at..at + size].to_vec() };
+        let want = Want::Write { count: Count { in_words: unit == 1, bytes: size } };
         self.put_request(data[0], entry, want, Progress::Waiting { timer: None })
     }
 
-    fn load_completed(
-        &mut self,
-        place: usize,
-        entry: u16,
-        data: &[u16],
-        buffers: &[u8],
-    ) -> Result<(), Unsound> {
+    fn load_completed(&mut self, place: usize, entry: u16, data: &[u16]) -> Result<(), Unsound> {
         let (status, log, size) = (data[4], data[5], data[6]);
         ask(usize::from(data[0]) == place, "a completed request's place")?;
         let other = data[1..4].iter().chain(&data[7..]);
@@ -78,16 +64,14 @@ impl Desk {
         let accessor = file.and_then(|f| f.accessors[place % PLACES].as_ref());
         let writes = accessor.map_or(false, |a| a.is_writer());
         ask(size <= if writes { 0 } else { LONGEST_READ }, "a completed request's size")?;
-        let at = BUFFER_BYTES * place;
-        let shown = buffers[at..at + usize::from(size)].to_vec();
         // What was wanted is forgotten once a request completes.
         let count = Count { in_words: false, bytes: 0 };
         let want = match writes {
-            true => Want::Write { count, data: Vec::new() },
+            true => Want::Write { count },
             false => Want::Read { count, leave: false },
         };
         ask(status < u16::from(LEAST_REFUSAL), "a completed request's status")?;
-        let progress = Progress::Completed { status: status as u8, log, shown };
+        let progress = Progress::Completed { status: status as u8, log, size: size.into() };
         self.put_request(data[0], entry, want, progress)
     }
 

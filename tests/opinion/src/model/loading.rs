@@ -36,17 +36,20 @@ impl Desk {
         let mut desk = Desk::fresh();
         desk.entries = Entries { free: VecDeque::new(), timers: Vec::new(), clock: 0 };
         for file in 0..FILES {
-            let share = &memories.blocks[file * SHARE_BYTES..(file + 1) * SHARE_BYTES];
-            desk.files[file] = load_file(&words, share, file)?;
+            desk.files[file] = load_file(&words, memories, file)?;
         }
-        desk.load_lists(&words, &memories.buffers)?;
-        check_buffers(&desk, &memories.buffers)?;
+        // 2 and 3. Lists and places.
+        desk.load_lists(&words)?;
         Ok(desk)
     }
 }
 
 /// 4. Rows.
-fn load_file(words: &[u16], share: &[u8], file: usize) -> Result<Option<MessageFile>, Unsound> {
+fn load_file(
+    words: &[u16],
+    memories: &Memories,
+    file: usize,
+) -> Result<Option<MessageFile>, Unsound> {
     let row = &words[file_row(file)..file_row(file) + ROW_WORDS];
     let rows = &words[place_row(PLACES * file)..place_row(PLACES * (file + 1))];
     let numbers: Vec<usize> = row.iter().map(|w| usize::from(*w)).collect();
@@ -63,7 +66,10 @@ fn load_file(words: &[u16], share: &[u8], file: usize) -> Result<Option<MessageF
     ask(capacity >= 3 && geometry.fits_share(), "D")?;
     ask(row[6] == 0 && row[7] == 0, "the end of a file's row")?;
     let mut f = MessageFile::new(file, geometry);
-    f.share = share.to_vec();
+    f.share = memories.blocks[SHARE_BYTES * file..][..SHARE_BYTES].to_vec();
+    // Nothing is asked of the record buffers.
+    let buffers = &memories.buffers[BUFFER_BYTES * PLACES * file..][..BUFFER_BYTES * PLACES];
+    f.buffers = buffers.chunks(BUFFER_BYTES).map(|buffer| buffer.to_vec()).collect();
     for (place, row) in rows.chunks(ROW_WORDS).enumerate() {
         f.accessors[place] = load_place(row)?;
     }
@@ -119,7 +125,8 @@ fn load_blocks(
     Ok(())
 }
 
-/// A block that holds a record: records put, words used, the records, zeros.
+/// A block that holds a record: records put, words used, the records; nothing is asked of what lies
+/// after them.
 fn load_block(f: &MessageFile, number: usize, put: usize) -> Result<HeldBlock, Unsound> {
     let length = 2 * f.geometry.block_words();
     let bytes = &f.share[number * length..(number + 1) * length];
@@ -142,19 +149,5 @@ fn load_block(f: &MessageFile, number: usize, put: usize) -> Result<HeldBlock, U
         unread.push_back(Record { kind, id, data });
     }
     ask(word_at(bytes, 2) == at / 2, "a block's words used")?;
-    ask(bytes[at..].iter().all(|b| *b == 0), "a held block's end")?;
     Ok(HeldBlock { number, put, words: at / 2, unread })
-}
-
-/// 6. Buffers of built files.
-fn check_buffers(desk: &Desk, buffers: &[u8]) -> Result<(), Unsound> {
-    for f in desk.files.iter().flatten() {
-        for (index, accessor) in f.accessors.iter().enumerate() {
-            let at = BUFFER_BYTES * (PLACES * f.number + index);
-            let used = accessor.as_ref().map_or(0, |a| a.in_buffer().len());
-            let behind = &buffers[at + used..at + BUFFER_BYTES];
-            ask(behind.iter().all(|b| *b == 0), "a buffer behind what lies in it")?;
-        }
-    }
-    Ok(())
 }

@@ -31,10 +31,10 @@ impl Desk {
             return Err(WRONG_SIDE);
         }
         // A read completed with status 0 has its record, be it of no bytes, in the buffer.
-        if let Some(Request { progress: Progress::Completed { status: DONE, shown, .. }, .. }) =
-            &accessor.request
+        if let Some(Request { progress: Progress::Completed { status: DONE, .. }, .. }) =
+            accessor.request
         {
-            return Ok(shown.clone());
+            return Ok(f.in_buffer(reader).to_vec());
         }
         // 39: look with no record.
         let oldest = f.records().find(|r| r.kind == TYPE_DATA);

@@ -20,14 +20,11 @@ impl Desk {
 
     /// 64 record buffers; accessor a of file f has the one at 260 (8f + a).
     pub fn buffers(&self) -> Vec<u8> {
-        let mut bytes = vec![0; FILES * PLACES * BUFFER_BYTES];
-        for f in self.files.iter().flatten() {
-            for (place, accessor) in f.accessors.iter().enumerate() {
-                if let Some(accessor) = accessor {
-                    let at = BUFFER_BYTES * (PLACES * f.number + place);
-                    let held = accessor.in_buffer();
-                    bytes[at..at + held.len()].copy_from_slice(held);
-                }
+        let mut bytes = Vec::with_capacity(FILES * PLACES * BUFFER_BYTES);
+        for file in &self.files {
+            match file {
+                Some(f) => bytes.extend(f.buffers.concat()),
+                None => bytes.extend(vec![0; PLACES * BUFFER_BYTES]),
             }
         }
         bytes

@@ -3,10 +3,11 @@
 //! Written from document 01 and the readings taken of it alone, and not from the text of the
 //! rules in crates/rules: that is what makes it worth comparing them.  It has its own shape too.
 //! A file is a queue of the blocks that still hold a record, each with its unread records; timers
-//! are due times on one clock; record buffers are not stored at all but worked out from the
-//! requests, since document 01 says what lies in them.
+//! are due times on one clock.  Shares and record buffers are raw bytes: a call writes what the
+//! rules have it write, and all else stays what it was.
 
 pub mod accessor;
+mod buffers;
 mod close;
 mod control;
 pub mod count;
@@ -32,5 +33,6 @@ pub mod sheet;
 mod soundness;
 pub mod status;
 mod transfer;
+pub mod unread;
 mod waiting;
 pub mod word;

@@ -38,6 +38,32 @@ pub struct Memories {
     pub buffers: Vec<u8>,
 }
 
+/// One of the three.
+#[derive(Clone, Copy, PartialEq, Eq, PartialOrd, Ord, Debug)]
+pub enum Part {
+    Segment,
+    Blocks,
+    Buffers,
+}
+
+impl Memories {
+    pub fn part(&self, part: Part) -> &[u8] {
+        match part {
+            Part::Segment => &self.segment,
+            Part::Blocks => &self.blocks,
+            Part::Buffers => &self.buffers,
+        }
+    }
+
+    pub fn part_mut(&mut self, part: Part) -> &mut [u8] {
+        match part {
+            Part::Segment => &mut self.segment,
+            Part::Blocks => &mut self.blocks,
+            Part::Buffers => &mut self.buffers,
+        }
+    }
+}
+
 impl Desk {
     /// The memories of a desk that was fresh once.
     pub fn memories(&self) -> Memories {
@@ -74,7 +100,7 @@ impl Desk {
                     let place = PLACES * f.number + index;
                     put(&mut words, place_row(place), &place_words(accessor));
                     if let Some(request) = &accessor.request {
-                        let data = request_words(request, place, accessor.is_writer());
+                        let data = request_words(request, place);
                         put(&mut words, entry_word(request.entry) + 1, &data);
                     }
                 }
@@ -117,19 +143,18 @@ fn place_words(a: &Accessor) -> [u16; ROW_WORDS] {
 }
 
 /// Place, unit, limit, keep, status, log, size, seconds, 0; what is not of its list is 0.
-fn request_words(request: &Request, place: usize, writes: bool) -> [u16; ENTRY_WORDS - 1] {
+fn request_words(request: &Request, place: usize) -> [u16; ENTRY_WORDS - 1] {
     let place = place as u16;
     match (&request.progress, &request.want) {
-        (Progress::Completed { status, log, shown }, _) => {
-            let size = if writes { 0 } else { shown.len() as u16 };
-            [place, 0, 0, 0, u16::from(*status), *log, size, 0, 0]
+        (Progress::Completed { status, log, size }, _) => {
+            [place, 0, 0, 0, u16::from(*status), *log, *size as u16, 0, 0]
         }
         (_, Want::Read { count, leave }) => {
             let unit = u16::from(count.in_words);
             [place, unit, count.bytes as u16, u16::from(*leave), 0, 0, 0, 0, 0]
         }
-        (_, Want::Write { count, data }) => {
-            [place, u16::from(count.in_words), 0, 0, 0, 0, data.len() as u16, 0, 0]
+        (_, Want::Write { count }) => {
+            [place, u16::from(count.in_words), 0, 0, 0, 0, count.bytes as u16, 0, 0]
         }
     }
 }

@@ -41,7 +41,7 @@ impl MessageFile {
         };
         let another = leave && self.read_queue.len() > 1;
         self.notes.add_if(another, "47: record left serves the next waiting reader too");
-        self.complete(place, DONE, count.log(bytes.len()), bytes, entries);
+        self.complete(place, DONE, count.log(bytes.len()), &bytes, entries);
         true
     }
 
@@ -55,15 +55,17 @@ impl MessageFile {
         self.notes.add_if(reader_waits, "a waiting writer served while a reader waits");
         let writer = self.accessor(place);
         let id = writer.writer_id.unwrap_or(0);
-        let (count, data) = match &writer.request {
-            Some(Request { want: Want::Write { count, data }, .. }) => (*count, data.clone()),
+        let count = match writer.request {
+            Some(Request { want: Want::Write { count }, .. }) => count,
             _ => return false,
         };
+        // What is written is what lies in the buffer.
+        let data = self.in_buffer(place).to_vec();
         let log = count.log(data.len());
         self.put(Record { kind: TYPE_DATA, id, data });
         // A waiting write's buffer is zero again once it no longer waits
         // (docs/DECISIONS.md, R30).
-        self.complete(place, DONE, log, Vec::new(), entries);
+        self.complete(place, DONE, log, &[], entries);
         true
     }
 }

@@ -29,6 +29,8 @@ impl Desk {
         let status = self.try_load(file, text).err().unwrap_or(DONE);
         if let Some(before) = before {
             assert!(status == DONE || *self == before, "a refused load changed the desk");
+            let zero = !before.otherwise_zero() || self.otherwise_zero();
+            assert!(zero, "a load left bytes where all else is zero");
             self.check();
         }
         status

@@ -38,7 +38,7 @@ impl Desk {
             }
             None if f.may_wait(place, first) => {
                 f.notes.add_if(!was_empty, "a read discarded, then waited");
-                f.wait(place, Want::Read { count, leave }, entries);
+                f.wait(place, Want::Read { count, leave }, &[], entries);
                 (WAITING, Vec::new())
             }
             None => {
@@ -80,7 +80,7 @@ impl Desk {
         } else if f.may_wait(place, first) {
             f.notes.add("a write waits");
             f.notes.add_if(data.is_empty(), "a write of zero bytes waits");
-            f.wait(place, Want::Write { count, data: data.to_vec() }, entries);
+            f.wait(place, Want::Write { count }, data, entries);
             (WAITING, Vec::new())
         } else {
             (END_OF_FILE, Vec::new())
@@ -92,16 +92,17 @@ impl Desk {
     pub(super) fn collect(&mut self, file: u8, accessor: u8) -> Answer {
         let (f, entries) = self.file_and_entries(file)?;
         let place = f.open_place(accessor.into())?;
-        let accessor = f.accessor_mut(place);
         // Collect of a waiting request answers 1.
-        if accessor.has_waiting() {
+        if f.accessor(place).has_waiting() {
             return Ok((WAITING, Vec::new()));
         }
         // 39: nothing outstanding.
-        let request = accessor.request.take().ok_or(NOTHING_THERE)?;
+        let shown = f.in_buffer(place).to_vec();
+        let request = f.accessor_mut(place).request.take().ok_or(NOTHING_THERE)?;
         entries.release(request.entry);
+        f.refill(place, &[]);
         match request.progress {
-            Progress::Completed { status: DONE, log, shown } => {
+            Progress::Completed { status: DONE, log, .. } => {
                 Ok((DONE, [word(log), shown].concat()))
             }
             // Any other status: operation and status only.

@@ -17,8 +17,9 @@ impl MessageFile {
         other_side || extended || first
     }
 
-    /// A request takes its own entry before its timer's and joins its queue.
-    pub(super) fn wait(&mut self, place: usize, want: Want, entries: &mut Entries) {
+    /// A request takes its own entry before its timer's and joins its queue; a write's data lie in
+    /// the buffer meanwhile.
+    pub(super) fn wait(&mut self, place: usize, want: Want, data: &[u8], entries: &mut Entries) {
         let entry = entries.take();
         let seconds = self.accessor(place).timeout;
         let file = self.number;
@@ -31,6 +32,7 @@ impl MessageFile {
         let length = queue.len();
         let progress = Progress::Waiting { timer };
         self.accessor_mut(place).request = Some(Request { entry, want, progress });
+        self.refill(place, data);
         self.notes.add_if(length == 2, "queue reaches two");
         self.notes.add_if(length >= 3, "queue reaches three or more");
         let other_file = entries.timers.iter().any(|t| t.file != file);
@@ -47,19 +49,21 @@ impl MessageFile {
         }
     }
 
-    /// A waiting request goes to its accessor's reply port with its outcome.
+    /// A waiting request goes to its accessor's reply port with its outcome; a read's record lies in
+    /// the buffer then.
     pub(super) fn complete(
         &mut self,
         place: usize,
         status: u8,
         log: u16,
-        shown: Vec<u8>,
+        shown: &[u8],
         entries: &mut Entries,
     ) {
         self.leave_queue(place, entries);
         if let Some(request) = &mut self.accessor_mut(place).request {
-            request.progress = Progress::Completed { status, log, shown };
+            request.progress = Progress::Completed { status, log, size: shown.len() };
         }
+        self.refill(place, shown);
     }
 
     /// A waiting request is removed and nothing is left to collect.
@@ -68,5 +72,6 @@ impl MessageFile {
         if let Some(request) = self.accessor_mut(place).request.take() {
             entries.release(request.entry);
         }
+        self.refill(place, &[]);
     }
 }

@@ -1,8 +1,8 @@
 //! The three memories: what a desk's bytes are, and that they are read back as that desk.
 
-use super::vocabulary::Told::{Built, Done, Opened, Waiting};
-use super::vocabulary::{builds, controls, opens, passes, reads};
-use super::{after, WORKED};
+use super::vocabulary::Told::{Built, Done, Opened, TimedOut, Waiting};
+use super::vocabulary::{builds, collects, controls, opens, passes, reads};
+use super::{after, talk, WORKED};
 use crate::generator::Generator;
 use crate::model::desk::Desk;
 use crate::model::segment::{entry_word, file_row, place_row, Memories, SEGMENT_BYTES};
@@ -94,13 +94,39 @@ fn damaged_memories_are_not_sound() {
         bad.segment[at] = byte;
         assert_eq!(Desk::load_memories(&bad).err(), Some(why));
     }
-    let mut bad = good.clone();
-    bad.buffers[3] = 1;
-    assert_eq!(Desk::load_memories(&bad).err(), Some("a buffer behind what lies in it"));
-    // Nothing is asked of a file that is not built.
-    let mut odd = good;
-    odd.blocks[4096] = 7;
-    odd.buffers[16639] = 7;
-    let desk = Desk::load_memories(&odd).expect("sound");
-    assert!(desk.memories_over(&odd) == odd);
+    // In blocks 0 and 1: records put, words used, a record's length, type and ID.
+    for (at, byte, why) in [
+        (1, 2, "a block's records put"),
+        (3, 6, "a block's words used"),
+        (5, 13, "a record's length"),
+        (7, 3, "a record's type or ID"),
+        (9, 0, "a record's type or ID"),
+        (18 + 7, 1, "data in an open or close record"),
+    ] {
+        let mut bad = good.clone();
+        bad.blocks[at] = byte;
+        assert_eq!(Desk::load_memories(&bad).err(), Some(why));
+    }
+}
+
+/// A reply port has an entry only where its place is open.
+#[test]
+fn a_reply_port_of_a_place_not_open() {
+    let mut desk = after(&[
+        (builds(7, 4, 1, 1, 1), Built(3)),
+        (opens(7, 0, 3, 0), Opened(0, 0)),
+        (controls(7, 0, 4, 7), Done),
+        (reads(7, 0, 4), Waiting),
+        (passes(7), Done),
+    ]);
+    assert_eq!(desk.lists()[17 + 56], [0]);
+    let memories = desk.memories();
+    let mut closed = memories.clone();
+    closed.segment[2 * place_row(56)..2 * place_row(57)].fill(0);
+    assert_eq!(Desk::load_memories(&closed).err(), Some("a request of a place not open"));
+    let mut unbuilt = closed;
+    unbuilt.segment[2 * file_row(7)..2 * file_row(7) + 16].fill(0);
+    assert_eq!(Desk::load_memories(&unbuilt).err(), Some("a request of a file not built"));
+    talk(&mut desk, &[(collects(7, 0), TimedOut)]);
+    assert!(Desk::load_memories(&desk.memories()).is_ok());
 }

@@ -4,6 +4,7 @@
 mod isolation;
 mod library;
 mod memories;
+mod raw;
 mod reading;
 mod refusals;
 mod room;

@@ -5,7 +5,7 @@ use borrow.Author.Tests.{not-true, not-false}
 use Rattle.shares.specs.Sound.{sweep}
 use Rattle.ring.specs.Ring.{geo}
 use Rattle.ring.proofs.Laws.{wrapped-less}
-use Rattle.blocks.proofs.check.Laws.{sweep-done, sweep-end, sweep-bad, sweep-step}
+use Rattle.blocks.proofs.check.Laws.{sweep-done, sweep-end, sweep-room, sweep-bad, sweep-step}
 use borrow.Author.Needs.{needs}
 use Rattle.blocks.proofs.check.sweep.Statement.{statement}
 use Rattle.blocks.proofs.check.sweep.Tie as tie
@@ -25,6 +25,11 @@ loop-holds c = (refl, search needs, search needs)
 
 returns : tie.Need-returns Inv-loop μ-loop
 returns c = sym (c .before .before .loop .inv .0 ∙ sweep-done _ _ _ _ _ (c .if1 .taken))
+
+holds-requires : tie.Need-holds-requires Inv-loop μ-loop
+holds-requires c κs =
+    let r = sweep-room _ _ _ _ _ (c .block-span .ensures .0) (c .before .least .ensures) in
+    search needs
 
 returns-2 : tie.Need-returns-2 Inv-loop μ-loop
 returns-2 c =
@@ -67,7 +72,7 @@ sweep-spec =
     returns
     (λ c κs. search needs)
     (λ c κs. search needs)
-    (λ c κs. search needs)
+    holds-requires
     returns-2
     (λ c. search needs)
     (λ c κs. search needs)

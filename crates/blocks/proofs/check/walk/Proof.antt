@@ -1,82 +1,65 @@
--- `check::walk` meets its contract: an answer to each need, in the order of the code.
-use Prim.Native.Nat.{_≤_}
-use mathlib.Core.Path.{_≡_, refl, sym, _∙_}
-use borrow.Author.Tests.{not-true, not-false}
-use Rattle.shares.specs.Laid.{walk}
-use Rattle.shares.proofs.Laid.{fair-says}
-use Rattle.blocks.proofs.check.Laws.{walk-step, walk-bad, walk-off, walk-end}
+use Prim.Native.Nat.{_+_, _-_, _*_, _≤_}
+use mathlib.Core.Path.{sym, _∙_}
+use borrow.Author.Tests.{eq-eqb}
 use borrow.Author.Needs.{needs}
+use Rattle.blocks.proofs.quick.Laws.{rest-room}
 use Rattle.blocks.proofs.check.walk.Statement.{statement}
 use Rattle.blocks.proofs.check.walk.Tie as tie
 
-abbrev Inv-loop : tie.InvT-loop
-Inv-loop share words e end at n p₀ left₀ p left = (walk words share e end at n ≡ walk words share e end p left) × (p ≤ e)
-
-abbrev μ-loop : tie.MeasureT-loop
-μ-loop share words e end at n p₀ left₀ p left = left
-
-loop-holds : tie.Need-loop-holds Inv-loop μ-loop
-loop-holds c = (refl, search needs)
-
-loop-again : tie.Need-loop-again Inv-loop μ-loop
-loop-again c =
-    let w = c .before .whole .ensures (c .if1 .taken) in (
-      c .before .before .before .loop .inv .0
-          ∙ walk-step _ _ _ _ _ _ _ (c .before .before .loop-test .taken) (w .0) (sym (w .1)),
-      w .2,
-    )
-
-returns : tie.Need-returns Inv-loop μ-loop
+-- all are of the full size
+returns : tie.Need-returns
 returns c =
-    let here : tie.In-loop Inv-loop μ-loop = search in let loop-test = here .loop-test in
-    let here : tie.At-loop Inv-loop μ-loop = search in let loop = here .loop in
+    let start : tie.Start = search in
+    sym (c .before .all-whole .ensures (c .if2 .taken) _ _ (start .pre .2) ∙ eq-eqb _ _ (c .before .before .if1 .taken))
+
+-- there is room for the records that are left after those without data
+room : (c : tie.After-bare-first)
+    → let a = c .before .before .before .args in let k = c .bare-first .result in
+    a .at + 6 * k + (a .n - k) * (6 + 2 * a .words) ≤ a .e
+room c =
+    let start : tie.Start = search in
+    rest-room _ _ _ _ _ (c .bare-first .ensures .0) (start .pre .2)
+
+mul-if3 : tie.Need-mul-if3
+mul-if3 c = let start : tie.Start = search in let r = room c in search needs
+
+add-if3 : tie.Need-add-if3
+add-if3 c = let start : tie.Start = search in let r = room c in search needs
+
+all-whole-requires-2 : tie.Need-all-whole-requires-2
+all-whole-requires-2 c κs = let r = room (c .before) in search needs
+
+returns-2 : tie.Need-returns-2
+returns-2 c =
+    let here : tie.After-bare-first = search in let bare-first = here .bare-first in
+    let start : tie.Start = search in
     sym
-    (loop .inv .0
-    ∙ walk-bad _ _ _ _ _ _ (loop-test .taken) (sym (c .before .fair .ensures) ∙ not-true _ (c .if2 .taken)))
+    (bare-first .ensures .1 _ _ _ (search needs)
+    ∙ (c .before .all-whole2 .ensures (c .if4 .taken) _ _ (room here)
+    ∙ eq-eqb _ _ (c .before .before .if3 .taken)))
 
-next-requires : tie.Need-next-requires Inv-loop μ-loop
-next-requires c κs = let f = fair-says _ _ _ _ (sym (c .before .fair .ensures) ∙ not-false _ (c .if2 .left)) in search needs
-
-loop-again-2 : tie.Need-loop-again-2 Inv-loop μ-loop
-loop-again-2 c =
-    let here : tie.In-loop Inv-loop μ-loop = search in let loop-test = here .loop-test in
-    let here : tie.At-loop Inv-loop μ-loop = search in let loop = here .loop in
-    let t = sym (c .before .before .fair .ensures) ∙ not-false _ (c .before .if2 .left) in (
-      loop .inv .0 ∙ walk-step _ _ _ _ _ _ _ (loop-test .taken) t (c .next .ensures .0),
-      rw (c .next .ensures .0) (fair-says _ _ _ _ t .inside),
-    )
-
-returns-2 : tie.Need-returns-2 Inv-loop μ-loop
-returns-2 c = sym (c .before .before .loop .inv .0 ∙ walk-off _ _ _ _ _ _ (c .before .loop-test .left) (c .if3 .taken))
-
-returns-3 : tie.Need-returns-3 Inv-loop μ-loop
+returns-3 : tie.Need-returns-3
 returns-3 c =
-    c .quiet .ensures
-    ∙ sym
-    (c .before .before .before .loop .inv .0
-    ∙ walk-end _ _ _ _ _ _ (c .before .before .loop-test .left) (c .before .if3 .left))
+    let here : tie.After-bare-first = search in let bare-first = here .bare-first in
+    c .one-by-one .ensures ∙ sym (bare-first .ensures .1 _ _ _ (search needs))
 
 pub walk-spec : {M : Type 1} → statement M
 walk-spec =
     tie.close
     (tie.spec
-    Inv-loop
-    μ-loop
-    loop-holds
-    (λ c κs. search needs)
     (λ c. search needs)
     (λ c. search needs)
     (λ c. search needs)
     (λ c. search needs)
-    (λ c. search needs)
-    loop-again
     (λ c κs. search needs)
     returns
-    next-requires
+    (λ c κs. search needs)
     (λ c. search needs)
     (λ c. search needs)
-    loop-again-2
+    (λ c. search needs)
+    mul-if3
+    add-if3
+    all-whole-requires-2
     returns-2
-    (λ c. search needs)
     (λ c κs. search needs)
     returns-3)

@@ -8,23 +8,31 @@ use Rattle.closing.proofs.readers.last_gone.Tie as tie
 has-writer-requires : tie.Need-has-writer-requires
 has-writer-requires c κs =
     let start : tie.Start = search in
-    (gone-size _ _ (start .pre) .0, gone-size _ _ (start .pre) .1, gone-counts _ _ (start .pre))
+    (gone-size _ _ _ (start .pre) .0, gone-size _ _ _ (start .pre) .1, gone-counts _ _ _ (start .pre))
 
 end-readers-requires : tie.Need-end-readers-requires
 end-readers-requires c κs = let start : tie.Start = search in start .pre
 
 returns : tie.Need-returns
 returns c =
+    let here : tie.After-end-readers = search in let end-readers = here .end-readers in
     let here : tie.Then1 = search in let if1 = here .if1 in
     let here : tie.After-has-writer = search in let has-writer = here .has-writer in
-    λ n blocks buffers x o b M.
-    last-ends M _ (has-writer .ensures) (not-true _ (if1 .taken)) _
-    (c .before .before .end-readers .ensures n blocks buffers x o b M)
+    λ n blocks x o b M.
+    last-ends M _ (has-writer .ensures) (not-true _ (if1 .taken)) _ _
+    (end-readers .ensures n blocks x o b M)
 
 returns-2 : tie.Need-returns-2
-returns-2 c = λ n blocks buffers x o b M. last-not M _ (c .before .has-writer .ensures) (not-false _ (c .if1 .left))
+returns-2 c = λ n blocks x o b M. last-not M _ (c .before .has-writer .ensures) (not-false _ (c .if1 .left))
 
 pub last-gone-spec : {M : Type 1} → statement M
 last-gone-spec =
     tie.close
-    (tie.spec has-writer-requires end-readers-requires (λ c. search needs) returns (λ c. search needs) returns-2)
+    (tie.spec
+    has-writer-requires
+    end-readers-requires
+    (λ c. search needs)
+    (λ c. search needs)
+    returns
+    (λ c. search needs)
+    returns-2)

@@ -5,19 +5,19 @@ use lib.ListN.{length}
 use Rattle.words.specs.Word.{wordAt}
 use Rattle.rules.specs.TransferCounts.{countBytes}
 use borrow.Author.Tests.{eq-eqb, ne-eqb}
-use Rattle.rules.specs.Frames.{sized, frameOf}
+use Rattle.rules.specs.Frames.{ofLength, frameOf}
 use borrow.Author.Needs.{needs}
 use Rattle.frames.proofs.decoding.write_frame.Statement.{statement}
 use Rattle.frames.proofs.decoding.write_frame.Tie as tie
 
 returns : tie.Need-returns
-unfolding frameOf sized
+unfolding frameOf ofLength
 returns c =
     let fr = c .before .before .args .frame .now in
     rw (c .before .before .pre, ne-eqb (length fr) (5 + countBytes (wordAt fr 3)) (λ q. omega arith))
 
 returns-2 : tie.Need-returns-2
-unfolding frameOf sized
+unfolding frameOf ofLength
 returns-2 c =
     let here : tie.After-get = search in let get = here .get in
     let start : tie.Start = search in
@@ -29,7 +29,7 @@ returns-2 c =
     rw (start .pre, eq-eqb _ _ e, get .ensures)
 
 returns-3 : tie.Need-returns-3
-unfolding frameOf sized
+unfolding frameOf ofLength
 returns-3 c =
     let start : tie.Start = search in
     let fr = start .args .frame .now in

@@ -10,7 +10,7 @@ returns : tie.Need-returns
 returns c =
     let start : tie.Start = search in
     sym
-    (all-off _ _ _ _ (start .pre .1 .0) (start .pre .1 .1) _ _
+    (all-off _ _ _ (start .pre .1 .0) (start .pre .1 .1) _ _
     (ill _ _ _ (c .before .free-walk .ensures _) (c .if1 .taken)))
 
 returns-2 : tie.Need-returns-2
@@ -19,7 +19,7 @@ returns-2 c =
     let here : tie.After-free-walk = search in let free-walk = here .free-walk in
     let start : tie.Start = search in
     sym
-    (reads-off _ _ _ _ (start .pre .1 .0) (start .pre .1 .1) _ _ (well _ _ _ (free-walk .ensures _) (if1 .left))
+    (reads-off _ _ _ (start .pre .1 .0) (start .pre .1 .1) _ _ (well _ _ _ (free-walk .ensures _) (if1 .left))
     _ _ (ill _ _ _ (c .before .queue-walks .ensures) (c .if2 .taken)))
 
 returns-3 : tie.Need-returns-3
@@ -30,7 +30,7 @@ returns-3 c =
     let here : tie.After-free-walk = search in let free-walk = here .free-walk in
     let start : tie.Start = search in
     sym
-    (writes-off _ _ _ _ (start .pre .1 .0) (start .pre .1 .1) _ _ (well _ _ _ (free-walk .ensures _) (if1 .left))
+    (writes-off _ _ _ (start .pre .1 .0) (start .pre .1 .1) _ _ (well _ _ _ (free-walk .ensures _) (if1 .left))
     _ _ (well _ _ _ (queue-walks .ensures) (if2 .left)) _ _
     (ill _ _ _ (c .before .queue-walks2 .ensures) (c .if3 .taken)))
 
@@ -44,7 +44,7 @@ returns-4 c =
     let here : tie.After-free-walk = search in let free-walk = here .free-walk in
     let start : tie.Start = search in
     sym
-    (ports-off _ _ _ _ (start .pre .1 .0) (start .pre .1 .1) _ _ (well _ _ _ (free-walk .ensures _) (if1 .left))
+    (ports-off _ _ _ (start .pre .1 .0) (start .pre .1 .1) _ _ (well _ _ _ (free-walk .ensures _) (if1 .left))
     _ _ (well _ _ _ (queue-walks .ensures) (if2 .left)) _ _ (well _ _ _ (queue-walks2 .ensures) (if3 .left)) _ _
     (ill _ _ _ (c .before .port-walks .ensures) (c .if4 .taken)))
 
@@ -60,7 +60,7 @@ returns-5 c =
     let start : tie.Start = search in
     c .timer-walk .ensures
     ∙ sym
-    (ports-on _ _ _ _ (start .pre .1 .0) (start .pre .1 .1) _ _ (well _ _ _ (free-walk .ensures _) (if1 .left))
+    (ports-on _ _ _ (start .pre .1 .0) (start .pre .1 .1) _ _ (well _ _ _ (free-walk .ensures _) (if1 .left))
     _ _ (well _ _ _ (queue-walks .ensures) (if2 .left)) _ _ (well _ _ _ (queue-walks2 .ensures) (if3 .left)) _
     _ (well _ _ _ (port-walks .ensures) (c .before .before .before .if4 .left)))
 

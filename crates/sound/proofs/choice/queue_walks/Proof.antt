@@ -5,7 +5,7 @@ use Rattle.sound.proofs.choice.queue_walks.Statement.{statement}
 use Rattle.sound.proofs.choice.queue_walks.Tie as tie
 
 returns : tie.Need-returns
-returns c = sym (c .before .no-queues .ensures (c .if1 .taken) _ _ _)
+returns c = sym (c .before .no-queues .ensures (c .if1 .taken) _ _)
 
 pub queue-walks-spec : {M : Type 1} → statement M
 queue-walks-spec = tie.close (tie.spec (λ c κs. search needs) returns (λ c κs. search needs) (λ c. search needs))

@@ -36,19 +36,14 @@ size-too-large c =
     let side : tie.After-place-word = search in
     rw (← side .place-word .ensures, ← c .before .before .get3 .ensures, ← c .before .most-size .ensures, lt-leb _ _ (c .if6 .taken), and-false)
 
-words-after : tie.Need-returns-7
-unfolding portEntry
-words-after c = rw (failed (c .before .zero-words2 .ensures) (c .if7 .taken), and-false)
-
-all-but-buffer : tie.Need-returns-8
+all-but-words-after : tie.Need-returns-7
 unfolding portEntry placeIn sizeIn sideAt entryWord
-all-but-buffer c =
+all-but-words-after c =
     let place : tie.Else1 = search in
     let idle : tie.Else2 = search in
     let side : tie.Else3 = search in
     let between : tie.Else4 = search in
     let status : tie.Else5 = search in
-    let size : tie.Else6 = search in
     rw (
       ← place .before .get .ensures,
       eq-eqb _ _ (place .if1 .left),
@@ -58,11 +53,10 @@ all-but-buffer c =
       held (between .before .zero-words .ensures) (between .if4 .left),
       ← status .before .get2 .ensures,
       lt-ltb _ _ (status .if5 .left),
-      ← size .before .before .get3 .ensures,
-      ← size .before .most-size .ensures,
-      le-leb _ _ (size .if6 .left),
-      held (c .before .before .zero-words2 .ensures) (c .before .if7 .left),
-    ) (c .rest-zero .ensures)
+      ← c .before .before .before .get3 .ensures,
+      ← c .before .before .most-size .ensures,
+      le-leb _ _ (c .before .if6 .left),
+    ) (c .two-bare .ensures)
 
 pub port-entry-spec : {M : Type 1} → statement M
 port-entry-spec =
@@ -90,7 +84,4 @@ port-entry-spec =
     size-too-large
     (λ c. search needs)
     (λ c κs. search needs)
-    words-after
-    (λ c. search needs)
-    (λ c κs. search needs)
-    all-but-buffer)
+    all-but-words-after)

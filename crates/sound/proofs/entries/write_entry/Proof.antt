@@ -1,10 +1,9 @@
 -- `entries::write_entry` meets its contract. A way out is named after what it refuses, and cites only the test that failed.
 use mathlib.Core.Bool.{and-false}
-use native.Mathlib.Omega.{arith}
 use borrow.Author.Tests.{le-leb, lt-leb}
-use Rattle.sound.specs.Walks.{entryWord, placeIn, sizeIn, writeEntry}
+use Rattle.sound.specs.Walks.{entryWord, sizeIn, writeEntry}
 use Rattle.sound.specs.Parts.{owned}
-use Rattle.sound.proofs.Steps.{held, failed, owned-place}
+use Rattle.sound.proofs.Steps.{held, failed}
 use borrow.Author.Needs.{needs}
 use Rattle.sound.proofs.entries.write_entry.Statement.{statement}
 use Rattle.sound.proofs.entries.write_entry.Tie as tie
@@ -25,35 +24,21 @@ size-too-large : tie.Need-returns-4
 unfolding writeEntry sizeIn entryWord
 size-too-large c = rw (← c .before .before .get2 .ensures, ← c .before .file-word .ensures, lt-leb _ _ (c .if4 .taken), and-false)
 
-words-after : tie.Need-returns-5
-unfolding writeEntry
-words-after c = rw (failed (c .before .zero-words2 .ensures) (c .if5 .taken), and-false)
-
-rest-zero-requires : tie.Need-rest-zero-requires
-rest-zero-requires c κs =
-    let own : tie.Else1 = search in
-    let h = owned-place _ _ _ _ _ _ (c .get3 .ensures) (held (own .before .owned .ensures) (own .if1 .left)) in
-    omega arith
-
-all-but-buffer : tie.Need-returns-6
-unfolding writeEntry owned placeIn sizeIn entryWord
-all-but-buffer c =
+all-but-words-after : tie.Need-returns-5
+unfolding writeEntry owned sizeIn entryWord
+all-but-words-after c =
     let own : tie.Else1 = search in
     let unit : tie.Else2 = search in
     let between : tie.Else3 = search in
-    let size : tie.Else4 = search in
-    let zeros : tie.Else5 = search in
     rw (
       held (own .before .owned .ensures) (own .if1 .left),
       ← unit .before .get .ensures,
       le-leb _ _ (unit .if2 .left),
       held (between .before .zero-words .ensures) (between .if3 .left),
-      ← size .before .before .get2 .ensures,
-      ← size .before .file-word .ensures,
-      le-leb _ _ (size .if4 .left),
-      held (zeros .before .zero-words2 .ensures) (zeros .if5 .left),
-      ← c .before .get3 .ensures,
-    ) (c .rest-zero .ensures)
+      ← c .before .before .before .get2 .ensures,
+      ← c .before .before .file-word .ensures,
+      le-leb _ _ (c .before .if4 .left),
+    ) (c .two-bare .ensures)
 
 pub write-entry-spec : {M : Type 1} → statement M
 write-entry-spec =
@@ -78,10 +63,4 @@ write-entry-spec =
     size-too-large
     (λ c. search needs)
     (λ c κs. search needs)
-    words-after
-    (λ c. search needs)
-    (λ c κs. search needs)
-    (λ c. search needs)
-    (λ c. search needs)
-    rest-zero-requires
-    all-but-buffer)
+    all-but-words-after)

@@ -7,12 +7,12 @@ use Rattle.sound.proofs.walks.port_walk.Statement.{statement}
 use Rattle.sound.proofs.walks.port_walk.Tie as tie
 
 returns : tie.Need-returns
-returns c = sym (port-end _ _ _ _ _ _ (c .before .get .ensures) (c .if1 .taken))
+returns c = sym (port-end _ _ _ _ _ (c .before .get .ensures) (c .if1 .taken))
 
 returns-2 : tie.Need-returns-2
 returns-2 c =
     sym
-    (port-bad _ _ _ _ _ _ (c .before .before .before .get .ensures) (c .before .before .if1 .left)
+    (port-bad _ _ _ _ _ (c .before .before .before .get .ensures) (c .before .before .if1 .left)
     (rw (ne-eqb _ _ (c .if2 .taken))))
 
 returns-3 : tie.Need-returns-3
@@ -20,7 +20,7 @@ returns-3 c =
     let here : tie.Else1 = search in let if1 = here .if1 in
     let here : tie.After-get = search in let get = here .get in
     sym
-    (port-bad _ _ _ _ _ _ (get .ensures) (if1 .left)
+    (port-bad _ _ _ _ _ (get .ensures) (if1 .left)
     (rw (
       eq-eqb _ _ (c .before .before .before .if2 .left),
       failed (c .before .port-entry .ensures) (c .if3 .taken),
@@ -32,7 +32,7 @@ returns-4 c =
     let here : tie.Else1 = search in let if1 = here .if1 in
     let here : tie.After-get = search in let get = here .get in
     sym
-    (port-bad _ _ _ _ _ _ (get .ensures) (if1 .left)
+    (port-bad _ _ _ _ _ (get .ensures) (if1 .left)
     (rw (
       eq-eqb _ _ (if2 .left),
       held (c .before .before .before .port-entry .ensures) (c .before .before .if3 .left),
@@ -46,7 +46,7 @@ returns-5 c =
     let here : tie.Else1 = search in let if1 = here .if1 in
     let here : tie.After-get = search in let get = here .get in
     sym
-    (port-good _ _ _ _ _ _ (get .ensures) (if1 .left)
+    (port-good _ _ _ _ _ (get .ensures) (if1 .left)
     (rw (
       eq-eqb _ _ (if2 .left),
       held (c .before .before .before .port-entry .ensures) (c .before .before .if3 .left),

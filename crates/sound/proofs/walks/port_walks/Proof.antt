@@ -10,12 +10,12 @@ use Rattle.sound.proofs.walks.port_walks.Statement.{statement}
 use Rattle.sound.proofs.walks.port_walks.Tie as tie
 
 abbrev Inv-loop : tie.InvT-loop
-Inv-loop s buffers seen₀ busy₀ i₀ seen busy i =
+Inv-loop s seen₀ busy₀ i₀ seen busy i =
     (i ≤ deskPlaces)
-    × (portWalks s buffers 0 seen₀ busy₀ deskPlaces ≡ portWalks s buffers i seen busy (deskPlaces - i))
+    × (portWalks s 0 seen₀ busy₀ deskPlaces ≡ portWalks s i seen busy (deskPlaces - i))
 
 abbrev μ-loop : tie.MeasureT-loop
-μ-loop s buffers seen₀ busy₀ i₀ seen busy i = deskPlaces - i
+μ-loop s seen₀ busy₀ i₀ seen busy i = deskPlaces - i
 
 loop-holds : tie.Need-loop-holds Inv-loop μ-loop
 loop-holds c = (omega arith, refl)
@@ -25,7 +25,7 @@ returns c =
     let here : tie.At-loop Inv-loop μ-loop = search in let loop = here .loop in
     sym
     (loop .inv .1
-    ∙ ports-bad _ _ _ _ _ _ _ _ (omega arith) (ill _ _ _ (c .before .port-walk .ensures) (c .if1 .taken)))
+    ∙ ports-bad _ _ _ _ _ _ _ (omega arith) (ill _ _ _ (c .before .port-walk .ensures) (c .if1 .taken)))
 
 loop-again : tie.Need-loop-again Inv-loop μ-loop
 loop-again c =
@@ -34,7 +34,7 @@ loop-again c =
       omega arith,
       rw m
           (loop .inv .1
-          ∙ ports-step _ _ _ _ _ _ _ _ (omega arith) (well _ _ _ (c .before .port-walk .ensures) (c .if1 .left))),
+          ∙ ports-step _ _ _ _ _ _ _ (omega arith) (well _ _ _ (c .before .port-walk .ensures) (c .if1 .left))),
     )
 
 returns-2 : tie.Need-returns-2 Inv-loop μ-loop

@@ -11,12 +11,12 @@ use Rattle.sound.proofs.walks.queue_walk.Statement.{statement}
 use Rattle.sound.proofs.walks.queue_walk.Tie as tie
 
 abbrev Inv-loop : tie.InvT-loop
-Inv-loop s buffers side f head seen₀ busy₀ p₀ left₀ seen busy p left =
+Inv-loop s side f head seen₀ busy₀ p₀ left₀ seen busy p left =
     (p < fileRows)
-    × (queueWalk s buffers side f head seen₀ busy₀ (entries + 1) ≡ queueWalk s buffers side f p seen busy left)
+    × (queueWalk s side f head seen₀ busy₀ (entries + 1) ≡ queueWalk s side f p seen busy left)
 
 abbrev μ-loop : tie.MeasureT-loop
-μ-loop s buffers side f head seen₀ busy₀ p₀ left₀ seen busy p left = left
+μ-loop s side f head seen₀ busy₀ p₀ left₀ seen busy p left = left
 
 loop-holds : tie.Need-loop-holds Inv-loop μ-loop
 loop-holds c = (omega arith, refl)
@@ -25,7 +25,7 @@ returns : tie.Need-returns Inv-loop μ-loop
 returns c =
     sym
     (c .before .before .before .loop .inv .1
-    ∙ queue-end _ _ _ _ _ _ _ _ (c .before .get .ensures) _ (c .before .before .loop-test .taken)
+    ∙ queue-end _ _ _ _ _ _ _ (c .before .get .ensures) _ (c .before .before .loop-test .taken)
     (c .if1 .taken))
 
 returns-2 : tie.Need-returns-2 Inv-loop μ-loop
@@ -34,7 +34,7 @@ returns-2 c =
     let here : tie.At-loop Inv-loop μ-loop = search in let loop = here .loop in
     sym
     (loop .inv .1
-    ∙ queue-bad _ _ _ _ _ _ _ _ (c .before .before .before .get .ensures) _ (loop-test .taken)
+    ∙ queue-bad _ _ _ _ _ _ _ (c .before .before .before .get .ensures) _ (loop-test .taken)
     (c .before .before .if1 .left) (met-before _ (c .if2 .taken)))
 
 returns-3 : tie.Need-returns-3 Inv-loop μ-loop
@@ -45,7 +45,7 @@ returns-3 c =
     let here : tie.At-loop Inv-loop μ-loop = search in let loop = here .loop in
     sym
     (loop .inv .1
-    ∙ queue-bad _ _ _ _ _ _ _ _ (get .ensures) _ (loop-test .taken) (if1 .left)
+    ∙ queue-bad _ _ _ _ _ _ _ (get .ensures) _ (loop-test .taken) (if1 .left)
     (unfit (c .before .before .before .if2 .left) (failed (c .before .queue-entry .ensures) (c .if3 .taken))))
 
 element-write-busy : tie.Need-element-write-busy Inv-loop μ-loop
@@ -53,7 +53,7 @@ element-write-busy c =
     let here : tie.After-get Inv-loop μ-loop = search in let get = here .get in
     let here : tie.At-loop Inv-loop μ-loop = search in let loop = here .loop in
     let start : tie.Start Inv-loop μ-loop = search in
-    let h = queue-place (start .args .s .now) (start .args .buffers .now) (loop .busy) (start .args .side)
+    let h = queue-place (start .args .s .now) (loop .busy) (start .args .side)
     (start .args .f) (get .result) _ (c .get2 .ensures)
     (held (c .before .before .queue-entry .ensures) (c .before .if3 .left)) in
     omega arith
@@ -69,7 +69,7 @@ loop-again c =
       omega arith,
       rw (c .get2 .ensures)
           (loop .inv .1
-          ∙ queue-step _ _ _ _ _ _ _ _ (get .ensures) _ (loop-test .taken) (if1 .left)
+          ∙ queue-step _ _ _ _ _ _ _ (get .ensures) _ (loop-test .taken) (if1 .left)
           (both-held (if2 .left) (held (c .before .before .queue-entry .ensures) (c .before .if3 .left)))),
     )
 

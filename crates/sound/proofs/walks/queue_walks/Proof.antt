@@ -9,11 +9,11 @@ use Rattle.sound.proofs.walks.queue_walks.Statement.{statement}
 use Rattle.sound.proofs.walks.queue_walks.Tie as tie
 
 abbrev Inv-loop : tie.InvT-loop
-Inv-loop s buffers side seen₀ busy₀ f₀ seen busy f =
-    (f ≤ 8) × (queueWalks s buffers side 0 seen₀ busy₀ 8 ≡ queueWalks s buffers side f seen busy (8 - f))
+Inv-loop s side seen₀ busy₀ f₀ seen busy f =
+    (f ≤ 8) × (queueWalks s side 0 seen₀ busy₀ 8 ≡ queueWalks s side f seen busy (8 - f))
 
 abbrev μ-loop : tie.MeasureT-loop
-μ-loop s buffers side seen₀ busy₀ f₀ seen busy f = 8 - f
+μ-loop s side seen₀ busy₀ f₀ seen busy f = 8 - f
 
 loop-holds : tie.Need-loop-holds Inv-loop μ-loop
 loop-holds c = (omega arith, refl)
@@ -24,7 +24,7 @@ returns c =
     let here : tie.At-loop Inv-loop μ-loop = search in let loop = here .loop in
     sym
     (loop .inv .1
-    ∙ queues-bad _ _ _ _ _ (queue-of .ensures .0) _ _ _ _ _ (omega arith)
+    ∙ queues-bad _ _ _ _ (queue-of .ensures .0) _ _ _ _ _ (omega arith)
     (ill _ _ _ (c .before .queue-walk .ensures) (c .if1 .taken)))
 
 loop-again : tie.Need-loop-again Inv-loop μ-loop
@@ -35,7 +35,7 @@ loop-again c =
       omega arith,
       rw m
           (loop .inv .1
-          ∙ queues-step _ _ _ _ _ (queue-of .ensures .0) _ _ _ _ _ (omega arith)
+          ∙ queues-step _ _ _ _ (queue-of .ensures .0) _ _ _ _ _ (omega arith)
           (well _ _ _ (c .before .queue-walk .ensures) (c .if1 .left))),
     )
 

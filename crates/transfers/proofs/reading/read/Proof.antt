@@ -210,7 +210,7 @@ wait-read-requires c κs =
     let began = may-began may in
     let F = fit (began-start began) in
     let free = read-free (known (began-start began)) (unserved began) in
-    ((free .0, F .file, omega (arith, F .file, F .place), free .1), free .2)
+    ((free .0, F .buffers-size, F .file, omega (arith, F .file, F .place), free .1), free .2)
 
 conclude-requires : tie.Need-conclude-requires
 unfolding placeOf
@@ -220,7 +220,7 @@ conclude-requires c κs =
     let may : tie.After-may-wait = search in
     let began = may-began may in
     let start = began-start began in
-    (_, _, read-waits (known start) (unserved began) {memory = start .args .answer .now} (may-wait may (then .if2 .taken)) (wait .wait-read .ensures) .acts .mid)
+    (_, _, read-waits (known start) (unserved began) {memory = start .args .answer .now} (may-wait may (then .if2 .taken)) (wait .wait-read .ensures .0) (wait .wait-read .ensures .1) .acts .mid)
 
 returns-2 : tie.Need-returns-2
 unfolding placeOf
@@ -233,7 +233,7 @@ returns-2 c =
     let began = may-began may in
     λ d s S.
     rw (told .unserved .ensures)
-    (gave-of (settled .conclude .ensures) (S .stands .bodies) (read-waits (reads (began-start began) S) (unserved began) (may-wait may (then .if2 .taken)) (wait .wait-read .ensures)))
+    (gave-of (settled .conclude .ensures) (S .stands .bodies) (read-waits (reads (began-start began) S) (unserved began) (may-wait may (then .if2 .taken)) (wait .wait-read .ensures .0) (wait .wait-read .ensures .1)))
 
 conclude-requires-2 : tie.Need-conclude-requires-2
 conclude-requires-2 c κs =

@@ -13,16 +13,27 @@ wait-requires c κs =
     let unit : tie.After-unit = search in
     let m : tie.After-waiting-read = search in (
       start .pre .0 .0,
-      (omega (arith, start .pre .0 .1), start .pre .0 .3, rw (m .waiting-read .ensures, unit .unit .ensures) (start .pre .1)),
+      (omega (arith, start .pre .0 .2), start .pre .0 .4, rw (m .waiting-read .ensures, unit .unit .ensures) (start .pre .1)),
     )
 
 returns : tie.Need-returns
 unfolding readEntry entryWords
 returns c =
     let here : tie.After-unit = search in let unit = here .unit in
+    let here : tie.After-clear-at = search in let clear = here .clear-at in
     let m : tie.After-waiting-read = search in
-    rw (← unit .ensures) (rw (m .waiting-read .ensures) at (c .before .before .wait .ensures))
+    (rw (← unit .ensures) (rw (m .waiting-read .ensures) at (c .before .before .wait .ensures)), clear .ensures)
 
 pub wait-read-spec : {M : Type 1} → statement M
 wait-read-spec =
-    tie.close (tie.spec (λ c. search needs) (λ c κs. search needs) (λ c κs. search needs) (λ c. search needs) wait-requires (λ c. search needs) returns)
+    tie.close
+    (tie.spec
+    (λ c. search needs)
+    (λ c κs. search needs)
+    (λ c κs. search needs)
+    (λ c κs. search needs)
+    (λ c. search needs)
+    wait-requires
+    (λ c. search needs)
+    (λ c. search needs)
+    returns)

@@ -9,15 +9,15 @@ use Rattle.sound.proofs.quick.heads.no_queues.Tie as tie
 
 returns : tie.Need-returns
 returns c =
-    λ h bufs seen busy.
-    queues-none _ bufs seen busy (c .before .before .before .args .side) files 0 writeQueues
+    λ h seen busy.
+    queues-none _ seen busy (c .before .before .before .args .side) files 0 writeQueues
     (λ g. rw (eq-eqb (c .before .before .before .args .side) 2 (c .before .if1 .taken)))
     (sym (c .ones .ensures) ∙ h)
 
 returns-2 : tie.Need-returns-2
 returns-2 c =
-    λ h bufs seen busy.
-    queues-none _ bufs seen busy (c .before .before .before .args .side) files 0 readQueues
+    λ h seen busy.
+    queues-none _ seen busy (c .before .before .before .args .side) files 0 readQueues
     (λ g. rw (ne-eqb (c .before .before .before .args .side) 2 (c .before .if1 .left)))
     (sym (c .ones2 .ensures) ∙ h)
 

@@ -6,7 +6,7 @@ use Rattle.sound.proofs.quick.heads.no_replies.Statement.{statement}
 use Rattle.sound.proofs.quick.heads.no_replies.Tie as tie
 
 returns : tie.Need-returns
-returns c = λ h bufs seen busy. ports-none _ bufs seen busy deskPlaces 0 (sym (c .ones .ensures) ∙ h)
+returns c = λ h seen busy. ports-none _ seen busy deskPlaces 0 (sym (c .ones .ensures) ∙ h)
 
 pub no-replies-spec : {M : Type 1} → statement M
 no-replies-spec = tie.close (tie.spec (λ c. search needs) (λ c. search needs) (λ c. search needs) (λ c κs. search needs) returns)
