@@ -14,6 +14,7 @@ use kinds::sides::READER;
 use kinds::sides::WRITER;
 use segment::layout;
 use words::joined::eight;
+use words::joined::four;
 ghost use mathlib.Core.Path.{_≡_};
 ghost use Prim.Native.Nat.{_+_, _*_, _≤_, _<_};
 ghost use lib.ListN.{length, replicate};
@@ -25,9 +26,12 @@ ghost use Rattle.sound.specs.Walks.{walked, queueWalks, portWalks, allWa
 // The four settings of a place that neither read nor wrote yet, as one number, low byte first: `first`, the last of them, is 1, and the others are 0.
 const FIRST_ALONE: u64 = 72057594037927936;
 
+// What `four` gives for a reader's side and ID: 1 and 0.
+const A_READER: u64 = 256;
+
 // Whether the row of place i is sound. Its fields are read as two numbers: one of side, ID, share and timeout, one of the settings. `closed-row` and `open-row`
 // (proofs/quick/Settings.antt): if the spare words are zero, the plain test of a place that is not open asks that both are 0; of an open place with no setting
-// on, or `first` alone, it asks only side and ID.
+// on, or `first` alone, it asks only side and ID, which a reader has in one number.
 fn place_ok(s: &[u8], i: usize) -> bool
     requires { ⌜ (length (now s) ≡ segmentBytes) × (i < files * places) ⌝ }
     ensures { λ r. ⌜ r ≡ placeOk (now (s .entry)) i ⌝ }
@@ -43,6 +47,9 @@ fn place_ok(s: &[u8], i: usize) -> bool
     let settings = eight(s, at + 8);
     if settings != 0 && settings != FIRST_ALONE {
         return rows::place_ok(s, i);
+    }
+    if four(s, at) == A_READER {
+        return true;
     }
     let side = place_word(s, i, layout::PLACE_SIDE);
     let id = place_word(s, i, layout::PLACE_ID);

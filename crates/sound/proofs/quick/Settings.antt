@@ -91,6 +91,17 @@ switches-first s k p at l =
     let low : getD s (2 * (k + 3) + 1) 0 ≡ 1 = rw q at (h .1 .1) in
     (omega (arith, a .0), omega (arith, b .0), omega (arith, third), omega (arith, high, low))
 
+-- a reader's side and ID
+pub a-reader : (s : List ℕ) (k p : ℕ) → Led s p 1 2 → p ≡ 2 * k → (1 ≡ nth s (k + 0)) × (0 ≡ nth s (k + 1))
+unfolding Led nth
+a-reader s k p l at =
+    let h : Led s (2 * k) 1 2 = rw at at l in
+    let q : 2 * k + 2 ≡ 2 * (k + 1) = omega arith in
+    let o : k + 0 ≡ k = omega arith in
+    let z : quiet s (2 * (k + 1)) 2 ≡ true = rw q at (h .2) in
+    let i = first-zero s (k + 1) 1 (omega arith) (sym (zero-bytes s 1 (k + 1)) ∙ z) in
+    (rw o (omega (arith, h .0, h .1)), sym (i .0))
+
 -- where something stands before the settings, and each of them is 0 or 1
 module _ (s : List ℕ) (i a : ℕ) (none : zeroWords s (placeRowAt i + placeFields) placeSpare ≡ true) (ea : eqb a 0 ≡ quiet s (2 * placeRowAt i) 8) (ha : a ≡ 0 → ⊥) (fair : Switches s (placeRowAt i + 4)) where
   row-filled : zeroWords s (placeRowAt i) placeWidth ≡ false
