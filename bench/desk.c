@@ -9,52 +9,50 @@ uint8_t answer[TENDRILHOOK_ANSWER_BYTES];
 
 const char *const state_names[STATES] = { "one file", "crowded", "holding", "full", "wide", "scattered" };
 
-enum { BUILD = 1, OPEN, READ, WRITE, CONTROL, DONE = 0, WAITING = 1, TIMEOUT = 4, ABORT = 43, EXTENDED = 45, READS = 0, APPENDS = 3, SHARED = 3 };
 enum { PLACES = 64, ENTRIES = 128 };
 
-size_t ask(const uint8_t *frame, size_t length)
+static uint8_t frame[TENDRILHOOK_FRAME_BYTES];
+
+size_t ask(const uint8_t *asked, size_t length)
 {
-    return tendrilhook_event(segment, sizeof segment, blocks, sizeof blocks, buffers, sizeof buffers, answer, sizeof answer, frame, length);
+    return tendrilhook_event(segment, sizeof segment, blocks, sizeof blocks, buffers, sizeof buffers, answer, sizeof answer, asked, length);
 }
 
-/* Asks an event that must be answered with this status. */
-static void must(uint8_t status, const uint8_t *frame, size_t length)
+/* Sends the frame, which must be answered with this status. */
+static void must(int status, size_t length)
 {
-    if (ask(frame, length) < 2 || answer[1] != status) {
-        fprintf(stderr, "bench: operation %d of file %d is answered %d, not %d\n", frame[0], frame[1], answer[1], status);
+    const int given = tendrilhook_answer_status(answer, ask(frame, length));
+    if (given != status) {
+        fprintf(stderr, "bench: operation %d of file %d is answered %d, not %d\n", frame[0], frame[1], given, status);
         exit(1);
     }
 }
 
-static void build(uint8_t file, uint8_t words, uint8_t factor, uint8_t records)
+static void build(uint8_t file, uint16_t words, uint8_t factor, uint16_t records)
 {
-    const uint8_t frame[] = { BUILD, file, 0, words, factor, 0, records, 1 };
-    must(DONE, frame, sizeof frame);
+    must(TENDRILHOOK_DONE, tendrilhook_frame_build(frame, file, words, factor, records, 1));
 }
 
-static void open_place(uint8_t file, uint8_t access)
+static void open_place(uint8_t file, enum tendrilhook_access access)
 {
-    const uint8_t frame[] = { OPEN, file, access, SHARED, 0 };
-    must(DONE, frame, sizeof frame);
+    must(TENDRILHOOK_DONE, tendrilhook_frame_open(frame, file, access, TENDRILHOOK_SHARE_BOTH, TENDRILHOOK_MULTI_DEFAULT));
 }
 
-static void control(uint8_t file, uint8_t place, uint8_t code, uint8_t parameter)
+static void control(uint8_t file, uint8_t place, enum tendrilhook_control code, uint16_t parameter)
 {
-    const uint8_t frame[] = { CONTROL, file, place, code, 0, parameter };
-    must(DONE, frame, sizeof frame);
+    must(TENDRILHOOK_DONE, tendrilhook_frame_control(frame, file, place, code, parameter));
 }
 
-static void write_words(uint8_t file, uint8_t place, uint8_t status, uint8_t words)
+static void write_words(uint8_t file, uint8_t place, int status, size_t words)
 {
-    uint8_t frame[5 + 256] = { WRITE, file, place, 0, words };
-    memset(frame + 5, 0x5A, sizeof frame - 5);
-    must(status, frame, 5 + 2u * words);
+    uint8_t data[TENDRILHOOK_DATA_BYTES];
+    memset(data, 0x5A, sizeof data);
+    must(status, tendrilhook_frame_write_words(frame, file, place, data, words));
 }
 
-static void read_words(uint8_t file, uint8_t place, uint8_t status, uint8_t words)
+static void read_words(uint8_t file, uint8_t place, int status, size_t words)
 {
-    const uint8_t frame[] = { READ, file, place, 0, words };
-    must(status, frame, sizeof frame);
+    must(status, tendrilhook_frame_read_words(frame, file, place, words));
 }
 
 /* Builds the other seven files, with records of 16 bytes, and opens all their places: the given number of readers each, and writers at the rest. */
@@ -62,7 +60,7 @@ static void open_all(uint8_t readers)
 {
     for (uint8_t file = 1; file < 8; file++) {
         build(file, 8, 16, 172);
-        for (int n = 0; n < 8; n++) open_place(file, n < readers ? READS : APPENDS);
+        for (int n = 0; n < 8; n++) open_place(file, n < readers ? TENDRILHOOK_ACCESS_READ : TENDRILHOOK_ACCESS_APPEND);
     }
 }
 
@@ -72,17 +70,17 @@ static void shuffle(void)
     static const uint8_t order[] = { 2, 0, 3, 1 };
     for (uint8_t place = 0; place < 4; place++)
         for (uint8_t file = 1; file < 8; file++) {
-            control(file, place, TIMEOUT, (uint8_t)(10 + place));
-            read_words(file, place, WAITING, 8);
+            control(file, place, TENDRILHOOK_CONTROL_TIMEOUT, (uint16_t)(10 + place));
+            read_words(file, place, TENDRILHOOK_WAITING, 8);
         }
     for (int n = 0; n < 4; n++)
-        for (uint8_t file = 7; file > 0; file--) control(file, order[n], ABORT, 0);
+        for (uint8_t file = 7; file > 0; file--) control(file, order[n], TENDRILHOOK_CONTROL_ABORT, 0);
 }
 
 static void hold(int records)
 {
     for (uint8_t file = 1; file < 8; file++)
-        for (int n = 0; n < records; n++) write_words(file, 7, DONE, 8);
+        for (int n = 0; n < records; n++) write_words(file, 7, TENDRILHOOK_DONE, 8);
 }
 
 /* Writes to the other files until no more fits; then each of their writers waits with a timeout. */
@@ -90,11 +88,13 @@ static void fill(void)
 {
     for (uint8_t file = 1; file < 8; file++)
         for (uint8_t place = 1; place < 8; place++) {
-            control(file, place, TIMEOUT, (uint8_t)(100 + file));
+            static const uint8_t zeros[16];
+            int status;
+            control(file, place, TENDRILHOOK_CONTROL_TIMEOUT, (uint16_t)(100 + file));
             do {
-                uint8_t frame[5 + 16] = { WRITE, file, place, 0, 8 };
-                if (ask(frame, sizeof frame) < 2) exit(1);
-            } while (answer[1] != WAITING);
+                status = tendrilhook_answer_status(answer, ask(frame, tendrilhook_frame_write_words(frame, file, place, zeros, 8)));
+                if (status == TENDRILHOOK_UNSOUND) exit(1);
+            } while (status != TENDRILHOOK_WAITING);
         }
 }
 
@@ -110,7 +110,7 @@ static void widen(void)
 {
     for (uint8_t file = 1; file < 8; file++) {
         build(file, 100, 16, 14);
-        open_place(file, APPENDS);
+        open_place(file, TENDRILHOOK_ACCESS_APPEND);
     }
 }
 
@@ -133,15 +133,15 @@ static int neighbours(void)
 static void wait_and_abort(int timed, unsigned *random)
 {
     uint8_t order[PLACES];
-    control(0, 0, TIMEOUT, (uint8_t)timed);
+    control(0, 0, TENDRILHOOK_CONTROL_TIMEOUT, (uint16_t)timed);
     for (uint8_t n = 0; n < PLACES; n++) {
-        read_words(n / 8, n % 8, WAITING, 1);
+        read_words(n / 8, n % 8, TENDRILHOOK_WAITING, 1);
         order[n] = n;
     }
     for (unsigned left = PLACES; left > 0; left--) {
         *random = *random * 1103515245u + 12345u;
         const unsigned n = (*random >> 16) % left;
-        control(order[n] / 8, order[n] % 8, ABORT, 0);
+        control(order[n] / 8, order[n] % 8, TENDRILHOOK_CONTROL_ABORT, 0);
         order[n] = order[left - 1];
     }
 }
@@ -154,9 +154,9 @@ static void scatter(void)
     unsigned random = 1;
     for (uint8_t file = 1; file < 8; file++) build(file, 1, 1, 1);
     for (uint8_t n = 0; n < PLACES; n++) {
-        open_place(n / 8, READS);
-        control(n / 8, n % 8, EXTENDED, 1);
-        control(n / 8, n % 8, TIMEOUT, 1);
+        open_place(n / 8, TENDRILHOOK_ACCESS_READ);
+        control(n / 8, n % 8, TENDRILHOOK_CONTROL_EXTENDED_WAIT, TENDRILHOOK_ON);
+        control(n / 8, n % 8, TENDRILHOOK_CONTROL_TIMEOUT, 1);
     }
     for (int round = 0; neighbours(); round++) wait_and_abort(round % 2 == 0, &random);
     memcpy(scattered, segment, sizeof segment);
@@ -174,20 +174,24 @@ void bring(enum state state)
     if (state == FULL) fill();
     if (state == WIDE) widen();
     if (state == SCATTERED) scatter();
-    open_place(0, APPENDS);
-    open_place(0, READS);
+    open_place(0, TENDRILHOOK_ACCESS_APPEND);
+    open_place(0, TENDRILHOOK_ACCESS_READ);
     /* the first read discards the open record at the head */
     pair(8);
 }
 
+/* The frames are made once for each size: what is measured are the calls. */
 void pair(unsigned size)
 {
-    static uint8_t written[5 + 256] = { WRITE, 0, 0 };
-    const unsigned count = 0x10000u - size;
-    const uint8_t read[] = { READ, 0, 1, (uint8_t)(count >> 8), (uint8_t)count };
-    written[3] = read[3];
-    written[4] = read[4];
-    if (ask(written, 5 + size) != 4 || answer[1] != DONE || ask(read, sizeof read) != 4 + size || answer[1] != DONE) {
+    static const uint8_t zeros[TENDRILHOOK_DATA_BYTES];
+    static uint8_t write[TENDRILHOOK_FRAME_BYTES], read[TENDRILHOOK_FRAME_BYTES];
+    static size_t written, asked, made_for = SIZE_MAX;
+    if (size != made_for) {
+        written = tendrilhook_frame_write(write, 0, 0, zeros, size);
+        asked = tendrilhook_frame_read(read, 0, 1, size);
+        made_for = size;
+    }
+    if (ask(write, written) != 4 || answer[1] != TENDRILHOOK_DONE || ask(read, asked) != 4 + size || answer[1] != TENDRILHOOK_DONE) {
         fprintf(stderr, "bench: a pair of %u bytes is not done\n", size);
         exit(1);
     }

@@ -2,7 +2,7 @@
 #ifndef BENCH_DESK_H
 #define BENCH_DESK_H
 
-#include "tendrilhook.h"
+#include "tendrilhook_frames.h"
 
 /* What the other files are like while file 0 passes records. */
 enum state { ONE_FILE, CROWDED, HOLDING, FULL, WIDE, SCATTERED, STATES };

@@ -1,6 +1,6 @@
 /* Calls whose instructions bench/own counts: on one file with records of 80 bytes, ten to a block. `counted` makes each call, and a line of standard output names it
    before. */
-#include "tendrilhook.h"
+#include "tendrilhook_frames.h"
 
 #include <stdio.h>
 #include <stdlib.h>
@@ -8,75 +8,97 @@
 static uint8_t segment[TENDRILHOOK_SEGMENT_BYTES], blocks[TENDRILHOOK_BLOCKS_BYTES], buffers[TENDRILHOOK_BUFFERS_BYTES];
 static uint8_t answer[TENDRILHOOK_ANSWER_BYTES];
 
-enum { WORDS = 40, FACTOR = 10 };
+/* File 0 has records of the sizes that are measured; file 1 has as many records in a block as there may be, none of the full size. */
+enum { WORDS = 40, FACTOR = 10, SHORT = 15, MOST_WORDS = 20, MOST = 16, MOST_SIZE = 37, RECORDS = 30 };
 
-static const uint8_t build[] = { 1, 0, 0, WORDS, FACTOR, 0, 30, 1 }, writer[] = { 2, 0, 3, 3, 0 }, reader[] = { 2, 0, 0, 3, 0 };
-static const uint8_t written[5 + 2 * WORDS] = { 4, 0, 0, 0, WORDS }, shorter[3 + 2 * WORDS] = { 4, 0, 0, 0, WORDS - 1 };
-static const uint8_t short_one[5 + 15] = { 4, 0, 0, 0xFF, 0xF1 }, read[] = { 3, 0, 1, 0, WORDS };
-/* file 1 has as many records in a block as there may be, none of the full size */
-enum { MOST = 16 };
-static const uint8_t build_most[] = { 1, 1, 0, 20, MOST, 0, 30, 1 }, writer_most[] = { 2, 1, 3, 3, 0 }, reader_most[] = { 2, 1, 0, 3, 0 };
-static const uint8_t written_most[5 + 37] = { 4, 1, 0, 0xFF, 0xDB }, read_most[] = { 3, 1, 1, 0, 20 };
+struct frame {
+    uint8_t bytes[TENDRILHOOK_FRAME_BYTES];
+    size_t length;
+};
 
-static size_t ask(const uint8_t *frame, size_t length)
+static struct frame written, shorter, short_one, read, written_most, read_most;
+
+static size_t ask(const struct frame *frame)
 {
-    return tendrilhook_event(segment, sizeof segment, blocks, sizeof blocks, buffers, sizeof buffers, answer, sizeof answer, frame, length);
+    return tendrilhook_event(segment, sizeof segment, blocks, sizeof blocks, buffers, sizeof buffers, answer, sizeof answer, frame->bytes, frame->length);
 }
 
-__attribute__((noipa)) void counted(const uint8_t *frame, size_t length)
+__attribute__((noipa)) void counted(const struct frame *frame)
 {
-    if (ask(frame, length) < 4 || answer[1] != 0) exit(2);
+    if (ask(frame) < 4 || answer[1] != TENDRILHOOK_DONE) exit(2);
 }
 
-static void must(const uint8_t *frame, size_t length)
+static void must(const struct frame *frame)
 {
-    if (ask(frame, length) < 4 || answer[1] != 0) exit(2);
+    if (ask(frame) < 4 || answer[1] != TENDRILHOOK_DONE) exit(2);
+}
+
+/* Builds a file, and opens a writer and a reader of it: accessors 0 and 1. */
+static void open_file(uint8_t file, uint16_t words, uint8_t factor)
+{
+    static const enum tendrilhook_access accesses[] = { TENDRILHOOK_ACCESS_APPEND, TENDRILHOOK_ACCESS_READ };
+    struct frame frame;
+    frame.length = tendrilhook_frame_build(frame.bytes, file, words, factor, RECORDS, 1);
+    must(&frame);
+    for (int n = 0; n < 2; n++) {
+        frame.length = tendrilhook_frame_open(frame.bytes, file, accesses[n], TENDRILHOOK_SHARE_BOTH, TENDRILHOOK_MULTI_DEFAULT);
+        must(&frame);
+    }
+}
+
+/* Makes the frames that are sent again and again. */
+static void make_frames(void)
+{
+    static const uint8_t zeros[TENDRILHOOK_DATA_BYTES];
+    written.length = tendrilhook_frame_write_words(written.bytes, 0, 0, zeros, WORDS);
+    shorter.length = tendrilhook_frame_write_words(shorter.bytes, 0, 0, zeros, WORDS - 1);
+    short_one.length = tendrilhook_frame_write(short_one.bytes, 0, 0, zeros, SHORT);
+    read.length = tendrilhook_frame_read_words(read.bytes, 0, 1, WORDS);
+    written_most.length = tendrilhook_frame_write(written_most.bytes, 1, 0, zeros, MOST_SIZE);
+    read_most.length = tendrilhook_frame_read_words(read_most.bytes, 1, 1, MOST_WORDS);
 }
 
 /* Fills a block, begins another, and reads the first. The reads after none, one and all but one of its records are counted. */
-static void block(const uint8_t *frame, size_t length, int written_before, const char *what)
+static void block(const struct frame *frame, int written_before, const char *what)
 {
-    for (int n = written_before; n <= FACTOR; n++) must(frame, length);
+    for (int n = written_before; n <= FACTOR; n++) must(frame);
     for (int n = 0; n < FACTOR; n++) {
         if (n == 0 || n == 1 || n == FACTOR - 1) {
             printf("a read after %d spent records in its block%s\n", n, what);
-            counted(read, sizeof read);
+            counted(&read);
         } else
-            must(read, sizeof read);
+            must(&read);
     }
 }
 
 int main(void)
 {
     if (tendrilhook_fresh(segment, sizeof segment, blocks, sizeof blocks, buffers, sizeof buffers) != 0) return 2;
-    must(build, sizeof build);
-    must(writer, sizeof writer);
-    must(reader, sizeof reader);
+    make_frames();
+    open_file(0, WORDS, FACTOR);
     /* the open record goes with the first read */
-    must(written, sizeof written);
-    must(read, sizeof read);
+    must(&written);
+    must(&read);
     puts("a write that begins a block");
-    counted(written, sizeof written);
+    counted(&written);
     puts("a read of a file's only record");
-    counted(read, sizeof read);
-    must(written, sizeof written);
+    counted(&read);
+    must(&written);
     puts("a write after another");
-    counted(written, sizeof written);
-    block(written, sizeof written, 2, "");
-    must(read, sizeof read);
-    block(shorter, sizeof shorter, 0, ", of records of 78 bytes");
-    must(read, sizeof read);
+    counted(&written);
+    block(&written, 2, "");
+    must(&read);
+    block(&shorter, 0, ", of records of 78 bytes");
+    must(&read);
     puts("a write of 15 bytes that begins a block");
-    counted(short_one, sizeof short_one);
-    block(short_one, sizeof short_one, 1, ", of records of 15 bytes");
-    must(build_most, sizeof build_most);
-    must(writer_most, sizeof writer_most);
-    must(reader_most, sizeof reader_most);
-    must(written_most, sizeof written_most);
-    must(read_most, sizeof read_most);
-    for (int n = 0; n <= MOST; n++) must(written_most, sizeof written_most);
-    for (int n = 0; n < MOST - 1; n++) must(read_most, sizeof read_most);
+    counted(&short_one);
+    block(&short_one, 1, ", of records of 15 bytes");
+    open_file(1, MOST_WORDS, MOST);
+    must(&written_most);
+    must(&read_most);
+    for (int n = 0; n <= MOST; n++) must(&written_most);
+    for (int n = 0; n < MOST - 1; n++) must(&read_most);
     puts("a read after 15 spent records in its block, R 20 and B 16, of records of 37 bytes");
-    counted(read_most, sizeof read_most);
+    counted(&read_most);
     return 0;
 }

@@ -135,8 +135,9 @@ static void others(void)
 {
     bring(ONE_FILE);
     for (int n = 0; n < 12; n++) {
-        uint8_t frame[5 + 80] = { 4, 0, 0, 0, 40 };
-        if (ask(frame, sizeof frame) != 4) exit(2);
+        static const uint8_t zeros[80];
+        uint8_t frame[TENDRILHOOK_FRAME_BYTES];
+        if (tendrilhook_answer_written(answer, ask(frame, tendrilhook_frame_write(frame, 0, 0, zeros, sizeof zeros)), NULL) != TENDRILHOOK_DONE) exit(2);
     }
     say("look", 80, best(by_look, 0, 2000));
     say("save of 12 records", 80, best(by_save, 0, 2000));

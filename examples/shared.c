@@ -9,8 +9,6 @@
 #include <sys/mman.h>
 #include <unistd.h>
 
-enum { OPEN = 2, CLOSE = 7 };
-
 struct shared *shared;
 uint8_t *shared_buffers;
 static int self, generation;
@@ -69,11 +67,11 @@ static void give(void)
 }
 
 /* Notes who has an accessor after an open or a close. The notes change while `busy` is set, as the desk does, so the two agree unless `broken` is set. */
-static void note_owner(const uint8_t *frame, const uint8_t *answer)
+static void note_owner(const uint8_t *frame, const uint8_t *answer, size_t length)
 {
-    if (answer[1] != TENDRILHOOK_DONE) return;
-    if (frame[0] == OPEN) shared->owner[frame[1]][answer[2]] = self;
-    if (frame[0] == CLOSE) shared->owner[frame[1]][frame[2]] = SHARED_NOBODY;
+    uint8_t accessor;
+    if (tendrilhook_answer_opened(answer, length, &accessor, NULL) == TENDRILHOOK_DONE) shared->owner[frame[1]][accessor] = self;
+    if (tendrilhook_answer_closed(answer, length) == TENDRILHOOK_DONE) shared->owner[frame[1]][frame[2]] = SHARED_NOBODY;
 }
 
 int shared_event(const uint8_t *frame, size_t frame_length, uint8_t *answer, size_t *length)
@@ -83,11 +81,11 @@ int shared_event(const uint8_t *frame, size_t frame_length, uint8_t *answer, siz
     if (!shared->broken && generation == shared->generation) {
         shared->busy = 1;
         *length = tendrilhook_event(DESK, answer, TENDRILHOOK_ANSWER_BYTES, frame, frame_length);
-        if (*length != 0) note_owner(frame, answer);
+        note_owner(frame, answer, *length);
         shared->busy = 0;
     }
     give();
-    return *length == 0 ? TENDRILHOOK_UNSOUND : answer[1];
+    return tendrilhook_answer_status(answer, *length);
 }
 
 /* Save changes nothing of the desk, so a process that dies within it leaves the desk whole. */

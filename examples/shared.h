@@ -7,7 +7,7 @@
 #ifndef SHARED_H
 #define SHARED_H
 
-#include "tendrilhook.h"
+#include "tendrilhook_frames.h"
 #include <pthread.h>
 
 enum { SHARED_FILES = 8, SHARED_PLACES = 8, SHARED_NOBODY = 0, SHARED_ROOM = 65536 };

@@ -23,19 +23,16 @@
 #include <time.h>
 #include <unistd.h>
 
-enum { BUILD = 1, OPEN, READ, WRITE, CONTROL, COLLECT, CLOSE, TIME };
-enum { TO_READ = 0, TO_APPEND = 3, EXCLUSIVE = 1, TIMEOUT = 4, KEEP = 47 };
 /* Stage n reads file n - 2 and writes file n - 1, if there is such a file. */
 enum { MODEL = 1, REGRID, PLOT, LAST = PLOT, SCHEDULER };
-/* In an answer a record follows operation, status and log. */
-enum { FILES = 2, RECORDS = 200, MOST_DATA = 16, RECORD_AT = 4 };
+enum { FILES = 2, RECORDS = 200, MOST_DATA = 16 };
 
 static const char *const names[] = { "", "model", "regrid", "plot", "scheduler" };
 static char room[64];
 
-/* This process: its number, its accessors, and the last answer. */
-static int self = SCHEDULER, from, to;
-static uint8_t answer[TENDRILHOOK_ANSWER_BYTES];
+/* This process: its number, its accessors, the frame that it sends and the last answer. */
+static int self = SCHEDULER;
+static uint8_t from, to, frame[TENDRILHOOK_FRAME_BYTES], answer[TENDRILHOOK_ANSWER_BYTES];
 static size_t answered;
 
 static void die(const char *why)
@@ -45,75 +42,70 @@ static void die(const char *why)
     exit(EXIT_FAILURE);
 }
 
-static const char *in_words(int status)
-{
-    switch (status) {
-    case TENDRILHOOK_DONE: return "done";
-    case TENDRILHOOK_WAITING: return "waiting";
-    case TENDRILHOOK_END_OF_FILE: return "end of file";
-    case TENDRILHOOK_UNSOUND: return "refused: the desk cannot be trusted, or is another";
-    case TENDRILHOOK_OUTSTANDING: return "refused: a request is outstanding";
-    default: return "";
-    }
-}
-
 static int say(const char *what, int status)
 {
-    printf("%-10s%-46s-> %2d %s\n", names[self], what, status, in_words(status));
+    printf("%-10s%-46s-> %2d %s\n", names[self], what, status, tendrilhook_status_name(status));
     return status;
 }
 
 /* ---- Events. ---- */
 
-#define EVENT(...) shared_event((const uint8_t[]){ __VA_ARGS__ }, sizeof(const uint8_t[]){ __VA_ARGS__ }, answer, &answered)
-
-static uint8_t low(int number) { return (uint8_t)(number & 255); }
-
-static int build(int file, int words, int factor, int records, int extents)
+/* Sends the frame. Returns the status. */
+static int event(size_t length)
 {
-    return EVENT(BUILD, low(file), 0, low(words), low(factor), 0, low(records), low(extents));
+    return shared_event(frame, length, answer, &answered);
 }
 
-static int open_file(int file, int access)
+/* The file that this stage reads, and the one that it writes. */
+static uint8_t in_file(void) { return (uint8_t)(self - REGRID); }
+static uint8_t out_file(void) { return (uint8_t)(self - MODEL); }
+
+/* Builds a file of records of 8 words, 2 to a block, with room for 4 and for the records of an open and a close. */
+static int build(uint8_t file)
 {
-    if (EVENT(OPEN, low(file), low(access), EXCLUSIVE, 0) != TENDRILHOOK_DONE) die("cannot open");
-    return answer[2];
+    return event(tendrilhook_frame_build(frame, file, 8, 2, 4, 1));
+}
+
+static uint8_t open_file(uint8_t file, enum tendrilhook_access access)
+{
+    uint8_t accessor;
+    event(tendrilhook_frame_open(frame, file, access, TENDRILHOOK_SHARE_EXCLUSIVE, TENDRILHOOK_MULTI_DEFAULT));
+    if (tendrilhook_answer_opened(answer, answered, &accessor, NULL) != TENDRILHOOK_DONE) die("cannot open");
+    return accessor;
 }
 
 static int read_record(void)
 {
-    return EVENT(READ, low(self - 2), low(from), 0xFF, low(-MOST_DATA));
+    return event(tendrilhook_frame_read(frame, in_file(), from, MOST_DATA));
 }
 
 static int write_record(const void *data, size_t length)
 {
-    uint8_t frame[5 + MOST_DATA] = { WRITE, low(self - 1), low(to), 0xFF, low(-(int)length) };
-    memcpy(frame + 5, data, length);
-    return shared_event(frame, 5 + length, answer, &answered);
+    return event(tendrilhook_frame_write(frame, out_file(), to, data, length));
 }
 
-static int control(int file, int accessor, int code, int parameter)
+static int control(uint8_t file, uint8_t accessor, enum tendrilhook_control code, uint16_t parameter)
 {
-    return EVENT(CONTROL, low(file), low(accessor), low(code), 0, low(parameter));
+    return event(tendrilhook_frame_control(frame, file, accessor, code, parameter));
 }
 
-static int collect_from(int file, int accessor)
+static int collect_from(uint8_t file, uint8_t accessor)
 {
-    return EVENT(COLLECT, low(file), low(accessor));
+    return event(tendrilhook_frame_collect(frame, file, accessor));
 }
 
-static int close_file(int file, int accessor)
+static int close_file(uint8_t file, uint8_t accessor)
 {
-    return EVENT(CLOSE, low(file), low(accessor));
+    return event(tendrilhook_frame_close(frame, file, accessor));
 }
 
-static int pass_seconds(int seconds)
+static int pass_seconds(uint16_t seconds)
 {
-    return EVENT(TIME, 0, low(seconds));
+    return event(tendrilhook_frame_time(frame, seconds));
 }
 
 /* Collects a request until it no longer waits; meanwhile other stages call, and time passes. Returns the last status. */
-static int outcome(int file, int accessor, int status)
+static int outcome(uint8_t file, uint8_t accessor, int status)
 {
     while (status == TENDRILHOOK_WAITING) {
         nanosleep(&(struct timespec){ .tv_nsec = 200000 }, NULL);
@@ -122,11 +114,22 @@ static int outcome(int file, int accessor, int status)
     return status;
 }
 
-/* The record of the last answer, as text. */
+/* The data of the last answer, which was that of a read or a collect, and their length. */
+static const uint8_t *data_of_answer(size_t *length)
+{
+    const uint8_t *data;
+    if (tendrilhook_answer_read(answer, answered, NULL, &data, length) != TENDRILHOOK_DONE)
+        tendrilhook_answer_collected(answer, answered, NULL, &data, length);
+    return data;
+}
+
+/* The same, as text. */
 static const char *record(void)
 {
     static char text[MOST_DATA + 1];
-    snprintf(text, sizeof text, "%.*s", (int)answered - RECORD_AT, (const char *)answer + RECORD_AT);
+    size_t length;
+    const uint8_t *data = data_of_answer(&length);
+    snprintf(text, sizeof text, "%.*s", (int)length, (const char *)data);
     return text;
 }
 
@@ -135,29 +138,29 @@ static const char *record(void)
 static void open_all(void)
 {
     shared_adopt();
-    if (self != MODEL) from = open_file(self - 2, TO_READ);
-    if (self != PLOT) to = open_file(self - 1, TO_APPEND);
-    if (self == PLOT) control(self - 2, from, TIMEOUT, 3);
+    if (self != MODEL) from = open_file(in_file(), TENDRILHOOK_ACCESS_READ);
+    if (self != PLOT) to = open_file(out_file(), TENDRILHOOK_ACCESS_APPEND);
+    if (self == PLOT) control(in_file(), from, TENDRILHOOK_CONTROL_TIMEOUT, 3);
 }
 
 static void close_all(void)
 {
-    if (self != MODEL) close_file(self - 2, from);
-    if (self != PLOT) close_file(self - 1, to);
+    if (self != MODEL) close_file(in_file(), from);
+    if (self != PLOT) close_file(out_file(), to);
 }
 
 /* Whether there is one more record for this stage, which is then read. A read that timed out is made again. */
 static int next_record(void)
 {
     int status;
-    do status = outcome(self - 2, from, read_record());
+    do status = outcome(in_file(), from, read_record());
     while (status == TENDRILHOOK_TIMED_OUT);
     return status == TENDRILHOOK_DONE;
 }
 
 static void hand_on(const void *data, size_t length)
 {
-    if (outcome(self - 1, to, write_record(data, length)) != TENDRILHOOK_DONE) die("a record was not taken");
+    if (outcome(out_file(), to, write_record(data, length)) != TENDRILHOOK_DONE) die("a record was not taken");
 }
 
 /* Does the work of this stage to its end. Returns the number of records it moved. */
@@ -167,9 +170,9 @@ static int work(void)
     int moved = 0;
     for (; self == MODEL && moved < RECORDS; moved++) hand_on(text, (size_t)snprintf(text, sizeof text, "step %d", moved));
     for (; self == REGRID && next_record(); moved++) {
-        size_t length = answered - RECORD_AT;
-        memcpy(text, answer + RECORD_AT, length);
-        hand_on(text, length);
+        size_t length;
+        const uint8_t *data = data_of_answer(&length);
+        hand_on(data, length);
     }
     for (; self == PLOT && next_record(); moved++) {
         snprintf(text, sizeof text, "step %d", moved);
@@ -192,7 +195,7 @@ static void forecast(int hours)
 static void peek(void)
 {
     char what[64];
-    control(self - 2, from, KEEP, 1);
+    control(in_file(), from, TENDRILHOOK_CONTROL_KEEP, TENDRILHOOK_ON);
     int status = read_record();
     snprintf(what, sizeof what, "reads \"%s\" from file 0, where it stays", record());
     say(what, status);
@@ -200,14 +203,16 @@ static void peek(void)
 
 static void relay(void)
 {
+    size_t length;
     peek();
-    say("hands it on to file 1", write_record(answer + RECORD_AT, answered - RECORD_AT));
+    const uint8_t *data = data_of_answer(&length);
+    say("hands it on to file 1", write_record(data, length));
     say("and takes it out of file 0", read_record());
 }
 
 static void collect(void)
 {
-    if (say("collects", collect_from(self - 2, from)) == TENDRILHOOK_DONE) printf("%10s\"%s\"\n", "", record());
+    if (say("collects", collect_from(in_file(), from)) == TENDRILHOOK_DONE) printf("%10s\"%s\"\n", "", record());
 }
 
 static void show_all(void)
@@ -356,8 +361,8 @@ static void bury(int which)
 /* Closes the accessors of a dead stage. A completed request has to be collected first. */
 static void close_for(int which)
 {
-    for (int file = 0; file < FILES; file++)
-        for (int place = 0; place < SHARED_PLACES; place++) {
+    for (uint8_t file = 0; file < FILES; file++)
+        for (uint8_t place = 0; place < SHARED_PLACES; place++) {
             char what[64];
             if (shared->owner[file][place] != which) continue;
             snprintf(what, sizeof what, "closes file %d for %s", file, names[which]);
@@ -405,9 +410,8 @@ int main(void)
     signal(SIGPIPE, SIG_IGN);
     snprintf(room, sizeof room, "/tendrilhook-stages-%ld", (long)getpid());
     if (shared_make(room) != 0) die("no shared memory, or no robust mutexes");
-    /* Records of 8 words, 2 to a block, room for 4 and for the records of an open and a close. */
-    say("builds file 0", build(0, 8, 2, 4, 1));
-    say("builds file 1", build(1, 8, 2, 4, 1));
+    say("builds file 0", build(0));
+    say("builds file 1", build(1));
     for (int which = MODEL; which <= LAST; which++) start(which);
 
     printf("\nThree stages at once, and time that passes.\n");

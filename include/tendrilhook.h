@@ -14,7 +14,8 @@
  *   - no two calls on one desk run at the same time.
  *
  *
- * The frames. An event is a frame of bytes, and its answer is one too. Words (2 bytes) have their high byte first.
+ * The frames. An event is a frame of bytes, and its answer is one too. Words (2 bytes) have their high byte first. tendrilhook_frames.h makes
+ * frames and reads answers, for a host that does not want to see their bytes.
  *
  *     frame                                   answer when done
  *     01 file R(2) B N(2) X     build         01 00 capacity(2)
@@ -37,20 +38,33 @@
  * With any status other than 0 the answer has two bytes, operation and status. A count is signed: 0 or more counts words, below 0 bytes.
  * The log is the amount moved, in the unit of the count; words are rounded up.
  *
- *   build    R words a record (1 to 128), B records a block (1 to 16), N records (1 to 2000), X extents (1 to 32)
+ *   build    R words a record (1 to 128), B records a block (1 to 16), N records (1 to 2000), X extents (1 to 32). The capacity is N + 2 rounded
+ *            up: B x D, where D is the smallest number of blocks that holds N + 2 records and for which D + 1 is a multiple of X
  *   open     access 0 reads; 1 writes, and purges the file if nobody has it open; 2 and 3 append. Share 0 or 1: one reader, one writer;
  *            2: one reader, many writers; 3: many of both. Multiaccess 0 to 2. A writer leaves an open record in the file
  *   read     counts -260 to 130. A longer record is cut to the count, and the rest is lost
  *   write    at most 2R bytes; the data are as long as the count says
- *   control  4 timeout: the longest wait in seconds, 0 for no limit; 6 verify, which does nothing; 43 abort the waiting request;
- *            45 extended wait, 46 read type and writer's ID before the data, 47 leave the next record in the file: each 1 on or 0 off
+ *   control  4 timeout: the longest wait in seconds, 0 for no limit; 6 verify, which does nothing; 45, 46 and 47: 1 on, 0 off
+ *            43 abort: removes a waiting request, and nothing is left to collect; if it is completed, answers 2 and leaves it to be collected
+ *            45 extended wait, to outlive the other side: requests wait also if nobody is there, and a waiting read stays when the last writer closes
+ *            46 reads take open and close records too, and put type(2) and ID(2) before the data; count and log cover these 4 bytes
+ *            47 the next read leaves its record in the file
  *   collect  gives the outcome of a read or write that was answered 1
  *   close    cancels a waiting request. A writer leaves a close record in the file
  *   time     the given number of seconds has passed: waiting requests whose time is up complete with status 22
  *   counts   gives the numbers of records that the file holds, and of writers and readers that have it open
  *
- * A read or write that is answered 1 waits, and its accessor can do nothing else until the outcome is collected: collect answers 1 as long
- * as it waits. The desk calls nobody: the host collects when it chooses.
+ * When a request waits. A read that finds no record, or a write that does not fit or has writers waiting ahead of it, is answered 1 and waits
+ *   - if the other side has an accessor: a writer for a read, a reader for a write;
+ *   - or if extended wait (45) is on;
+ *   - or if it is this accessor's first read or write that is not refused.
+ * Otherwise it ends with 2. An accessor whose request was answered 1 can only collect, abort (43) or close until the outcome is collected:
+ * collect answers 1 as long as the request waits. The desk calls nobody: the host collects when it chooses.
+ *
+ * Room. Open and close records take a place each, as data records do, and a place is kept for the close record of each open writer. With W
+ * writers open, a write fits if used + W + 1 is at most the capacity; a writer may open if used + W + 2 is, else the open is refused with 42.
+ * Used counts the records put since the start of the oldest block that still holds one; an empty file has 0. So a file of N 1 (B 1, X 1) has
+ * capacity 3, and after an open to append and a close the next open to append is refused with 42.
  *
  *
  * The sheet. A file is saved as text and loaded from it: frames, each a line of upper-case hexadecimal digits with LF at its end. The first
@@ -95,7 +109,7 @@ enum {
 enum {
     TENDRILHOOK_DONE = 0, /* done */
     TENDRILHOOK_WAITING = 1, /* the request waits, or still waits: collect it later */
-    TENDRILHOOK_END_OF_FILE = 2, /* nothing to read, or no room to write, and nobody on the other side; abort: already completed */
+    TENDRILHOOK_END_OF_FILE = 2, /* nothing to read, or no room to write, and the request may not wait; abort: already completed */
     TENDRILHOOK_TIMED_OUT = 22, /* the request waited as long as its timeout allows */
 
     TENDRILHOOK_UNSOUND = 29, /* a lent memory has the wrong length or unsound content. An event then has no answer: its length is 0 */

@@ -16,17 +16,18 @@ FACT = re.compile(r"""the\ two\ (types|sides)\ |^expected\ type\ `(?!tie\.Need-)
 ERROR = re.compile(r'^(?:\S*/)?((?:src|specs|proofs)/\S+?):(\d+:\d+): error: (?:`([^`]*)`: )?(.*)')
 
 
-def read(path):
-    with open(path, encoding='utf-8') as file:
+def read(path, errors='strict'):
+    with open(path, encoding='utf-8', errors=errors) as file:
         return file.read()
 
 
 def put(path, text):
-    """Writes a file under another name and renames it, so that it is there whole or not at all."""
+    """Writes a file under a name of its own and renames it, so that it is there whole or not at all, also where two try the same edit."""
     os.makedirs(os.path.dirname(path), exist_ok=True)
-    with open(f'{path}.part', 'w', encoding='utf-8') as file:
+    part = f'{path}.{os.getpid()}.part'
+    with open(part, 'w', encoding='utf-8') as file:
         file.write(text)
-    os.replace(f'{path}.part', path)
+    os.replace(part, path)
 
 
 class Edit:
@@ -138,15 +139,33 @@ def keep_log(edit, company, found):
     put(edit.log, '\n'.join(head + said) + '\n')
 
 
+def logged(edit):
+    """The head of an edit's log, and what the prover said. A log that is cut may end within a character."""
+    head, _, said = read(edit.log, errors='replace').partition('\n\n')
+    return head, said
+
+
+def whole(edit, said):
+    """Whether this is all that `keep_log` writes after the head: its last line ends, and it has a fact that fails, or the other places."""
+    return said.endswith('\n') and (refused(edit, errors(said)) or '\nelsewhere:\n' in said)
+
+
+def fact(edit):
+    """What the prover said of the fact that fails at an edit's place, in one line, by a log without fault."""
+    return next(' '.join(error[4].split()) for error in at_place(edit, errors(logged(edit)[1])) if is_fact(error[3]))
+
+
 def fault(edit):
     """What is wrong with the refusal of an edit, by its log; empty where a fact fails at its place."""
     if edit.wrong:
         return edit.wrong
-    if not os.path.exists(edit.log):
+    if not os.path.exists(edit.log) or not os.path.getsize(edit.log):
         return 'was not tried'
-    head, _, said = read(edit.log).partition('\n\n')
+    head, said = logged(edit)
     if f'\nof: {tried_on(edit)}' not in head:
         return 'was not tried on what stands there now'
+    if not whole(edit, said):
+        return 'was not tried to the end: its log is cut'
     if edit.crate == 'rules' and not re.match(r'proofs/(Worked|Sessions\w+)\.antt', edit.at[0]):
         return f'names {edit.at[0]}, which is no session'
     if refused(edit, errors(said)):

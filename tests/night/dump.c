@@ -2,22 +2,22 @@
  * A host that dumps its desk: sends the frames of standard input, a line of hexadecimal digits each, to a fresh desk, and writes the three memories to the
  * files that its arguments name. tools/check-board compares the board of these files with the board of the session.
  */
-#include "tendrilhook.h"
+#include "tendrilhook_frames.h"
 
 #include <stdio.h>
 #include <string.h>
 
-enum { MOST_FRAME = 261, MOST_LINE = 2 * MOST_FRAME + 2 };
+enum { MOST_LINE = 2 * TENDRILHOOK_FRAME_BYTES + 2 };
 
 static uint8_t segment[TENDRILHOOK_SEGMENT_BYTES], blocks[TENDRILHOOK_BLOCKS_BYTES], buffers[TENDRILHOOK_BUFFERS_BYTES];
-static uint8_t answer[TENDRILHOOK_ANSWER_BYTES], frame[MOST_FRAME];
+static uint8_t answer[TENDRILHOOK_ANSWER_BYTES], frame[TENDRILHOOK_FRAME_BYTES];
 
 /* Puts the frame of a line into `frame`. Returns the frame's length. */
 static size_t frame_of(const char *line)
 {
     size_t n = 0;
     unsigned byte;
-    while (n < MOST_FRAME && sscanf(line + 2 * n, "%2X", &byte) == 1) frame[n++] = (uint8_t)byte;
+    while (n < TENDRILHOOK_FRAME_BYTES && sscanf(line + 2 * n, "%2X", &byte) == 1) frame[n++] = (uint8_t)byte;
     return n;
 }
 

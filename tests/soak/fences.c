@@ -8,7 +8,7 @@
  * sheet is loaded into the same file of another desk, which has to save the same.
  */
 #define _DEFAULT_SOURCE
-#include "tendrilhook.h"
+#include "tendrilhook_frames.h"
 
 #include <stdio.h>
 #include <stdlib.h>
@@ -16,7 +16,7 @@
 #include <sys/mman.h>
 #include <unistd.h>
 
-enum { FILES = 8, MOST_FRAME = 261, MOST_LINE = 2 * MOST_FRAME };
+enum { FILES = 8, MOST_LINE = 2 * TENDRILHOOK_FRAME_BYTES };
 
 static size_t page;
 static int at_end;
@@ -93,7 +93,7 @@ static size_t decode(const char *line, size_t length, uint8_t *bytes)
 
 static void event(const char *line, size_t length, unsigned long turn)
 {
-    uint8_t bytes[MOST_FRAME];
+    uint8_t bytes[TENDRILHOOK_FRAME_BYTES];
     size_t n = decode(line, length, bytes), *shown = (size_t *)(void *)lend(&lengths, sizeof *shown);
     uint8_t *lent = lend(&frame, n), *given = lend(&answer, TENDRILHOOK_ANSWER_BYTES);
     memcpy(lent, bytes, n);
@@ -116,7 +116,7 @@ int main(int argc, char **argv)
     for (int d = 0; d < 2; d++)
         for (int i = 0; i < 3; i++) desk[d][i] = fence(sizes[i]);
     answer = fence(TENDRILHOOK_ANSWER_BYTES);
-    frame = fence(MOST_FRAME);
+    frame = fence(TENDRILHOOK_FRAME_BYTES);
     record = fence(TENDRILHOOK_RECORD_BYTES);
     sheet = fence(TENDRILHOOK_SHEET_BYTES);
     text = fence(TENDRILHOOK_SHEET_BYTES);

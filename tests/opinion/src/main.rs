@@ -4,6 +4,7 @@
 //!   opinion replay                the calls of a session on standard input, answered anew
 //!   opinion run                   the event program on standard input
 //!   opinion coverage SEED K N     K sessions of N calls: how often each thing occurred
+//!   opinion words SEED K N        the events of K sessions of N calls, in words
 //!
 //! With the library of the proved desk.  DESK is the command line of the program that calls it,
 //! desk.c, and has an emulator before it where the machine needs one (tools/check-host builds it).
@@ -22,13 +23,14 @@ mod outcome;
 mod session;
 #[cfg(test)]
 mod tests;
+mod words;
 
 use library::Library;
 use model::desk::Desk;
 use std::io::{Read, Write};
 
 const USAGE: &str = "opinion session SEED N | opinion replay | opinion run \
-                     | opinion coverage SEED SESSIONS N \
+                     | opinion coverage SEED SESSIONS N | opinion words SEED SESSIONS N \
                      | opinion library SEED SESSIONS N -- DESK... \
                      | opinion isolation SEED SEEDS N -- DESK... \
                      | opinion library-run -- DESK... | opinion library-replay -- DESK...";
@@ -42,6 +44,9 @@ fn main() {
         ["run"] => run(&input()),
         ["coverage", seed, sessions, n] => {
             coverage::coverage_text(number(seed), number(sessions), number(n)).into_bytes()
+        }
+        ["words", seed, sessions, n] => {
+            words::words_text(number(seed), number(sessions), number(n)).into_bytes()
         }
         ["library", seed, sessions, n, "--", ref desk @ ..] => {
             let (seed, sessions, n) = (number(seed), number(sessions), number(n) as usize);
