@@ -164,13 +164,13 @@ static inline size_t tendrilhook_frame_read_(uint8_t *frame, uint8_t file, uint8
     return at == NULL ? 0 : (size_t)(at - frame);
 }
 
-/* Reads at most so many bytes of a record (0 to 260); the log is in bytes. Returns 0 above 32,768 bytes. */
+/* Reads at most this number of bytes of a record (0 to 260); the log is in bytes. Returns 0 above 32,768 bytes. */
 static inline size_t tendrilhook_frame_read(uint8_t *frame, uint8_t file, uint8_t accessor, size_t bytes)
 {
     return tendrilhook_frame_read_(frame, file, accessor, bytes, 0);
 }
 
-/* Reads at most so many words of a record (0 to 130); the log is in words. Returns 0 above 32,767 words. */
+/* Reads at most this number of words of a record (0 to 130); the log is in words. Returns 0 above 32,767 words. */
 static inline size_t tendrilhook_frame_read_words(uint8_t *frame, uint8_t file, uint8_t accessor, size_t words)
 {
     return tendrilhook_frame_read_(frame, file, accessor, words, 1);
@@ -184,13 +184,13 @@ static inline size_t tendrilhook_frame_write_(uint8_t *frame, uint8_t file, uint
     return (size_t)(at - frame) + bytes;
 }
 
-/* Writes a record of so many bytes; the log is in bytes. Returns 0 above TENDRILHOOK_DATA_BYTES. */
+/* Writes a record of this number of bytes; the log is in bytes. Returns 0 above TENDRILHOOK_DATA_BYTES. */
 static inline size_t tendrilhook_frame_write(uint8_t *frame, uint8_t file, uint8_t accessor, const void *data, size_t bytes)
 {
     return tendrilhook_frame_write_(frame, file, accessor, data, bytes, 0);
 }
 
-/* Writes a record of so many words; the log is in words. Returns 0 above TENDRILHOOK_DATA_BYTES. */
+/* Writes a record of this number of words; the log is in words. Returns 0 above TENDRILHOOK_DATA_BYTES. */
 static inline size_t tendrilhook_frame_write_words(uint8_t *frame, uint8_t file, uint8_t accessor, const void *data, size_t words)
 {
     if (words > TENDRILHOOK_DATA_BYTES / TENDRILHOOK_WORD_BYTES) return 0;
