@@ -13,7 +13,7 @@ use kinds::{Outstanding, refusals};
 use outstanding::outstanding_at;
 
 // The accessor that a call names (its file's R, its side, and what it has outstanding), or the refusal.
-#[derive(Drop)]
+#[derive(Clone, Copy)]
 pub enum Accessor {
     Refused(u8),
     Open {

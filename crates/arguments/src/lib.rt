@@ -16,7 +16,7 @@ const NO_DIGIT: u8 = b'0' + FILES as u8;
 pub const TEXT_BYTES: usize = 65536;
 
 // The file's number, whether a sheet is named, and how many bytes of text the sheet has.
-#[derive(Drop)]
+#[derive(Clone, Copy)]
 pub struct Named {
     pub file: usize,
     pub sheet: bool,
@@ -24,7 +24,7 @@ pub struct Named {
 }
 
 // Whether a file could be opened, and how many of its bytes were read.
-#[derive(Drop)]
+#[derive(Clone, Copy)]
 pub struct Bytes {
     pub found: bool,
     pub size: usize,

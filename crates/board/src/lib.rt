@@ -44,7 +44,7 @@ pub const BOARD_ROOM: usize = FILES * FILE_ROOM + LINE_ROOM;
 const ALL_PLACES: u16 = PLACES as u16;
 
 // The status of a board, and the length of its text.
-#[derive(Drop)]
+#[derive(Clone, Copy)]
 pub struct Shown {
     pub status: u8,
     pub length: usize,

@@ -1,5 +1,7 @@
 // Record buffers. A completed read's record, or a waiting write's data, lies at the start of a buffer, and the rest of the buffer is zero.
 // Place i of the desk, 8 × file + accessor, has the i-th buffer of the lent memory.
+#![tactic(auto)]
+
 ghost use Rattle.std.specs.Prelude.{◌≡◌, ◌*◌, ◌≤◌, ◌<◌, length, take};
 ghost use Rattle.std.proofs.lemmas.List.Edits.{sets};
 ghost use Rattle.words.specs.Word.{zeros};

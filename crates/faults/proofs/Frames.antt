@@ -11,8 +11,8 @@ use Rattle.words.specs.Word.{Bytes}
 use Rattle.rules.specs.Limits.{line_bytes}
 use Rattle.rules.specs.Line.{value_of, digits_of, all_digits, is_line, line_frame, line_of}
 use Rattle.rules.proofs.Split.{by_cases}
-use Rattle.hex.proofs.Lines.{digits-cons, bytes-short, length-bytes, line-is, frame-line, frame-none}
-use Rattle.hex.proofs.Trip.{length_digits, digits-line, line-digits}
+use Rattle.hexadecimal.proofs.Lines.{digits-cons, bytes-short, length-bytes, line-is, frame-line, frame-none}
+use Rattle.hexadecimal.proofs.Trip.{length_digits, digits-line, line-digits}
 use Rattle.faults.specs.declared.reading.Fault.{Fault}
 use Rattle.faults.specs.declared.reading.Fault.TheVariants.{Nothing, Blank, Lower, Return, Strange, Long, Odd}
 use Rattle.faults.specs.Faults.{most_digits, strange, digits_alone, fault_after, fault_of}

@@ -8,7 +8,7 @@ use native.Mathlib.Nat.{suc-mul, mul_left_comm, mul-le-mul_right}
 use lib.ListN.{length, get_or, set, length-append}
 use lib.Seq.{sets}
 use borrow.Author.Tests.{lt-ltb, le-ltb}
-use Rattle.hex.proofs.Digits.{below}
+use Rattle.hexadecimal.proofs.Digits.{below}
 use Rattle.texts.specs.Numbers.{said}
 use Rattle.texts.specs.Put.{Put}
 use Rattle.texts.proofs.Runs.{put_all, put-within, put_as}

@@ -9,7 +9,7 @@ const TEN: u64 = 10;
 const MOST_AFTER: usize = 19;
 
 // The first digit of a number, and what the digits after it say.
-#[derive(Drop)]
+#[derive(Clone, Copy)]
 struct Parts {
     digit: u8,
     rest: u64,

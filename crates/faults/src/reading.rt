@@ -13,7 +13,7 @@ const CARRIAGE_RETURN: u8 = 13;
 
 // What is wrong with a line: nothing; it has no byte; its first byte that is no upper-case digit is a lower-case one, a carriage return, or anything else; it has
 // too many digits, or an odd number of them.
-#[derive(Drop)]
+#[derive(Clone, Copy)]
 pub enum Fault {
     Nothing,
     Blank,

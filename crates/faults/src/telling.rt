@@ -5,7 +5,7 @@ ghost use Rattle.faults.specs.Heard.{none, knows, tells, next_line, hears};
 use crate::reading::Fault;
 
 // Whether each kind of fault was told.
-#[derive(Drop)]
+#[derive(Clone, Copy)]
 pub struct Told {
     pub blank: bool,
     pub lower: bool,
@@ -16,7 +16,7 @@ pub struct Told {
 }
 
 // The number of the last line that has ended, counted from 1, and the kinds told by then.
-#[derive(Drop)]
+#[derive(Clone, Copy)]
 pub struct Heard {
     pub lines: u64,
     pub told: Told,

@@ -1,4 +1,6 @@
 // The bytes of events and answers: decodes a frame, encodes an answer.
+#![tactic(auto)]
+
 mod answers;
 mod decoding;
 

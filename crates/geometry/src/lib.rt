@@ -1,4 +1,6 @@
 // Build's numbers (document 000, "Creating Message Files" and FGETINFO): ranges, data blocks, block size, capacity, the share.
+#![tactic(auto)]
+
 ghost use Rattle.std.specs.Prelude.{◌≡◌, leb, ◌+◌, ◌*◌, ◌≤◌, ◌<◌};
 ghost use Rattle.rules.specs.Limits.{most_factor, most_records, most_extents, room_words};
 ghost use Rattle.rules.specs.Geometry.{divided_up, data_blocks, capacity, block_size, within, in_range, fits_share};
@@ -17,6 +19,7 @@ fn within(lo: u16, hi: u16, n: u16) -> bool
 }
 
 // Whether build's four numbers are in their ranges.
+#[tactic(auto, unfolding(rules::specs::Geometry::in_range))]
 pub fn in_range(words: u16, factor: u8, records: u16, extents: u8) -> bool
     ensures { result ≡ in_range words factor records extents }
 {

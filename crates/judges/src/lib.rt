@@ -13,7 +13,7 @@ pub mod on_files;
 mod sharing;
 
 // The refusal number of an event, 0 if it is not refused, and whether the event then purges, found here for the acting functions.
-#[derive(Drop)]
+#[derive(Clone, Copy)]
 pub struct Verdict {
     pub refusal: u8,
     pub purges: bool,

@@ -1,5 +1,7 @@
 // The types that the rules and the code share, and document 01's own numbers, each defined once in the code: here.
 // The rules have the limits in Limits, and the numbers of the cases in Frames, Answers and Calls.
+#![tactic(auto)]
+
 pub mod limits;
 pub mod operations;
 pub mod record_types;
@@ -8,7 +10,7 @@ pub mod sides;
 pub mod statuses;
 
 // A control with its parameter, as it stands in the frame.
-#[derive(Drop)]
+#[derive(Clone, Copy)]
 pub enum Control {
     Timeout(u16),
     Verify(u16),
@@ -20,7 +22,7 @@ pub enum Control {
 
 // "An event is one of nine kinds, and a control event carries one of six controls."
 // A count is the word in the frame, 0 to 65535. A write's data are not in the event: they stay in the frame.
-#[derive(Drop)]
+#[derive(Clone, Copy)]
 pub enum Event {
     Build {
         file: u8,
@@ -67,7 +69,7 @@ pub enum Event {
 }
 
 // "One outstanding request per accessor": none, one that waits, or a completed one, not yet collected.
-#[derive(Drop)]
+#[derive(Clone, Copy)]
 pub enum Outstanding {
     Nothing,
     Waiting,
@@ -75,7 +77,7 @@ pub enum Outstanding {
 }
 
 // What the bytes of a frame say.
-#[derive(Drop)]
+#[derive(Clone, Copy)]
 pub enum Frame {
     Event(Event),
     // A control event whose code is none of the six.
@@ -85,7 +87,7 @@ pub enum Frame {
 }
 
 // The answer to an event, without the data of a record.
-#[derive(Drop)]
+#[derive(Clone, Copy)]
 pub enum Answer {
     Built {
         capacity: u16,

@@ -20,7 +20,7 @@ pub fn answer_line(
 {
     let mut frame = [0u8; LINE_BYTES];
     let mut answer = [0u8; ANSWER_ROOM];
-    let n = hex::decode(line, LINE_BYTES, &mut frame);
+    let n = hexadecimal::decode(line, LINE_BYTES, &mut frame);
     let size = desk::event(segment, blocks, buffers, &mut answer, &frame[0..n]);
-    hex::line(&answer[0..size], out, used)
+    hexadecimal::line(&answer[0..size], out, used)
 }

@@ -12,7 +12,7 @@ use records::reading::Found;
 use ring::layout::RECORD_HEAD;
 use segment::layout;
 
-#[derive(Drop)]
+#[derive(Clone, Copy)]
 pub enum Shown {
     Refused(u8),
     // `size` bytes of the blocks, or of the record buffers, starting at `at`

@@ -10,7 +10,7 @@ use ring::Ring;
 use segment::{FileRow, layout};
 
 // A file in hand: R, and the ring of its blocks.
-#[derive(Drop)]
+#[derive(Clone, Copy)]
 pub struct File {
     pub words: u16,
     pub ring: Ring,

@@ -12,7 +12,7 @@ use segment::PlaceRow;
 use texts::{put_counted, put_digit, put_if, put_number, put_text};
 
 // What is left of a request's timeout.
-#[derive(Drop)]
+#[derive(Clone, Copy)]
 pub enum Left {
     Untimed,
     Seconds(u16),
@@ -20,7 +20,7 @@ pub enum Left {
 
 // A request as the board shows it: none; a read that waits for up to `bytes` bytes, or a write that waits with `bytes` bytes, with `first` 1 if it is the first
 // in its queue; or a completed read or write, with its status, and the bytes read.
-#[derive(Drop)]
+#[derive(Clone, Copy)]
 pub enum Request {
     Idle,
     Reads { bytes: u16, left: Left, first: u16 },

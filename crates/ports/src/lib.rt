@@ -1,6 +1,8 @@
 // The lists of the segment. A slot is the number of a word that holds an entry's number or nil: a list's head, or an entry's link. The first slot of
 // a list is its head, whose number is the list's. Slots lie before the rows.
 // A word that is not an entry's number ends a walk, and no walk follows more links than there are entries: no memory can lead a walk out of the segment or in circles.
+#![tactic(auto)]
+
 ghost use Rattle.std.specs.Prelude.{◌≡◌, ◌<◌, length};
 ghost use Rattle.rules.specs.Limits.{entries};
 ghost use Rattle.segment.specs.Layout.{free_list, segment_bytes, file_rows};

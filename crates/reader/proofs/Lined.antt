@@ -13,7 +13,7 @@ use Rattle.rules.specs.Line.{is_line, bytes_of, Lines, lines_from, lines_of}
 use Rattle.rules.specs.State.{Rec}
 use Rattle.rules.specs.Sheet.{all_lines, good_rec, good_recs, rec_of}
 use Rattle.rules.proofs.Split.{by_cases, and-true, true-and}
-use Rattle.hex.proofs.Lines as hex
+use Rattle.hexadecimal.proofs.Lines as hex
 use Rattle.reader.specs.Frames.{line_length, frame_at, next_at}
 use Rattle.reader.specs.Sheets.{recs_from, good_from}
 use Rattle.reader.proofs.Frames.{frame-line, frame-none, span-line, behind-within}

@@ -14,7 +14,7 @@ use Rattle.rules.specs.Line.{is_line, bytes_of, Lines, lines_of}
 use Rattle.rules.specs.Open.{geo_of}
 use Rattle.rules.specs.Sheet.{Sheet, all_lines, good_head, good_recs, rec_of, frames_sheet, read_sheet}
 use Rattle.rules.proofs.Split.{by_cases, pick_true, and-true, true-and}
-use Rattle.hex.proofs.Lines as hex
+use Rattle.hexadecimal.proofs.Lines as hex
 use Rattle.reader.specs.Frames.{line_length, frame_at, next_at}
 use Rattle.reader.specs.declared.Head.{Head}
 use Rattle.reader.specs.Sheets.{head_of, recs_from, good_from, is_some}

@@ -17,8 +17,8 @@ use Rattle.rules.specs.Line.{all_digits, bytes_of, is_line, line_of, lines_from,
 use Rattle.rules.specs.Open.{geo_of}
 use Rattle.rules.specs.Sheet.{Sheet, head_frame, rec_frame, rec_lines, sheet, all_lines, good_head, good_rec, good_recs, rec_of, frames_sheet, read_sheet}
 use Rattle.rules.proofs.Split.{by_cases, and-true}
-use Rattle.hex.proofs.Lines.{digits-cons, line-is}
-use Rattle.hex.proofs.Trip.{digits-line}
+use Rattle.hexadecimal.proofs.Lines.{digits-cons, line-is}
+use Rattle.hexadecimal.proofs.Trip.{digits-line}
 use Rattle.reader.proofs.Lines.{from-lf, from_on}
 use Rattle.reader.proofs.Heads.{head-length, head-kind, head-held}
 use Rattle.reader.proofs.Records.{rec-good}

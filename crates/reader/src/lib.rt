@@ -8,7 +8,7 @@ ghost use Rattle.reader.specs.Frames.{line_end, frame_at, next_of, behind};
 ghost use Rattle.reader.specs.Sheets.{good_numbers, no_head, says_head, head_of, most_size, good_from, is_some};
 
 use geometry::{capacity, fits_share, in_range};
-use hex::LF;
+use hexadecimal::LF;
 use kinds::limits::{LEAST_CAPACITY, MOST_TYPE, SHEET_LINE_BYTES};
 use kinds::record_types::DATA;
 
@@ -33,14 +33,14 @@ pub const ID: usize = 2;
 pub const RECORD_HEAD: usize = 4;
 
 // The length of a frame, and the cursor after its line.
-#[derive(Drop)]
+#[derive(Clone, Copy)]
 pub struct Next {
     pub size: usize,
     pub at: usize,
 }
 
 // A reader over the lent text: where the next line begins, and the length of the frame that was handed out last.
-#[derive(Drop)]
+#[derive(Clone, Copy)]
 pub struct Reader<'a> {
     pub text: &'a [u8],
     pub at: usize,
@@ -48,7 +48,7 @@ pub struct Reader<'a> {
 }
 
 // What a sheet's first frame says, and the cursor after it. A valid head never has 0 words.
-#[derive(Drop)]
+#[derive(Clone, Copy)]
 pub struct Head {
     pub words: u16,
     pub factor: u8,
@@ -83,7 +83,7 @@ pub fn next_frame(text: &[u8], at: usize, frame: &mut [u8]) -> Next
     if end == text.len() {
         return Next { size: 0, at: end };
     }
-    let size = hex::decode(&text[at..end], SHEET_LINE_BYTES, frame);
+    let size = hexadecimal::decode(&text[at..end], SHEET_LINE_BYTES, frame);
     Next { size, at: end + 1 }
 }
 

@@ -15,7 +15,7 @@ use ring::layout::{
 };
 
 // A cursor. The records still to go are those that its ring holds; past the last record it holds none.
-#[derive(Drop)]
+#[derive(Clone, Copy)]
 pub struct Cursor {
     pub ring: Ring,
     pub at: usize,

@@ -7,7 +7,7 @@ ghost use Rattle.records.specs.Reading.{Readable, header_of};
 use ring::layout::{FOLLOW, ID, TYPE};
 
 // A record except for its data: its type, the writer's ID, and how many bytes of data it has.
-#[derive(Drop)]
+#[derive(Clone, Copy)]
 pub struct Record {
     pub typ: u16,
     pub wid: u16,
@@ -15,7 +15,7 @@ pub struct Record {
 }
 
 // Where the oldest data record stands, if there is one.
-#[derive(Drop)]
+#[derive(Clone, Copy)]
 pub enum Found {
     At(usize),
     Nothing,

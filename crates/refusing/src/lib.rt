@@ -1,5 +1,7 @@
 // The refusal number of an event, from numbers alone: the file's R, the accessor's side, what it has outstanding, and the event's own. 0 if it is not refused.
 // No memory is lent: a desk kept in any form can look these numbers up and ask here. "the lowest that applies is given"
+#![tactic(auto)]
+
 ghost use Rattle.std.specs.Prelude.{◌≡◌};
 ghost use Rattle.refusing.specs.Verdicts.{free, while_free, nothing_refusal, read_refusal, write_refusal, close_refusal, switch_refusal, reader_refusal, control_refusal, code_refusal, build_refusal, modes_in_range};
 

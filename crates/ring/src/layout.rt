@@ -24,7 +24,7 @@ pub const RECORD_HEAD: usize = 2 * RECORD_HEAD_WORDS;
 pub const FOLLOW: u16 = (RECORD_HEAD - TYPE) as u16;
 
 // A block's bytes in the share: where they begin, and how many there are.
-#[derive(Drop)]
+#[derive(Clone, Copy)]
 pub struct Span {
     pub at: usize,
     pub size: usize,

@@ -1,10 +1,12 @@
 // The ring of a file's blocks: where its records begin and where the next one goes. A Ring is numbers alone; its methods hand back the next one.
+#![tactic(auto)]
+
 pub mod layout;
 
 ghost use Rattle.std.specs.Prelude.{◌≡◌, ◌*◌, ◌≤◌, ◌<◌};
 ghost use Rattle.ring.specs.Ring as spec;
 
-#[derive(Drop)]
+#[derive(Clone, Copy)]
 pub struct Ring {
     // records to a block, and the number of blocks
     pub factor: u16,
@@ -16,7 +18,7 @@ pub struct Ring {
 }
 
 // Where a record stands: its block, and how many records stand before it there.
-#[derive(Drop)]
+#[derive(Clone, Copy)]
 pub struct Place {
     pub block: u16,
     pub index: u16,

@@ -11,7 +11,7 @@ use Rattle.rules.specs.State.{Rec, Geo}
 use Rattle.rules.specs.Line.{line_of}
 use Rattle.rules.specs.Sheet.{head_frame, rec_frame, rec_lines, sheet}
 use Rattle.shares.specs.Groups.{All}
-use Rattle.hex.proofs.Trip.{length-line}
+use Rattle.hexadecimal.proofs.Trip.{length-line}
 use Rattle.laws.specs.Changes.{GoodGeo, GoodRecs, GoodSheet}
 use Rattle.laws.proofs.Room.{good-sized}
 use Rattle.roundtrip.specs.Trip.{sheet_room}

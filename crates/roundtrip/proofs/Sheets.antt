@@ -19,7 +19,7 @@ use Rattle.rules.proofs.Split.{true-and, pick_true}
 use Rattle.rules.proofs.Fits.{words-said}
 use Rattle.shares.specs.Groups.{All}
 use Rattle.laws.specs.Changes.{GoodGeo, GoodRecs}
-use Rattle.hex.proofs.Trip.{bytes-digits, line-digits}
+use Rattle.hexadecimal.proofs.Trip.{bytes-digits, line-digits}
 use Rattle.roundtrip.specs.Trip.{Plain, Written}
 use Rattle.roundtrip.proofs.Room.{share-words}
 use Rattle.roundtrip.proofs.Lines.{lines-line}

@@ -17,7 +17,7 @@ use writing::{sheet_length, write_sheet};
 pub const SHEET_ROOM: usize = 2 * SHARE_BYTES;
 
 // The status of a save, and the length of the sheet.
-#[derive(Drop)]
+#[derive(Clone, Copy)]
 pub struct Saved {
     pub status: u8,
     pub length: usize,

@@ -51,7 +51,7 @@ fn write_records(share: &[u8], ring: Ring, words: u16, output: &mut [u8], from: 
     let mut used = from;
     while cursor.ring.held > 0 {
         let frame = records::reading::frame(share, cursor.at);
-        used = hex::line(frame, output, used);
+        used = hexadecimal::line(frame, output, used);
         cursor = cursor.next(share, words);
     }
 }
@@ -63,6 +63,6 @@ pub fn write_sheet(share: &[u8], ring: Ring, words: u16, output: &mut [u8])
     ensures { output.new ≡ sets output.old 0 (sheet_of words ring share.now) }
 {
     let head = head_frame(ring, words);
-    let used = hex::line(&head, output, 0);
+    let used = hexadecimal::line(&head, output, 0);
     write_records(share, ring, words, output, used);
 }

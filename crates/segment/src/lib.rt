@@ -1,5 +1,7 @@
 // The segment, word by word: heads and links, entries, the rows of files and of places. docs/SEGMENT.md has the picture.
 // The words may hold anything: a caller with a bad segment reads numbers and stays inside the segment.
+#![tactic(auto)]
+
 ghost use Rattle.std.specs.Prelude.{◌≡◌, ◌+◌, ◌<◌, ◌≤◌, length};
 ghost use Rattle.rules.specs.Limits.{files, entries};
 ghost use Rattle.segment.specs.Layout.{desk_places, link_at, data_at, data_words, file_width, place_width, file_rows, file_row_at, place_row_at, segment_words, segment_bytes};
@@ -10,7 +12,7 @@ pub mod forms;
 pub mod layout;
 
 // The data of an entry: of a waiting or completed request, or of a timer, which has only a place and seconds.
-#[derive(Drop)]
+#[derive(Clone, Copy)]
 pub struct Entry {
     // 8 × file + accessor
     pub place: u16,
@@ -25,7 +27,7 @@ pub struct Entry {
 }
 
 // The row of a file: R, B and D; the oldest block, the records spent in it, and the records held.
-#[derive(Drop)]
+#[derive(Clone, Copy)]
 pub struct FileRow {
     pub words: u16,
     pub factor: u16,
@@ -36,7 +38,7 @@ pub struct FileRow {
 }
 
 // The row of an accessor place.
-#[derive(Drop)]
+#[derive(Clone, Copy)]
 pub struct PlaceRow {
     // 0 not open, 1 a reader, 2 a writer
     pub side: u16,

@@ -14,7 +14,7 @@ use Rattle.rules.specs.Limits.{answer_room}
 use Rattle.rules.specs.Line.{digits_of, line_frame, line_of}
 use Rattle.rules.specs.Desk.{event, respond, reply_bytes}
 use Rattle.rules.proofs.Split.{by_cases, pick_true, pick-false}
-use Rattle.hex.proofs.Trip.{length_digits}
+use Rattle.hexadecimal.proofs.Trip.{length_digits}
 use Rattle.promises.proofs.Events.{event-says}
 use Rattle.lines.specs.Asked.{answer_line, Gives, Asked}
 use Rattle.lines.proofs.Parts.{front, put_first}

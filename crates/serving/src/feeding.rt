@@ -6,7 +6,7 @@ ghost use Rattle.serving.specs.Served.{Kept};
 ghost use Rattle.memory.specs.Memories.{was, left};
 
 use crate::held::keep;
-use hex::LF;
+use hexadecimal::LF;
 use kinds::limits::ANSWER_ROOM;
 use lines::answer_line;
 
@@ -17,14 +17,14 @@ const ANSWER_LINE: usize = 2 * ANSWER_ROOM + 1;
 pub const OUT_BYTES: usize = 65536;
 
 // How many bytes of the line are held, and how many of the output are filled.
-#[derive(Drop)]
+#[derive(Clone, Copy)]
 struct Filled {
     held: usize,
     used: usize,
 }
 
 // How many bytes of the input were taken, and how much is held and filled after them.
-#[derive(Drop)]
+#[derive(Clone, Copy)]
 pub struct Fed {
     pub taken: usize,
     pub held: usize,

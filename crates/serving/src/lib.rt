@@ -28,7 +28,7 @@ fn print(aloud: bool, answers: &[u8]) -> bool {
 }
 
 // How much of a line is held after a read, and whether to read on.
-#[derive(Drop)]
+#[derive(Clone, Copy)]
 struct Turn {
     held: usize,
     more: bool,

@@ -3,7 +3,7 @@ ghost use Rattle.std.specs.Prelude.{◌≤◌, length};
 
 use crate::judging::{Played, asked_end, begin, end, judge, judge_status};
 use crate::text::{first, number, put, put_replaced, within};
-use hex::LF;
+use hexadecimal::LF;
 use kinds::limits::{ANSWER_ROOM, BLOCKS_BYTES, BUFFERS_BYTES, RECORD_ROOM};
 use lines::answer_line;
 use loading::load;
@@ -51,7 +51,7 @@ fn call_look<'a>(
     let file = number(line, FILE);
     let reader = number(line, READER);
     let part = look(segment, blocks, buffers, file, reader);
-    let n = hex::encode(part, &mut shown);
+    let n = hexadecimal::encode(part, &mut shown);
     let status = look_status(segment, blocks, buffers, file, reader);
     judge_status(line, status, &shown, n, at)
 }

@@ -3,7 +3,7 @@ ghost use Rattle.std.specs.Prelude.{◌≤◌, length};
 
 use crate::text::{after, find, put, put_byte, put_replaced, within};
 use check::same;
-use hex::LF;
+use hexadecimal::LF;
 use libc::STDOUT_FILENO;
 use saving::SHEET_ROOM;
 
@@ -11,7 +11,7 @@ use saving::SHEET_ROOM;
 const TOLD: usize = 2 + 1 + SHEET_ROOM;
 
 // Whether a session has begun, and whether it went as its lines say so far.
-#[derive(Drop)]
+#[derive(Clone, Copy)]
 pub struct Played {
     pub begun: bool,
     pub well: bool,

@@ -11,7 +11,7 @@ use crate::calls::call;
 use crate::judging::{Played, end};
 use crate::spelling::{SPELT, spell};
 use crate::text::{after, find};
-use hex::LF;
+use hexadecimal::LF;
 use kinds::limits::{BLOCKS_BYTES, BUFFERS_BYTES};
 use segment::layout::SEGMENT_BYTES;
 

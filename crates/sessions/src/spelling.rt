@@ -4,7 +4,7 @@ ghost use Rattle.std.specs.Prelude.{◌≤◌, length};
 
 use crate::text::{WORDS, after, find, first, number, put, put_all, put_byte, within};
 use check::same;
-use hex::LF;
+use hexadecimal::LF;
 use saving::SHEET_ROOM;
 
 // Room for a line with a sheet, and more. A line that is longer is cut, and then differs.

@@ -27,7 +27,7 @@ use writers::serve_writer;
 const DONE: u16 = statuses::DONE as u16;
 
 // The result of one turn: whether a request was served, and the file after it.
-#[derive(Drop)]
+#[derive(Clone, Copy)]
 pub struct Turn {
     pub moved: bool,
     pub file: File,

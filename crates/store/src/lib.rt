@@ -20,7 +20,7 @@ use records::fetch::found;
 use ring::Ring;
 
 // What a read finds: whether there is a record for it, where it stands in the file's share, and the file after the read.
-#[derive(Drop)]
+#[derive(Clone, Copy)]
 pub struct Fetched {
     pub got: bool,
     pub at: usize,

@@ -1,4 +1,6 @@
 // Puts text into lent memory, piece after piece: each function is given the place to begin at, and gives the place where it ended.
+#![tactic(auto)]
+
 ghost use Rattle.std.specs.Prelude.{◌≡◌, cond, [], ◌+◌, ◌≤◌, eqb, length};
 ghost use Rattle.texts.specs.Numbers.{most_digits, leading, decimal, one_digit, ending, counted};
 ghost use Rattle.texts.specs.Put.{Put};

@@ -1,4 +1,6 @@
 // Counts as they stand in a frame, 0 to 65,535: "n ≥ 0 is n words, below 0 it is −n bytes."
+#![tactic(auto)]
+
 ghost use Rattle.std.specs.Prelude.{◌≡◌, ◌≤◌};
 ghost use Rattle.rules.specs.TransferCounts.{in_words, count_bytes, readable, log_of};
 

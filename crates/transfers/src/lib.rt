@@ -11,7 +11,7 @@ pub use reading::read;
 pub use writing::write;
 
 // An answer, and the number of data bytes after it: they stand in the answer memory, starting where the answer's own bytes end.
-#[derive(Drop)]
+#[derive(Clone, Copy)]
 pub struct DataAnswer {
     pub answer: Answer,
     pub size: u16,

@@ -24,7 +24,7 @@ use store::{fits, put};
 use transfer_counts::{in_words, log_of};
 
 // Whether a write is taken at once, and if not, how many writers are open.
-#[derive(Drop)]
+#[derive(Clone, Copy)]
 pub struct Taken {
     pub done: bool,
     pub writers: u16,

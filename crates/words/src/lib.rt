@@ -1,4 +1,6 @@
 // Bytes and 16-bit words in lent memory, high byte first. A place is a byte's index.
+#![tactic(auto)]
+
 pub mod joined;
 
 ghost use Rattle.std.specs.Prelude.{◌≡◌, ◌+◌, ◌≤◌, ◌<◌, length};

@@ -11,7 +11,7 @@ use Rattle.rules.specs.Limits.{share_bytes}
 use Rattle.rules.specs.Line.{line_of}
 use Rattle.rules.specs.Sheet.{head_frame, rec_frame, rec_lines, sheet}
 use Rattle.shares.specs.Back.{rec_at}
-use Rattle.hex.proofs.Trip.{length-line}
+use Rattle.hexadecimal.proofs.Trip.{length-line}
 use Rattle.ring.specs.declared.Ring.{Ring}
 use Rattle.ring.specs.Ring.{geo, advanced}
 use Rattle.ring.specs.Held.{Held}

@@ -2,7 +2,7 @@ use native.Mathlib.Omega.{arith}
 use mathlib.Core.Path.{sym}
 use borrow.Author.Tests.{lt-ltb, le-ltb}
 use Rattle.rules.specs.Line.{value_of}
-use Rattle.hex.proofs.Digits.{value-under, value-number, value-between, value-letter, value-over}
+use Rattle.hexadecimal.proofs.Digits.{value-under, value-number, value-between, value-letter, value-over}
 use Rattle.faults.proofs.reading.is_digit.Statement.{statement}
 use Rattle.faults.proofs.reading.is_digit.Tie as tie
 

@@ -1,0 +1,12 @@
+use Rattle.words.proofs.Parts.{span, part-lent}
+use Rattle.words.proofs.Runs.{length-zeros}
+use Rattle.rules.specs.Limits.{buffer_bytes}
+use Rattle.buffers.specs.Buffer.{buffer_count}
+use borrow.Author.Rules.{rules}
+use Rattle.buffers.proofs.clear_at.Goals as goal
+
+pub returns : goal.returns
+returns c =
+    rw span
+    (part-lent _ _ _ _ buffer_count _ c.requires.0 c.requires.1 (length-zeros buffer_bytes)
+    c.clear.ensures)

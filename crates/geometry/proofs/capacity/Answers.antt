@@ -1,0 +1,9 @@
+use mathlib.Core.Path.{refl}
+use native.Mathlib.Omega.{arith}
+use Rattle.rules.specs.Geometry.{capacity}
+use Rattle.geometry.proofs.Sizes.{product-most}
+use Rattle.geometry.proofs.capacity.Goals as goal
+
+pub returns : goal.returns
+unfolding capacity
+returns c = refl

@@ -1,0 +1,17 @@
+use Prim.Native.Nat.{◌<◌}
+use mathlib.Core.Path.{◌≡◌, refl, ◌∙◌, sym}
+use native.Mathlib.Omega.{arith}
+use borrow.Author.Rules.{rules}
+use borrow.Author.Tests.{eq-eqb, ne_eqb}
+use Rattle.rules.specs.Limits.{entries}
+use Rattle.segment.specs.Layout.{file_rows}
+use Rattle.segment.specs.Fields.{entry_at, entry_of}
+use Rattle.ports.specs.Slots.{seek, has}
+use Rattle.ports.proofs.Steps.{seek_stop, seek-here, seek-step}
+use Rattle.ports.proofs.seek_place.Given as goal
+
+abbrev pub invariant-loop-n : goal.invariant-loop-n
+invariant-loop-n l = (l.p < file_rows) × (seek (has 0 l.place) l.s l.l entries ≡ seek (has 0 l.place) l.s l.p l.n)
+
+abbrev pub decreases-loop-n : goal.decreases-loop-n
+decreases-loop-n l = l.n

@@ -1,0 +1,7 @@
+use Rattle.refusing.specs.Verdicts.{code_refusal}
+use borrow.Author.Rules.{rules}
+use Rattle.refusing.proofs.code_refusal.Goals as goal
+
+pub returns : goal.returns
+unfolding code_refusal
+returns c = c.while_free.ensures

@@ -1,0 +1,14 @@
+use Prim.Native.Nat.{◌+◌, ◌-◌, ◌≤◌}
+use mathlib.Core.Path.{◌≡◌}
+use native.Mathlib.Omega.{arith}
+use Rattle.words.specs.Word.{quiet}
+use Rattle.words.proofs.Ors.{Sofar, or_left, sofar-one, sofar-on, sofar-over}
+use Rattle.words.proofs.Joins.{eight-start, eight-step, part-bad, last-bad, last-holds}
+use borrow.Author.Rules.{rules}
+use Rattle.words.proofs.quiet.Given as goal
+
+abbrev pub invariant-loop-i : goal.invariant-loop-i
+invariant-loop-i l = Sofar l.all (quiet l.s l.at l.n) (quiet l.s (l.at + l.i) (l.n - l.i)) × (l.all ≡ 0 → l.initial.all ≡ 0) × (l.i ≤ l.n)
+
+abbrev pub decreases-loop-i : goal.decreases-loop-i
+decreases-loop-i l = l.n - l.i
