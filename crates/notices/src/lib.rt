@@ -1,4 +1,6 @@
 // The lines of the night board, made from numbers that are given, each put after the one before.
+#![tactic(auto)]
+
 ghost use Rattle.std.specs.Prelude.{◌++◌, ◌+◌, ◌*◌, ◌≤◌, eqb, length};
 ghost use Rattle.rules.specs.Limits.{most_words};
 ghost use Rattle.texts.specs.Spell.{spell};

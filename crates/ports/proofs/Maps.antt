@@ -35,7 +35,7 @@ module _ {A B : Type 0} where
 
   pub map-put_in : (f : A → B) (n : ℕ) (x : A) (xs : List A) → map f (put_in n x xs) ≡ put_in n (f x) (map f xs)
   unfolding put_in
-  map-put_in f n x xs = map-append f (take n xs) (x ∷ drop n xs) ∙ rw (map-take, map-drop)
+  map-put_in f n x xs = map-append f (take n xs) (x ∷ drop n xs) ∙ rw (map-take f n xs, map-drop f n xs)
 
   pub map_at : (f : A → B) (xs : List A) (n : ℕ) (a : A) (b : B) → n < length xs → get_or (map f xs) n b ≡ f (get_or xs n a)
   map_at f [] n a b h = absurd (omega arith)

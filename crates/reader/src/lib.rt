@@ -1,5 +1,7 @@
 // "The sheet is read by a reader over the lent text that hands out frame after frame": a text with a cursor, and a struct of the two.
 // Also tests whether a text is a sheet.
+#![tactic(auto)]
+
 ghost use Rattle.std.specs.Prelude.{◌≡◌, ◌≤◌, length};
 ghost use Rattle.std.proofs.lemmas.List.Edits.{sets};
 ghost use Rattle.rules.specs.Limits.{sheet_line_bytes};

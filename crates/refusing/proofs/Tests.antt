@@ -1,10 +1,9 @@
 -- A test that a function made, by its contract.
 use mathlib.Core.Path.{◌≡◌, sym, ◌∙◌}
-use mathlib.Core.Bool.{Bool, true, false, not}
-use borrow.Author.Tests.{not-true, not-false}
+use mathlib.Core.Bool.{Bool, true, false}
 
-pub held : {t x : Bool} → t ≡ x → not t ≡ false → x ≡ true
-held {t} e k = sym e ∙ not-false t k
+pub held : {t x : Bool} → t ≡ x → t ≡ true → x ≡ true
+held e k = sym e ∙ k
 
-pub failed : {t x : Bool} → t ≡ x → not t ≡ true → x ≡ false
-failed {t} e k = sym e ∙ not-true t k
+pub failed : {t x : Bool} → t ≡ x → t ≡ false → x ≡ false
+failed e k = sym e ∙ k

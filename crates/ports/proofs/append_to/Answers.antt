@@ -5,5 +5,4 @@ use Rattle.ports.proofs.append_to.Goals as goal
 pub returns : goal.returns
 unfolding append
 returns c =
-    let end-slot = c.end_slot-p in
-    rw (c.insert_at.ensures, end-slot.ensures.0)
+    rw (c.insert_at.ensures, c.end_slot-p.ensures.0)

@@ -13,10 +13,10 @@ returns-then-e-ge-ENTRIES c = (sym (c.loop-n.invariant.1 ∙ end-stop _ _ _ c.ge
 
 pub loop-n-preserved : goal.loop-n-preserved
 loop-n-preserved c =
-    let loop = c.loop-n in (
+    (
       search rules,
       rw c.link_at-p.ensures.0
-          (loop.invariant.1
+          (c.loop-n.invariant.1
           ∙ end_step _ _ _ c.get-e.ensures _ c.loop-n-test.true
           c.if-e-ge-ENTRIES.false),
     )

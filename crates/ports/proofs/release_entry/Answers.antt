@@ -6,5 +6,4 @@ use Rattle.ports.proofs.release_entry.Goals as goal
 pub returns : goal.returns
 unfolding released entry_words
 returns c =
-    let write-entry = c.write_entry in
-    rw (c.insert_at.ensures, write-entry.ensures)
+    rw (c.insert_at.ensures, c.write_entry.ensures)

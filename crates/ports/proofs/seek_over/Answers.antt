@@ -16,9 +16,9 @@ returns-then-e-ge-ENTRIES c = (sym (c.loop-n.invariant.1 ∙ seek_stop _ _ _ c.g
 pub returns-then-seconds-entry_seconds : goal.returns-then-seconds-entry_seconds
 unfolding entry_at entry_of
 returns-then-seconds-entry_seconds c =
-    let loop = c.loop-n in (
+    (
       sym
-          (loop.invariant.1
+          (c.loop-n.invariant.1
           ∙ seek-here _ _ _ c.get-e.ensures _ _ c.if-e-ge-ENTRIES.false
           (rw (← c.entry_seconds.ensures) (lt-ltb _ _ c.if-seconds-entry_seconds.true))),
       search rules,
@@ -27,13 +27,11 @@ returns-then-seconds-entry_seconds c =
 pub loop-n-preserved : goal.loop-n-preserved
 unfolding entry_at entry_of
 loop-n-preserved c =
-    let get = c.get-e in
-    let loop-test = c.loop-n-test in
-    let loop = c.loop-n in (
+    (
       search rules,
       rw c.link_at-p.ensures.0
-          (loop.invariant.1
-          ∙ seek-step _ _ _ get.ensures _ _ loop-test.true c.if-e-ge-ENTRIES.false
+          (c.loop-n.invariant.1
+          ∙ seek-step _ _ _ c.get-e.ensures _ _ c.loop-n-test.true c.if-e-ge-ENTRIES.false
           (rw (← c.entry_seconds.ensures) (le-ltb _ _ c.if-seconds-entry_seconds.false))),
     )
 

@@ -16,25 +16,23 @@ returns-then-e-ge-ENTRIES c = (sym (c.loop-n.invariant.1 ∙ seek_stop _ _ _ c.g
 pub returns-then-entry_place-place : goal.returns-then-entry_place-place
 unfolding entry_at entry_of
 returns-then-entry_place-place c =
-    let loop = c.loop-n in (
+    (
       sym
-          (loop.invariant.1
+          (c.loop-n.invariant.1
           ∙ seek-here _ _ _ c.get-e.ensures _ _ c.if-e-ge-ENTRIES.false
-          (rw (← c.entry_IsPlace.ensures) (eq-eqb _ _ c.if-entry_place-place.true))),
+          (rw (← c.entry_place.ensures) (eq-eqb _ _ c.if-entry_place-place.true))),
       search rules,
     )
 
 pub loop-n-preserved : goal.loop-n-preserved
 unfolding entry_at entry_of
 loop-n-preserved c =
-    let get = c.get-e in
-    let loop-test = c.loop-n-test in
-    let loop = c.loop-n in (
+    (
       search rules,
       rw c.link_at-p.ensures.0
-          (loop.invariant.1
-          ∙ seek-step _ _ _ get.ensures _ _ loop-test.true c.if-e-ge-ENTRIES.false
-          (rw (← c.entry_IsPlace.ensures) (ne_eqb _ _ c.if-entry_place-place.false))),
+          (c.loop-n.invariant.1
+          ∙ seek-step _ _ _ c.get-e.ensures _ _ c.loop-n-test.true c.if-e-ge-ENTRIES.false
+          (rw (← c.entry_place.ensures) (ne_eqb _ _ c.if-entry_place-place.false))),
     )
 
 pub returns : goal.returns

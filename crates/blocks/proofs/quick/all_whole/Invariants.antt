@@ -1,0 +1,13 @@
+use mathlib.Core.Bool.{false≢true}
+use mathlib.Core.Path.{sym, ◌∙◌}
+use native.Mathlib.Omega.{arith}
+use borrow.Author.Tests.{ltb-true, ne_eqb}
+use borrow.Author.Rules.{rules}
+use Rattle.blocks.proofs.quick.Laws.{Passed, passed_none, passed-room, passed-one, passed-all}
+use Rattle.blocks.proofs.quick.all_whole.Given as goal
+
+abbrev pub invariant-loop-left : goal.invariant-loop-left
+invariant-loop-left l = Passed l.words l.share l.at l.n l.p l.left l.all l.least
+
+abbrev pub decreases-loop-left : goal.decreases-loop-left
+decreases-loop-left l = l.left

@@ -1,0 +1,10 @@
+use native.Mathlib.Omega.{arith}
+use Prim.Native.Nat.{◌-◌}
+use borrow.Author.Tests.{not-false}
+use borrow.Author.Rules.{rules}
+use Rattle.blocks.proofs.quick.Laws.{Skipped, skipped-none, skipped-one}
+use Rattle.blocks.proofs.quick.bare_first.Goals as goal
+
+pub loop-k-preserved : goal.loop-k-preserved
+loop-k-preserved c =
+    skipped-one _ _ _ c.loop-k.p c.loop-k.k c.loop-k-test.true (c.bare.ensures (c.if-not-bare.false)) c.loop-k.invariant
