@@ -1,21 +1,25 @@
-"""The must-fail edits: what an .edit file says, and what rt said to it. tools/try-edits and tools/check-edits both judge by this page.
+"""The must-fail edits: what an .edit file says, and what rt and the prover said to it. tools/try-edits and tools/check-edits both judge by this page.
 
-An .edit begins with a line that says what the wrong version does. `at: FILE DECLARATION` is the place where the prover must stop first, because a fact fails
-there: a theorem or a lemma, or a goal of a function's proof, in a file of proofs/ or specs/; or, where rt names a line of the code, `at: FILE FUNCTION GOAL`.
-The pairs `old:` and `new:` after a `file:` line are the change. rt says in one line what came of an edit: `rt: must-fail CRATE/EDIT.edit: ` and, where the
-prover refused it, the first place at which it stopped, with its words, cut after 160 characters. The log of an edit, target/edits/CRATE/EDIT.log, has that
-line. Its head names the edit, the place, and a digest of all that it was tried on. It appears only when it is complete."""
+An .edit begins with a line that says what the wrong version does. `at: FILE DECLARATION` is the place where the prover must say that a fact fails: a theorem or
+a law, or a goal of a function's proof, in a file of proofs/ or specs/; or, where the prover names a line of the code, `at: FILE FUNCTION GOAL`. The pairs `old:`
+and `new:` after a `file:` line are the change.
+
+rt says in one line what came of an edit: `rt: must-fail CRATE/EDIT.edit: ` and, where the prover refused it, the first place at which it stopped, with its
+words, cut after 160 characters. Where that is not the edit's place, the prover is asked once more for all that it says. The log of an edit,
+target/edits/CRATE/EDIT.log, has rt's line and, if it was asked for, what the prover said at the edit's place. Its head names the edit, the place, and a digest
+of all that it was tried on. It appears only when it is complete."""
 import functools, glob, hashlib, os, re, subprocess
 
 ROOT = os.path.realpath(os.path.join(os.path.dirname(os.path.abspath(__file__)), '..'))
 LOGS = f'{ROOT}/target/edits'
 PARTS = ('src', 'specs', 'proofs')
+END = 'end'
 
 # what rt says of an edit
 SAID = re.compile(r'^rt: must-fail (\w+)/(\S+?)\.edit: (.*)$', re.M)
 REFUSED = 'refused, as it must be'
 # the place at which the prover stopped: in the code, a goal that it could not prove, or in a file an error in a declaration
-PLACE = re.compile(r'(?:note: )?(?:\./)?((?:src|specs|proofs)/\S+?):(\d+):(\d+): (?:error: )?(?:`([^`]*)`: )?(.*)')
+PLACE = re.compile(r'(?:note: (?=src/)|(?=\S+ error: ))(?:\./)?((?:src|specs|proofs)/\S+?):(\d+):(\d+): (?:error: )?(?:`([^`]*)`: )?(.*)')
 # how the prover words a fact that fails: a goal that is not proved, two types or sides that differ, or numbers from which a goal does not follow
 FACT = re.compile(r"""it\ is\ not\ proved\ that|the\ two\ (types|sides)\ |^expected\ type\ `|^`omega`:\ .*does\ not\ follow
     |^`rw`:\ no\ occurrence\ of\ the\ path's|^give\ a\ proof\ of\ that\ as\ the\ last\ argument""", re.X)
@@ -105,13 +109,16 @@ def tried_on(edit):
 
 
 def function_at(text, line):
-    """The function whose head is the last one down to this line of a file of src/."""
-    names = (re.match(r'\s*(?:pub(?:\([\w ]+\))? )?(?:extern "C" )?fn (\w+)', head) for head in text.split('\n')[:line])
+    """The function whose head is the last one down to this line of a file of src/, or right below it, where the line is an attribute."""
+    lines = text.split('\n')
+    while line < len(lines) and lines[line - 1].lstrip().startswith(('#[', '//')):
+        line += 1
+    names = (re.match(r'\s*(?:pub(?:\([\w ]+\))? )?(?:extern "C" )?fn (\w+)', head) for head in lines[:line])
     return ([found[1] for found in names if found] or ['?'])[-1]
 
 
 def place(edit, said):
-    """The place at which rt says that the prover stopped first, as an `at:` line has it, and the prover's words; none where rt names no place."""
+    """The place of which a line of the prover speaks, as an `at:` line has it, and the prover's words; no place where it names none."""
     found = PLACE.match(said)
     if not found:
         return (), said
@@ -127,14 +134,30 @@ def is_fact(words):
     return bool(FACT.search(words)) and 'was not admitted (' not in words
 
 
-def keep_log(edit, said):
-    """Writes the log of an edit: its head, and rt's line."""
+def facts(edit, lines):
+    """Of these lines of the prover those that say at the edit's place that a fact fails."""
+    return [line for line in lines if (at := place(edit, line))[0] == edit.at and is_fact(at[1])]
+
+
+def first(said):
+    """The first place with the prover's words, of rt's line for an edit that the prover refused; else nothing."""
+    return said.removeprefix(f'{REFUSED}: ') if said.startswith(f'{REFUSED}: ') else ''
+
+
+def keep_log(edit, said, whole=None):
+    """Writes the log of an edit: its head, rt's line and, where the prover was asked for all that it says, the facts at the edit's place, or at which other
+    places it stopped."""
     head = [f'edit: {edit.label}', f'at: {" ".join(edit.at)}', f'of: {tried_on(edit)}', '']
-    put(edit.log, '\n'.join([*head, said]) + '\n')
+    more = []
+    if whole is not None:
+        lines = [line for line in whole.splitlines() if PLACE.match(line)]
+        at_place = facts(edit, lines)
+        more = at_place or ['elsewhere:', *(f'  {" ".join(place(edit, line)[0])}: {place(edit, line)[1]}' for line in lines)]
+    put(edit.log, '\n'.join([*head, said, *more, END]) + '\n')
 
 
 def keep_all(said):
-    """Writes the log of each edit of which these lines of rt speak, and gives the labels of these edits."""
+    """Writes the log of each edit of which these lines of rt speak, and gives rt's line of each, by its label."""
     lines = {f'{crate}/{name}': line for crate, name, line in SAID.findall(said)}
     for edit in all_edits():
         if edit.label in lines and not edit.wrong:
@@ -142,9 +165,16 @@ def keep_all(said):
     return lines
 
 
+def logged(edit):
+    """The head of an edit's log, and the lines of what was said. A log that is cut may end within a character."""
+    head, _, said = read(edit.log, errors='replace').partition('\n\n')
+    return head, said.split('\n')
+
+
 def fact(edit):
     """What the prover said of the fact that fails at an edit's place, by a log without fault."""
-    return read(edit.log).partition('\n\n')[2].removeprefix(REFUSED).lstrip(': ').rstrip('\n')
+    said = logged(edit)[1]
+    return facts(edit, [first(said[0]), *said[1:]])[0]
 
 
 def fault(edit):
@@ -153,18 +183,15 @@ def fault(edit):
         return edit.wrong
     if not os.path.exists(edit.log) or not os.path.getsize(edit.log):
         return 'was not tried'
-    # a log that is cut may end within a character
-    head, _, said = read(edit.log, errors='replace').partition('\n\n')
+    head, said = logged(edit)
     if f'\nof: {tried_on(edit)}' not in head:
         return 'was not tried on what stands there now'
-    if not said.endswith('\n'):
+    if said[-2:] != [END, '']:
         return 'was not tried to the end: its log is cut'
-    said = said.rstrip('\n')
-    if not said.startswith(f'{REFUSED}: '):
-        return f'is not refused by a fact: {said[:300]}'
+    if not said[0].startswith(REFUSED):
+        return f'is not refused: {said[0][:300]}'
     if edit.crate == 'rules' and not re.match(r'proofs/(Worked|Sessions\w+)\.antt', edit.at[0]):
         return f'names {edit.at[0]}, which is no session'
-    at, words = place(edit, said.removeprefix(f'{REFUSED}: '))
-    if at != edit.at:
-        return f'is not refused at {" ".join(edit.at)}; the prover stops first at {" ".join(at) or "no place"}: {words}'
-    return '' if is_fact(words) else f'is not refused by a fact at {" ".join(at)}: {words}'
+    if facts(edit, [first(said[0]), *said[1:-2]]):
+        return ''
+    return f'is not refused by a fact at {" ".join(edit.at)}; the prover stops first at {first(said[0]) or said[0]}'
