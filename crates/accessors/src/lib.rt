@@ -1,4 +1,6 @@
 // The file and the accessor that a call names, as the rows and lists of the segment show them.
+#![tactic(auto)]
+
 pub mod outstanding;
 pub mod sides;
 

@@ -1,4 +1,6 @@
 // Why a line of a session is no frame, and the remark that says so: the first line of each kind of fault is told, with its number.
+#![tactic(auto)]
+
 mod decimals;
 mod reading;
 mod remarks;

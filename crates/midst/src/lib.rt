@@ -1,4 +1,6 @@
 // The midst of a call: the file that the call names is in hand, as numbers by value, and is written back when the call is done.
+#![tactic(auto)]
+
 ghost use Rattle.std.specs.Prelude.{◌≡◌, ◌<◌, length};
 ghost use Rattle.rules.specs.Limits.{files};
 ghost use Rattle.segment.specs.Layout.{segment_bytes, file_row_at};

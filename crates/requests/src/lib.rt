@@ -1,5 +1,7 @@
 // Requests in the segment: a request begins to wait, completes, is cancelled or is collected, and its timer goes with it.
 // The callers know that there is a free entry to take and that the request is where it is looked for.
+#![tactic(auto)]
+
 ghost use Rattle.std.specs.Prelude.{◌≡◌, ◌<◌, length};
 ghost use Rattle.rules.specs.Limits.{entries};
 ghost use Rattle.segment.specs.Layout.{list_count, file_rows, segment_bytes, free_list, reply_port, desk_places};

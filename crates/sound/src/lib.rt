@@ -1,6 +1,8 @@
 // Tests whether the lent memories are sound: the rows and blocks of each file, and one walk of each list.
 // Every call except fresh makes this test. Nothing is copied, of files that are not built only rows and list heads are read, and no byte of the record
 // buffers is read: only their length is tested.
+#![tactic(auto)]
+
 mod choice;
 mod entries;
 mod files;
