@@ -1,0 +1,217 @@
+use Prim.Native.Nat.{ℕ}
+use mathlib.Core.Bool.{Bool}
+use mathlib.Core.Path.{◌≡◌, refl, sym, ap, ◌∙◌}
+use native.Mathlib.Omega.{arith}
+use borrow.Author.Rules.{rules}
+use lib.Dec.{ltb}
+use Rattle.rules.specs.Desk.{Desk}
+use Rattle.rules.specs.Allocation.{Alloc, place_of}
+use Rattle.segment.specs.Fields.{place_at}
+use Rattle.accessors.specs.Sides.{count_side}
+use Rattle.memory.specs.Memories.{Memories, memories}
+use Rattle.memory.specs.Fine.{StandsFor}
+use Rattle.transfers.specs.Rows.{may_wait_row}
+use Rattle.transfers.proofs.Fits.{Fit}
+use Rattle.transfers.proofs.Rests.{done-of}
+use Rattle.transfers.proofs.Writes.{Writing, Admitted, Untaken, write-fit, write-ranged, write-ready, write-side, write_bytes, write-put, write-rowed, write-free, write-waits, write-ends, write-beside, waits-beside}
+use Rattle.transfers.proofs.writing.write.Goals as goal
+use Rattle.transfers.proofs.writing.write.Goals.{Start}
+
+-- the memories as they are lent
+abbrev lent : Start → Memories
+lent c = memories c.args.segment.now c.args.blocks.now c.args.buffers.now
+
+-- the write on each desk that they stand for, which does not refuse it; and on the desk that is known
+writes : (c : Start) {d : Desk} {s : Alloc} → StandsFor (lent c) d s → Writing (lent c) c.args.f c.args.acc c.args.count c.args.«data».now d s
+writes c S = record { stands = S; accepted = c.requires.sound.1 _ _ S; size = c.requires.data_len }
+
+known : (c : Start) → Writing (lent c) c.args.f c.args.acc c.args.count c.args.«data».now c.requires.sound.0.0 c.requires.sound.0.1
+known c = writes c c.requires.sound.0.2
+
+fit : (c : Start) → Fit (lent c) c.args.f c.args.acc
+fit c = write-fit (known c)
+
+-- what the code has seen when the record is put
+module _ (c : tie.After-put) where
+  abbrev put-start : tie.Start
+  put-start = search
+
+  abbrev put-file : tie.After-take-file
+  put-file = search
+
+  abbrev put-words : tie.After-in-words
+  put-words = search
+
+  abbrev put-began : tie.After-begin-write
+  put-began = search
+
+  admitted : Admitted (lent put-start) put-start.args.f put-start.args.acc put-file.take-file.result
+      (place_at put-start.args.segment.now (place_of put-start.args.f put-start.args.acc)) put-began.begin-write.last.0
+  unfolding place_of
+  admitted =
+      let then : tie.Then1 = search in
+      let asked : tie.After-taken-now = search in
+      record {
+        seen = record { file = put-file.take-file.ensures; place = refl; began = put-began.begin-write.ensures };
+        fits = sym then.if1.taken ∙ asked.taken-now.ensures.0;
+      }
+
+-- what the code has seen when the accessor has begun
+module _ (c : tie.After-begin-write2) where
+  abbrev began-start : tie.Start
+  began-start = search
+
+  abbrev began-file : tie.After-take-file
+  began-file = search
+
+  abbrev began-words : tie.After-in-words
+  began-words = search
+
+  abbrev began-asked : tie.After-taken-now
+  began-asked = search
+
+  abbrev began-else : tie.Else1
+  began-else = search
+
+  abbrev began-row : tie.After-read-place
+  began-row = search
+
+  untaken : Untaken (lent began-start) began-start.args.f began-start.args.acc began-start.args.count began-file.take-file.result
+      began-row.read-place.result c.begin-write2.new.0 began-words.in_words_lem.result
+  unfolding place_of
+  untaken = record {
+    seen = record { file = began-file.take-file.ensures; place = began-row.read-place.ensures; began = c.begin-write2.ensures };
+    full = sym began-else.if1.left ∙ began-asked.taken-now.ensures.0;
+    words = began-words.in_words_lem.ensures;
+  }
+
+  writers : began-asked.taken-now.result.writers ≡ count_side began-start.args.segment.now began-start.args.f 2
+  writers = began-asked.taken-now.ensures.1 began-else.if1.left
+
+-- whether the write may wait
+module _ (c : tie.After-may-wait) where
+  abbrev may-began : tie.After-begin-write2
+  may-began = search
+
+  may-wait : {t : Bool} → c.may-wait.result ≡ t
+      → t ≡ may_wait_row (ltb 0 (count_side may-began.begin-write2.last.0 (began-start may-began).args.f 1)) (began-row may-began).read-place.result
+  may-wait e =
+      let counted : tie.After-count-side = search in
+      sym e ∙ c.may-wait.ensures ∙ ap (λ (j : ℕ). may_wait_row (ltb 0 j) (began-row may-began).read-place.result) counted.count-side.ensures.0
+
+pub overflow_mul-place : goal.overflow_mul-place
+overflow_mul-place c = record { fits = omega (arith, (fit (goal.at.overflow_mul-place c).Start).file) }
+
+pub overflow_add-place : goal.overflow_add-place
+overflow_add-place c = record { fits = omega (arith, (fit (goal.at.overflow_add-place c).Start).file, (fit (goal.at.overflow_add-place c).Start).place) }
+
+pub take_file-file-requires-clause-f_lt_files : goal.take_file-file-requires-clause-f_lt_files
+take_file-file-requires-clause-f_lt_files c =
+    (fit (goal.at.take_file-file-requires-clause-f_lt_files c).Start).file
+
+pub taken_now-taken-requires : goal.taken_now-taken-requires
+taken_now-taken-requires c =
+    ((fit (goal.at.taken_now-taken-requires c).Start).segment, (fit (goal.at.taken_now-taken-requires c).Start).file, write-ranged (known (goal.at.taken_now-taken-requires c).Start) c.take_file-file.ensures)
+
+pub place_id-id-requires-clause-i_lt_desk_places : goal.place_id-id-requires-clause-i_lt_desk_places
+place_id-id-requires-clause-i_lt_desk_places c =
+    omega (arith, (fit (goal.at.place_id-id-requires-clause-i_lt_desk_places c).Start).file, (fit (goal.at.place_id-id-requires-clause-i_lt_desk_places c).Start).place)
+
+pub begin_write-requires : goal.begin_write-requires
+unfolding place_of
+begin_write-requires c =
+    ((fit (goal.at.begin_write-requires c).Start).segment, omega (arith, (fit (goal.at.begin_write-requires c).Start).file, (fit (goal.at.begin_write-requires c).Start).place), write-side (known (goal.at.begin_write-requires c).Start))
+
+pub put-next-requires-clause-blocks_len : goal.put-next-requires-clause-blocks_len
+put-next-requires-clause-blocks_len c =
+    (write-ready (known (goal.at.put-next-requires-clause-blocks_len c).Start) c.take_file-file.ensures).0
+
+pub put-next-requires-clause-ready : goal.put-next-requires-clause-ready
+put-next-requires-clause-ready c =
+    (write-ready (known (goal.at.put-next-requires-clause-ready c).Start) c.take_file-file.ensures).1
+
+pub quick_conclude-requires : goal.quick_conclude-requires
+unfolding place_of
+quick_conclude-requires c =
+    let W = known (put-start (goal.at.quick_conclude-requires c).After-put-next) in (
+      (_, _, (write-put W (admitted (goal.at.quick_conclude-requires c).After-put-next) c.place_id-id.ensures c.put-next.ensures.keeps refl refl).mid),
+      write-rowed W (admitted (goal.at.quick_conclude-requires c).After-put-next) c.put-next.ensures.file,
+    )
+
+pub overflow_cast-data : goal.overflow_cast-data
+overflow_cast-data c = record { fits = omega (arith, write_bytes (known (put-start (goal.at.overflow_cast-data c).After-put-next))) }
+
+pub returns-then-taken : goal.returns-then-taken
+unfolding place_of
+returns-then-taken c =
+    let words = put-words (goal.at.returns-then-taken c).After-put-next in
+    λ d s S.
+    done-of c.quick_conclude.ensures S.stands.bodies
+    (write-put (writes (put-start (goal.at.returns-then-taken c).After-put-next) S) (admitted (goal.at.returns-then-taken c).After-put-next) c.place_id-id.ensures c.put-next.ensures.keeps c.log_of-log.ensures words.in_words_lem.ensures)
+
+pub read_place-row-requires-clause-i_lt_desk_places : goal.read_place-row-requires-clause-i_lt_desk_places
+read_place-row-requires-clause-i_lt_desk_places c =
+    omega (arith, (fit (goal.at.read_place-row-requires-clause-i_lt_desk_places c).Start).file, (fit (goal.at.read_place-row-requires-clause-i_lt_desk_places c).Start).place)
+
+pub begin_write-requires-2 : goal.begin_write-requires-2
+unfolding place_of
+begin_write-requires-2 c =
+    ((fit (goal.at.begin_write-requires-2 c).Start).segment, omega (arith, (fit (goal.at.begin_write-requires-2 c).Start).file, (fit (goal.at.begin_write-requires-2 c).Start).place), write-side (known (goal.at.begin_write-requires-2 c).Start))
+
+pub count_side-requires-clause-f_lt_files : goal.count_side-requires-clause-f_lt_files
+count_side-requires-clause-f_lt_files c =
+    let start = began-start (goal.at.count_side-requires-clause-f_lt_files c).After-begin_write-2 in
+    (fit start).file
+
+pub wait_write-requires-clause-segment_len : goal.wait_write-requires-clause-segment_len
+unfolding place_of
+wait_write-requires-clause-segment_len c =
+    let began = may-began (goal.at.wait_write-requires-clause-segment_len c).After-may_wait in
+    let start = began-start began in
+    let F = fit start in
+    let free = write-free (known start) (untaken began) in
+    (free.0, F.buffers-size, F.file, omega (arith, F.file, F.place), write_bytes (known start), free.1)
+
+pub wait_write-requires-clause-free_list_bound : goal.wait_write-requires-clause-free_list_bound
+unfolding place_of
+wait_write-requires-clause-free_list_bound c =
+    let began = may-began (goal.at.wait_write-requires-clause-free_list_bound c).After-may_wait in
+    let start = began-start began in
+    let F = fit start in
+    let free = write-free (known start) (untaken began) in
+    free.2
+
+pub settle_back-requires : goal.settle_back-requires
+unfolding place_of
+settle_back-requires c =
+    let began = may-began (goal.at.settle_back-requires c).After-may_wait in
+    let W = known (began-start began) in
+    let so = may-wait (goal.at.settle_back-requires c).After-may_wait c.if-may_wait.true in (
+      (_, _, (write-waits W (untaken began) so c.wait_write.ensures.segment c.wait_write.ensures.buffers).mid),
+      λ _. waits-beside W (untaken began) so c.wait_write.ensures.segment c.wait_write.ensures.buffers (writers began),
+    )
+
+pub returns-then-may_wait : goal.returns-then-may_wait
+unfolding place_of
+returns-then-may_wait c =
+    let began = may-began (goal.at.returns-then-may_wait c).After-may_wait in
+    λ d s S.
+    rw c.untaken.ensures
+    (done-of c.settle_back.ensures S.stands.bodies
+    (write-waits (writes (began-start began) S) (untaken began) (may-wait (goal.at.returns-then-may_wait c).After-may_wait c.if-may_wait.true) c.wait_write.ensures.segment c.wait_write.ensures.buffers))
+
+pub settle_back-requires-2 : goal.settle_back-requires-2
+settle_back-requires-2 c =
+    let began = may-began (goal.at.settle_back-requires-2 c).After-may_wait in
+    let W = known (began-start began) in (
+      (_, _, (write-ends W (untaken began) (may-wait (goal.at.settle_back-requires-2 c).After-may_wait c.if-may_wait.false)).mid),
+      λ _. write-beside W (untaken began).seen (writers began),
+    )
+
+pub returns : goal.returns
+returns c =
+    let began = may-began (goal.at.returns c).After-may_wait in
+    λ d s S.
+    rw c.untaken-2.ensures
+    (done-of c.settle_back-2.ensures S.stands.bodies
+    (write-ends (writes (began-start began) S) (untaken began) (may-wait (goal.at.returns c).After-may_wait c.if-may_wait.false)))
