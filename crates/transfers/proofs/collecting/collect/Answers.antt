@@ -9,7 +9,7 @@ use native.Mathlib.Omega.{arith}
 use borrow.Author.Rules.{rules}
 use Rattle.memory.specs.Memories.{memories}
 use Rattle.transfers.proofs.collecting.collect.Goals as goal
-use Rattle.transfers.proofs.collecting.collect.Goals.{Start}
+use Rattle.transfers.proofs.collecting.collect.Goals.{Start, After-read_entry-m}
 
 -- the collect on the desk that is known, which does not refuse it
 known : (c : Start)
@@ -20,16 +20,9 @@ fit : (c : Start) → Fit (memories c.args.segment.now c.requires.by_index.0 c.a
 fit c = collect-fit (known c)
 
 -- what the code has seen when the entry is read
-module _ (c : tie.After-read-entry) where
-  abbrev entry-start : tie.Start
-  entry-start = search
-
-  abbrev entry-get : tie.After-get
-  entry-get = search
-
-  seen : Seen entry-start.args.segment.now entry-start.args.f entry-start.args.acc entry-get.get.result c.read-entry.result
-  unfolding place_of
-  seen = let else : tie.Else1 = search in record { port = entry-get.get.ensures; here = omega (arith, else.if1.left); entry = c.read-entry.ensures }
+seen : (c : After-read_entry-m) → Seen c.args.segment.now c.args.f c.args.acc c.get-e.result c.read_entry-m.result
+unfolding place_of
+seen c = record { port = c.get-e.ensures; here = omega (arith, c.if-e-ge-ENTRIES.false); entry = c.read_entry-m.ensures }
 
 pub overflow_mul-place : goal.overflow_mul-place
 overflow_mul-place c = record { fits = omega (arith, (fit (goal.at.overflow_mul-place c).Start).file) }
@@ -51,11 +44,11 @@ returns-then-e-ge-ENTRIES c = λ blocks d s S A. collect-waits (record { stands 
 pub free-requires : goal.free-requires
 unfolding place_of
 free-requires c =
-    let F = fit (entry-start (goal.at.free-requires c).After-read_entry-m) in
+    let F = fit (goal.at.free-requires c).Start in
     (F.segment, F.buffers-size, omega (arith, F.file, F.place), omega (arith, (seen (goal.at.free-requires c).After-read_entry-m).port, (seen (goal.at.free-requires c).After-read_entry-m).here))
 
 pub overflow_cast-result : goal.overflow_cast-result
-overflow_cast-result c = record { fits = omega (arith, entry-status (known (entry-start (goal.at.overflow_cast-result c).After-read_entry-m)) (seen (goal.at.overflow_cast-result c).After-read_entry-m)) }
+overflow_cast-result c = record { fits = omega (arith, entry-status (known (goal.at.overflow_cast-result c).Start) (seen (goal.at.overflow_cast-result c).After-read_entry-m)) }
 
 pub returns-then-m-ne0 : goal.returns-then-m-ne0
 unfolding place_of Bytes
@@ -70,18 +63,17 @@ returns-then-m-ne0 c =
 
 pub lies-requires : goal.lies-requires
 lies-requires c =
-    let F = fit (entry-start (goal.at.lies-requires c).After-read_entry-m) in
-    (F.buffers-size, omega (arith, F.file, F.place), entry-size (known (entry-start (goal.at.lies-requires c).After-read_entry-m)) (seen (goal.at.lies-requires c).After-read_entry-m))
+    let F = fit (goal.at.lies-requires c).Start in
+    (F.buffers-size, omega (arith, F.file, F.place), entry-size (known (goal.at.lies-requires c).Start) (seen (goal.at.lies-requires c).After-read_entry-m))
 
 pub copy-requires : goal.copy-requires
 copy-requires c =
-    let start = entry-start (goal.at.copy-requires c).After-read_entry-m in
-    has_room c.lies.ensures (cut_short _ _ (entry-size (known start) (seen (goal.at.copy-requires c).After-read_entry-m))) start.pre.1
+    has_room c.lies.ensures (cut_short _ _ (entry-size (known (goal.at.copy-requires c).Start) (seen (goal.at.copy-requires c).After-read_entry-m))) c.requires.answer_len
 
 pub free-requires-2 : goal.free-requires-2
 unfolding place_of
 free-requires-2 c =
-    let F = fit (entry-start (goal.at.free-requires-2 c).After-read_entry-m) in
+    let F = fit (goal.at.free-requires-2 c).Start in
     (F.segment, F.buffers-size, omega (arith, F.file, F.place), omega (arith, (seen (goal.at.free-requires-2 c).After-read_entry-m).port, (seen (goal.at.free-requires-2 c).After-read_entry-m).here))
 
 pub returns : goal.returns

@@ -17,7 +17,7 @@ use Rattle.transfers.proofs.Fits.{Fit}
 use Rattle.transfers.proofs.Rests.{gave-of}
 use Rattle.transfers.proofs.Handing.{Reading, Fetches, Served, Unserved, read-fit, read_held, read-side, read-rowed, read_short, read-gives, read-free, read-waits, read-ends, read-counts}
 use Rattle.transfers.proofs.reading.read.Goals as goal
-use Rattle.transfers.proofs.reading.read.Goals.{Start}
+use Rattle.transfers.proofs.reading.read.Goals.{Start, After-share, After-begin_read-2, After-may_wait}
 
 -- the memories as they are lent
 abbrev lent : Start → Memories
@@ -33,94 +33,43 @@ known c = reads c c.requires.sound.0.2
 fit : (c : Start) → Fit (lent c) c.args.f c.args.acc
 fit c = read-fit (known c)
 
--- what the code has seen when it has fetched: the row is the accessor's, and in the segment xs the accessor has begun
-module _ (c : tie.After-fetch) where
-  abbrev fetch-start : tie.Start
-  fetch-start = search
-
-  abbrev fetch-file : tie.After-take-file
-  fetch-file = search
-
-  abbrev fetch-typed : tie.After-place-typed
-  fetch-typed = search
-
-  abbrev fetch-keep : tie.After-place-keep
-  fetch-keep = c.before.before
-
-  abbrev fetch-place : ℕ
-  fetch-place = place_of fetch-start.args.f fetch-start.args.acc
-
-  fetches : {row : PlaceRow} {xs : List ℕ} → row ≡ place_at fetch-start.args.segment.now fetch-place → xs ≡ begun_segment fetch-start.args.segment.now fetch-place
-      → Fetches (lent fetch-start) fetch-start.args.f fetch-start.args.acc fetch-file.take-file.result row xs c.fetch.result
-  unfolding place_of
-  fetches place began = record {
-    seen = record { file = fetch-file.take-file.ensures; place = place; began = began };
-    keeps = rw (place, ← fetch-typed.place-typed.ensures, ← fetch-keep.place-keep.ensures) c.fetch.ensures.1.1.0;
-    gets = rw (place, ← fetch-typed.place-typed.ensures, ← fetch-keep.place-keep.ensures) c.fetch.ensures.1.1.1;
-  }
-
--- what the code has seen when it has the file's share
-module _ (c : tie.After-share) where
-  abbrev share-then : tie.Then1
-  share-then = search
-
-  abbrev share-bytes : tie.After-count-bytes
-  share-bytes = search
-
-  abbrev share-fetch : tie.After-fetch
-  share-fetch = share-bytes.before.before
-
-  abbrev share-start : tie.Start
-  share-start = fetch-start share-fetch
-
-  served : {xs : List ℕ} → xs ≡ begun_segment share-start.args.segment.now (fetch-place share-fetch)
-      → Served (lent share-start) share-start.args.f share-start.args.acc share-start.args.count (fetch-file share-fetch).take-file.result
-      (place_at share-start.args.segment.now (fetch-place share-fetch)) xs share-fetch.fetch.result c.share.result.now (fetch-typed share-fetch).place-typed.result share-bytes.count-bytes.result
-  unfolding place_of
-  served began = record {
-    fetches = fetches share-fetch refl began;
-    got = share-then.if1.taken;
-    share = c.share.ensures;
-    typed = (fetch-typed share-fetch).place-typed.ensures;
-    counted = share-bytes.count-bytes.ensures.0;
-  }
+-- what the code has seen when it has the file's share: the row is the accessor's, and in the segment xs the accessor has begun
+served : (c : After-share) {xs : List ℕ} → xs ≡ begun_segment c.args.segment.now (place_of c.args.f c.args.acc)
+    → Served (memories c.args.segment.now c.args.blocks.now c.args.buffers.now) c.args.f c.args.acc c.args.count c.take_file-file.result
+    (place_at c.args.segment.now (place_of c.args.f c.args.acc)) xs c.fetch-found.result c.share.result.now c.place_typed-typed.result c.count_bytes-limit.result
+unfolding place_of
+served c began = record {
+  fetches = record {
+    seen = record { file = c.take_file-file.ensures; place = refl; began = began };
+    keeps = rw (← c.place_typed-typed.ensures, ← c.place_keep-keep.ensures) c.fetch-found.ensures.keeps;
+    gets = rw (← c.place_typed-typed.ensures, ← c.place_keep-keep.ensures) c.fetch-found.ensures.gets;
+  };
+  got = c.if-found.true;
+  share = c.share.ensures;
+  typed = c.place_typed-typed.ensures;
+  counted = c.count_bytes-limit.ensures.value;
+}
 
 -- what the code has seen when the accessor has begun
-module _ (c : tie.After-begin-read2) where
-  abbrev began-row : tie.After-read-place
-  began-row = search
-
-  abbrev began-bytes : tie.After-count-bytes
-  began-bytes = search
-
-  abbrev began-fetch : tie.After-fetch
-  began-fetch = began-bytes.before.before
-
-  abbrev began-start : tie.Start
-  began-start = fetch-start began-fetch
-
-  unserved : Unserved (lent began-start) began-start.args.f began-start.args.acc began-start.args.count (fetch-file began-fetch).take-file.result
-      began-row.read-place.result c.begin-read2.new.0 began-fetch.fetch.result began-bytes.before.in_words_lem.result began-bytes.count-bytes.result
-  unfolding place_of
-  unserved =
-      let else : tie.Else1 = search in
-      record {
-        fetches = fetches began-fetch began-row.read-place.ensures c.begin-read2.ensures;
-        empty = else.if1.left;
-        words = began-bytes.before.in_words_lem.ensures;
-        counted = began-bytes.count-bytes.ensures.0;
-      }
+unserved : (c : After-begin_read-2)
+    → Unserved (memories c.args.segment.now c.args.blocks.now c.args.buffers.now) c.args.f c.args.acc c.args.count c.take_file-file.result
+    c.read_place-row.result c.begin_read-2.new.segment c.fetch-found.result c.in_words-by_words.result c.count_bytes-limit.result
+unfolding place_of
+unserved c = record {
+  fetches = record {
+    seen = record { file = c.take_file-file.ensures; place = c.read_place-row.ensures; began = c.begin_read-2.ensures };
+    keeps = rw (c.read_place-row.ensures, ← c.place_typed-typed.ensures, ← c.place_keep-keep.ensures) c.fetch-found.ensures.keeps;
+    gets = rw (c.read_place-row.ensures, ← c.place_typed-typed.ensures, ← c.place_keep-keep.ensures) c.fetch-found.ensures.gets;
+  };
+  empty = c.if-found.false;
+  words = c.in_words-by_words.ensures;
+  counted = c.count_bytes-limit.ensures.value;
+}
 
 -- whether the read may wait
-module _ (c : tie.After-may-wait) where
-  abbrev may-began : tie.After-begin-read2
-  may-began = search
-
-  may-wait : {t : Bool} → c.may-wait.result ≡ t
-      → t ≡ may_wait_row (ltb 0 (count_side may-began.begin-read2.last.0 (began-start may-began).args.f 2)) (began-row may-began).read-place.result
-  may-wait e =
-      let asked : tie.After-has-writer = search in
-      sym e ∙ c.may-wait.ensures ∙ ap (λ (t : Bool). may_wait_row t (began-row may-began).read-place.result) asked.has-writer.ensures
+may-wait : (c : After-may_wait) {t : Bool} → c.may_wait.result ≡ t
+    → t ≡ may_wait_row (ltb 0 (count_side c.begin_read-2.new.segment c.args.f 2)) c.read_place-row.result
+may-wait c e = sym e ∙ c.may_wait.ensures ∙ ap (λ (t : Bool). may_wait_row t c.read_place-row.result) c.has_writer.ensures
 
 pub overflow_mul-place : goal.overflow_mul-place
 overflow_mul-place c = record { fits = omega (arith, (fit (goal.at.overflow_mul-place c).Start).file) }
@@ -150,21 +99,18 @@ fetch-found-requires-clause-held c =
 
 pub give-size-requires-clause-at_len_bound : goal.give-size-requires-clause-at_len_bound
 give-size-requires-clause-at_len_bound c =
-    let start = share-start (goal.at.give-size-requires-clause-at_len_bound c).After-share in
-    let readable = (share-fetch (goal.at.give-size-requires-clause-at_len_bound c).After-share).fetch.ensures.1.0 (share-then (goal.at.give-size-requires-clause-at_len_bound c).After-share).if1.taken in
-    read_short (known start) (served (goal.at.give-size-requires-clause-at_len_bound c).After-share refl)
+    read_short (known (goal.at.give-size-requires-clause-at_len_bound c).Start) (served (goal.at.give-size-requires-clause-at_len_bound c).After-share refl)
 
 pub begin_read-requires : goal.begin_read-requires
 unfolding place_of
 begin_read-requires c =
-    let start = share-start c in
-    ((fit start).segment, omega (arith, (fit start).file, (fit start).place), read-side (known start))
+    ((fit (goal.at.begin_read-requires c).Start).segment, omega (arith, (fit (goal.at.begin_read-requires c).Start).file, (fit (goal.at.begin_read-requires c).Start).place), read-side (known (goal.at.begin_read-requires c).Start))
 
 pub quick_conclude-requires : goal.quick_conclude-requires
 unfolding place_of
 quick_conclude-requires c =
-    let R = known (share-start c) in
-    let w = served c c.begin_read.ensures in
+    let R = known (goal.at.quick_conclude-requires c).Start in
+    let w = served (goal.at.quick_conclude-requires c).After-share c.begin_read.ensures in
     ((_, _, (read-gives R w c.give-size.ensures.size c.give-size.ensures.answer refl refl).acts.mid), read-rowed R w.fetches)
 
 pub returns-then-found : goal.returns-then-found
@@ -172,63 +118,54 @@ unfolding place_of
 returns-then-found c =
     λ d s S.
     gave-of c.quick_conclude.ensures S.stands.bodies
-    (read-gives (reads (share-start c) S) (served c c.begin_read.ensures) c.give-size.ensures.size c.give-size.ensures.answer c.log_of-log.ensures (share-bytes c).before.in_words_lem.ensures)
+    (read-gives (reads (goal.at.returns-then-found c).Start S) (served (goal.at.returns-then-found c).After-share c.begin_read.ensures) c.give-size.ensures.size c.give-size.ensures.answer c.log_of-log.ensures c.in_words-by_words.ensures)
 
 pub read_place-row-requires-clause-i_lt_desk_places : goal.read_place-row-requires-clause-i_lt_desk_places
-read_place-row-requires-clause-i_lt_desk_places c = let F = fit (fetch-start (goal.at.read_place-row-requires-clause-i_lt_desk_places c).After-fetch-found) in
+read_place-row-requires-clause-i_lt_desk_places c = let F = fit (goal.at.read_place-row-requires-clause-i_lt_desk_places c).Start in
     omega (arith, F.file, F.place)
 
 pub begin_read-requires-2 : goal.begin_read-requires-2
 unfolding place_of
 begin_read-requires-2 c =
-    let start = fetch-start (goal.at.begin_read-requires-2 c).After-fetch-found in
-    ((fit start).segment, omega (arith, (fit start).file, (fit start).place), read-side (known start))
+    ((fit (goal.at.begin_read-requires-2 c).Start).segment, omega (arith, (fit (goal.at.begin_read-requires-2 c).Start).file, (fit (goal.at.begin_read-requires-2 c).Start).place), read-side (known (goal.at.begin_read-requires-2 c).Start))
 
 pub has_writer-requires : goal.has_writer-requires
 has_writer-requires c =
-    let R = known (began-start (goal.at.has_writer-requires c).After-begin_read-2) in
-    ((read-free R (unserved (goal.at.has_writer-requires c).After-begin_read-2)).0, (fit (began-start (goal.at.has_writer-requires c).After-begin_read-2)).file, read-counts R (unserved (goal.at.has_writer-requires c).After-begin_read-2).fetches)
+    let R = known (goal.at.has_writer-requires c).Start in
+    ((read-free R (unserved (goal.at.has_writer-requires c).After-begin_read-2)).0, (fit (goal.at.has_writer-requires c).Start).file, read-counts R (unserved (goal.at.has_writer-requires c).After-begin_read-2).fetches)
 
 pub wait_read-requires-clause-segment_len : goal.wait_read-requires-clause-segment_len
 unfolding place_of
 wait_read-requires-clause-segment_len c =
-    let began = may-began (goal.at.wait_read-requires-clause-segment_len c).After-may_wait in
-    let F = fit (began-start began) in
-    let free = read-free (known (began-start began)) (unserved began) in
+    let F = fit (goal.at.wait_read-requires-clause-segment_len c).Start in
+    let free = read-free (known (goal.at.wait_read-requires-clause-segment_len c).Start) (unserved (goal.at.wait_read-requires-clause-segment_len c).After-begin_read-2) in
     (free.0, F.buffers-size, F.file, omega (arith, F.file, F.place), free.1)
 
 pub wait_read-requires-clause-free_list_bound : goal.wait_read-requires-clause-free_list_bound
 unfolding place_of
 wait_read-requires-clause-free_list_bound c =
-    let began = may-began (goal.at.wait_read-requires-clause-free_list_bound c).After-may_wait in
-    let F = fit (began-start began) in
-    let free = read-free (known (began-start began)) (unserved began) in
+    let F = fit (goal.at.wait_read-requires-clause-free_list_bound c).Start in
+    let free = read-free (known (goal.at.wait_read-requires-clause-free_list_bound c).Start) (unserved (goal.at.wait_read-requires-clause-free_list_bound c).After-begin_read-2) in
     free.2
 
 pub conclude-requires : goal.conclude-requires
 unfolding place_of
 conclude-requires c =
-    let began = may-began (goal.at.conclude-requires c).After-may_wait in
-    let start = began-start began in
-    (_, _, (read-waits (known start) (unserved began) {memory = start.args.answer.now} (may-wait (goal.at.conclude-requires c).After-may_wait c.if-may_wait.true) c.wait_read.ensures.segment c.wait_read.ensures.buffers).acts.mid)
+    (_, _, (read-waits (known (goal.at.conclude-requires c).Start) (unserved (goal.at.conclude-requires c).After-begin_read-2) {memory = c.args.answer.now} (may-wait (goal.at.conclude-requires c).After-may_wait c.if-may_wait.true) c.wait_read.ensures.segment c.wait_read.ensures.buffers).acts.mid)
 
 pub returns-then-may_wait : goal.returns-then-may_wait
 unfolding place_of
 returns-then-may_wait c =
-    let began = may-began (goal.at.returns-then-may_wait c).After-may_wait in
     λ d s S.
     rw c.unserved.ensures
-    (gave-of c.conclude.ensures S.stands.bodies (read-waits (reads (began-start began) S) (unserved began) (may-wait (goal.at.returns-then-may_wait c).After-may_wait c.if-may_wait.true) c.wait_read.ensures.segment c.wait_read.ensures.buffers))
+    (gave-of c.conclude.ensures S.stands.bodies (read-waits (reads (goal.at.returns-then-may_wait c).Start S) (unserved (goal.at.returns-then-may_wait c).After-begin_read-2) (may-wait (goal.at.returns-then-may_wait c).After-may_wait c.if-may_wait.true) c.wait_read.ensures.segment c.wait_read.ensures.buffers))
 
 pub conclude-requires-2 : goal.conclude-requires-2
 conclude-requires-2 c =
-    let began = may-began (goal.at.conclude-requires-2 c).After-may_wait in
-    let start = began-start began in
-    (_, _, (read-ends (known start) (unserved began) {memory = start.args.answer.now} (may-wait (goal.at.conclude-requires-2 c).After-may_wait c.if-may_wait.false)).acts.mid)
+    (_, _, (read-ends (known (goal.at.conclude-requires-2 c).Start) (unserved (goal.at.conclude-requires-2 c).After-begin_read-2) {memory = c.args.answer.now} (may-wait (goal.at.conclude-requires-2 c).After-may_wait c.if-may_wait.false)).acts.mid)
 
 pub returns : goal.returns
 returns c =
-    let began = may-began (goal.at.returns c).After-may_wait in
     λ d s S.
     rw c.unserved-2.ensures
-    (gave-of c.conclude-2.ensures S.stands.bodies (read-ends (reads (began-start began) S) (unserved began) (may-wait (goal.at.returns c).After-may_wait c.if-may_wait.false)))
+    (gave-of c.conclude-2.ensures S.stands.bodies (read-ends (reads (goal.at.returns c).Start S) (unserved (goal.at.returns c).After-begin_read-2) (may-wait (goal.at.returns c).After-may_wait c.if-may_wait.false)))

@@ -10,7 +10,7 @@ returns-then-get-lt-ENTRIES-clause-done c =
 
 pub returns-then-fits-clause-done : goal.returns-then-fits-clause-done
 returns-then-fits-clause-done c =
-    admits-any _ c.args.f _ c.get.ensures _ c.if-get-lt-ENTRIES.false c.fits-2.ensures c.if-fits.true (count_most _ _ _)
+    admits-any _ c.args.f _ c.get.ensures _ c.if-get-lt-ENTRIES.false c.fits.ensures c.if-fits.true (count_most _ _ _)
 
 pub returns-clause-done : goal.returns-clause-done
 returns-clause-done c =

@@ -15,7 +15,7 @@ use Rattle.transfers.proofs.Fits.{Fit}
 use Rattle.transfers.proofs.Rests.{done-of}
 use Rattle.transfers.proofs.Writes.{Writing, Admitted, Untaken, write-fit, write-ranged, write-ready, write-side, write_bytes, write-put, write-rowed, write-free, write-waits, write-ends, write-beside, waits-beside}
 use Rattle.transfers.proofs.writing.write.Goals as goal
-use Rattle.transfers.proofs.writing.write.Goals.{Start}
+use Rattle.transfers.proofs.writing.write.Goals.{Start, After-put-next, After-begin_write-2, After-may_wait}
 
 -- the memories as they are lent
 abbrev lent : Start → Memories
@@ -32,72 +32,33 @@ fit : (c : Start) → Fit (lent c) c.args.f c.args.acc
 fit c = write-fit (known c)
 
 -- what the code has seen when the record is put
-module _ (c : tie.After-put) where
-  abbrev put-start : tie.Start
-  put-start = search
-
-  abbrev put-file : tie.After-take-file
-  put-file = search
-
-  abbrev put-words : tie.After-in-words
-  put-words = search
-
-  abbrev put-began : tie.After-begin-write
-  put-began = search
-
-  admitted : Admitted (lent put-start) put-start.args.f put-start.args.acc put-file.take-file.result
-      (place_at put-start.args.segment.now (place_of put-start.args.f put-start.args.acc)) put-began.begin-write.last.0
-  unfolding place_of
-  admitted =
-      let then : tie.Then1 = search in
-      let asked : tie.After-taken-now = search in
-      record {
-        seen = record { file = put-file.take-file.ensures; place = refl; began = put-began.begin-write.ensures };
-        fits = sym then.if1.taken ∙ asked.taken-now.ensures.0;
-      }
+admitted : (c : After-put-next)
+    → Admitted (memories c.args.segment.now c.args.blocks.now c.args.buffers.now) c.args.f c.args.acc c.take_file-file.result
+    (place_at c.args.segment.now (place_of c.args.f c.args.acc)) c.begin_write.new.segment
+unfolding place_of
+admitted c = record {
+  seen = record { file = c.take_file-file.ensures; place = refl; began = c.begin_write.ensures };
+  fits = sym c.if-taken.true ∙ c.taken_now-taken.ensures.done;
+}
 
 -- what the code has seen when the accessor has begun
-module _ (c : tie.After-begin-write2) where
-  abbrev began-start : tie.Start
-  began-start = search
+untaken : (c : After-begin_write-2)
+    → Untaken (memories c.args.segment.now c.args.blocks.now c.args.buffers.now) c.args.f c.args.acc c.args.count c.take_file-file.result
+    c.read_place-row.result c.begin_write-2.new.segment c.in_words-by_words.result
+unfolding place_of
+untaken c = record {
+  seen = record { file = c.take_file-file.ensures; place = c.read_place-row.ensures; began = c.begin_write-2.ensures };
+  full = sym c.if-taken.false ∙ c.taken_now-taken.ensures.done;
+  words = c.in_words-by_words.ensures;
+}
 
-  abbrev began-file : tie.After-take-file
-  began-file = search
-
-  abbrev began-words : tie.After-in-words
-  began-words = search
-
-  abbrev began-asked : tie.After-taken-now
-  began-asked = search
-
-  abbrev began-else : tie.Else1
-  began-else = search
-
-  abbrev began-row : tie.After-read-place
-  began-row = search
-
-  untaken : Untaken (lent began-start) began-start.args.f began-start.args.acc began-start.args.count began-file.take-file.result
-      began-row.read-place.result c.begin-write2.new.0 began-words.in_words_lem.result
-  unfolding place_of
-  untaken = record {
-    seen = record { file = began-file.take-file.ensures; place = began-row.read-place.ensures; began = c.begin-write2.ensures };
-    full = sym began-else.if1.left ∙ began-asked.taken-now.ensures.0;
-    words = began-words.in_words_lem.ensures;
-  }
-
-  writers : began-asked.taken-now.result.writers ≡ count_side began-start.args.segment.now began-start.args.f 2
-  writers = began-asked.taken-now.ensures.1 began-else.if1.left
+writers : (c : After-begin_write-2) → c.taken_now-taken.result.writers ≡ count_side c.args.segment.now c.args.f 2
+writers c = c.taken_now-taken.ensures.writers c.if-taken.false
 
 -- whether the write may wait
-module _ (c : tie.After-may-wait) where
-  abbrev may-began : tie.After-begin-write2
-  may-began = search
-
-  may-wait : {t : Bool} → c.may-wait.result ≡ t
-      → t ≡ may_wait_row (ltb 0 (count_side may-began.begin-write2.last.0 (began-start may-began).args.f 1)) (began-row may-began).read-place.result
-  may-wait e =
-      let counted : tie.After-count-side = search in
-      sym e ∙ c.may-wait.ensures ∙ ap (λ (j : ℕ). may_wait_row (ltb 0 j) (began-row may-began).read-place.result) counted.count-side.ensures.0
+may-wait : (c : After-may_wait) {t : Bool} → c.may_wait.result ≡ t
+    → t ≡ may_wait_row (ltb 0 (count_side c.begin_write-2.new.segment c.args.f 1)) c.read_place-row.result
+may-wait c e = sym e ∙ c.may_wait.ensures ∙ ap (λ (j : ℕ). may_wait_row (ltb 0 j) c.read_place-row.result) c.count_side.ensures.0
 
 pub overflow_mul-place : goal.overflow_mul-place
 overflow_mul-place c = record { fits = omega (arith, (fit (goal.at.overflow_mul-place c).Start).file) }
@@ -133,21 +94,20 @@ put-next-requires-clause-ready c =
 pub quick_conclude-requires : goal.quick_conclude-requires
 unfolding place_of
 quick_conclude-requires c =
-    let W = known (put-start (goal.at.quick_conclude-requires c).After-put-next) in (
+    let W = known (goal.at.quick_conclude-requires c).Start in (
       (_, _, (write-put W (admitted (goal.at.quick_conclude-requires c).After-put-next) c.place_id-id.ensures c.put-next.ensures.keeps refl refl).mid),
       write-rowed W (admitted (goal.at.quick_conclude-requires c).After-put-next) c.put-next.ensures.file,
     )
 
 pub overflow_cast-data : goal.overflow_cast-data
-overflow_cast-data c = record { fits = omega (arith, write_bytes (known (put-start (goal.at.overflow_cast-data c).After-put-next))) }
+overflow_cast-data c = record { fits = omega (arith, write_bytes (known (goal.at.overflow_cast-data c).Start)) }
 
 pub returns-then-taken : goal.returns-then-taken
 unfolding place_of
 returns-then-taken c =
-    let words = put-words (goal.at.returns-then-taken c).After-put-next in
     λ d s S.
     done-of c.quick_conclude.ensures S.stands.bodies
-    (write-put (writes (put-start (goal.at.returns-then-taken c).After-put-next) S) (admitted (goal.at.returns-then-taken c).After-put-next) c.place_id-id.ensures c.put-next.ensures.keeps c.log_of-log.ensures words.in_words_lem.ensures)
+    (write-put (writes (goal.at.returns-then-taken c).Start S) (admitted (goal.at.returns-then-taken c).After-put-next) c.place_id-id.ensures c.put-next.ensures.keeps c.log_of-log.ensures c.in_words-by_words.ensures)
 
 pub read_place-row-requires-clause-i_lt_desk_places : goal.read_place-row-requires-clause-i_lt_desk_places
 read_place-row-requires-clause-i_lt_desk_places c =
@@ -160,58 +120,49 @@ begin_write-requires-2 c =
 
 pub count_side-requires-clause-f_lt_files : goal.count_side-requires-clause-f_lt_files
 count_side-requires-clause-f_lt_files c =
-    let start = began-start (goal.at.count_side-requires-clause-f_lt_files c).After-begin_write-2 in
-    (fit start).file
+    (fit (goal.at.count_side-requires-clause-f_lt_files c).Start).file
 
 pub wait_write-requires-clause-segment_len : goal.wait_write-requires-clause-segment_len
 unfolding place_of
 wait_write-requires-clause-segment_len c =
-    let began = may-began (goal.at.wait_write-requires-clause-segment_len c).After-may_wait in
-    let start = began-start began in
-    let F = fit start in
-    let free = write-free (known start) (untaken began) in
-    (free.0, F.buffers-size, F.file, omega (arith, F.file, F.place), write_bytes (known start), free.1)
+    let F = fit (goal.at.wait_write-requires-clause-segment_len c).Start in
+    let free = write-free (known (goal.at.wait_write-requires-clause-segment_len c).Start) (untaken (goal.at.wait_write-requires-clause-segment_len c).After-begin_write-2) in
+    (free.0, F.buffers-size, F.file, omega (arith, F.file, F.place), write_bytes (known (goal.at.wait_write-requires-clause-segment_len c).Start), free.1)
 
 pub wait_write-requires-clause-free_list_bound : goal.wait_write-requires-clause-free_list_bound
 unfolding place_of
 wait_write-requires-clause-free_list_bound c =
-    let began = may-began (goal.at.wait_write-requires-clause-free_list_bound c).After-may_wait in
-    let start = began-start began in
-    let F = fit start in
-    let free = write-free (known start) (untaken began) in
+    let F = fit (goal.at.wait_write-requires-clause-free_list_bound c).Start in
+    let free = write-free (known (goal.at.wait_write-requires-clause-free_list_bound c).Start) (untaken (goal.at.wait_write-requires-clause-free_list_bound c).After-begin_write-2) in
     free.2
 
 pub settle_back-requires : goal.settle_back-requires
 unfolding place_of
 settle_back-requires c =
-    let began = may-began (goal.at.settle_back-requires c).After-may_wait in
-    let W = known (began-start began) in
+    let W = known (goal.at.settle_back-requires c).Start in
     let so = may-wait (goal.at.settle_back-requires c).After-may_wait c.if-may_wait.true in (
-      (_, _, (write-waits W (untaken began) so c.wait_write.ensures.segment c.wait_write.ensures.buffers).mid),
-      λ _. waits-beside W (untaken began) so c.wait_write.ensures.segment c.wait_write.ensures.buffers (writers began),
+      (_, _, (write-waits W (untaken (goal.at.settle_back-requires c).After-begin_write-2) so c.wait_write.ensures.segment c.wait_write.ensures.buffers).mid),
+      λ _. waits-beside W (untaken (goal.at.settle_back-requires c).After-begin_write-2) so c.wait_write.ensures.segment c.wait_write.ensures.buffers (writers (goal.at.settle_back-requires c).After-begin_write-2),
     )
 
 pub returns-then-may_wait : goal.returns-then-may_wait
 unfolding place_of
 returns-then-may_wait c =
-    let began = may-began (goal.at.returns-then-may_wait c).After-may_wait in
     λ d s S.
     rw c.untaken.ensures
     (done-of c.settle_back.ensures S.stands.bodies
-    (write-waits (writes (began-start began) S) (untaken began) (may-wait (goal.at.returns-then-may_wait c).After-may_wait c.if-may_wait.true) c.wait_write.ensures.segment c.wait_write.ensures.buffers))
+    (write-waits (writes (goal.at.returns-then-may_wait c).Start S) (untaken (goal.at.returns-then-may_wait c).After-begin_write-2) (may-wait (goal.at.returns-then-may_wait c).After-may_wait c.if-may_wait.true) c.wait_write.ensures.segment c.wait_write.ensures.buffers))
 
 pub settle_back-requires-2 : goal.settle_back-requires-2
 settle_back-requires-2 c =
-    let began = may-began (goal.at.settle_back-requires-2 c).After-may_wait in
-    let W = known (began-start began) in (
-      (_, _, (write-ends W (untaken began) (may-wait (goal.at.settle_back-requires-2 c).After-may_wait c.if-may_wait.false)).mid),
-      λ _. write-beside W (untaken began).seen (writers began),
+    let W = known (goal.at.settle_back-requires-2 c).Start in (
+      (_, _, (write-ends W (untaken (goal.at.settle_back-requires-2 c).After-begin_write-2) (may-wait (goal.at.settle_back-requires-2 c).After-may_wait c.if-may_wait.false)).mid),
+      λ _. write-beside W (untaken (goal.at.settle_back-requires-2 c).After-begin_write-2).seen (writers (goal.at.settle_back-requires-2 c).After-begin_write-2),
     )
 
 pub returns : goal.returns
 returns c =
-    let began = may-began (goal.at.returns c).After-may_wait in
     λ d s S.
     rw c.untaken-2.ensures
     (done-of c.settle_back-2.ensures S.stands.bodies
-    (write-ends (writes (began-start began) S) (untaken began) (may-wait (goal.at.returns c).After-may_wait c.if-may_wait.false)))
+    (write-ends (writes (goal.at.returns c).Start S) (untaken (goal.at.returns c).After-begin_write-2) (may-wait (goal.at.returns c).After-may_wait c.if-may_wait.false)))
