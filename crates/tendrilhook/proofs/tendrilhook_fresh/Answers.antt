@@ -1,0 +1,7 @@
+use Rattle.tendrilhook.proofs.Fresh.{made-fresh}
+use borrow.Author.Rules.{rules}
+use Rattle.tendrilhook.proofs.tendrilhook_fresh.Goals as goal
+
+pub returns : goal.returns
+returns c =
+    made-fresh _ _ _ c.fresh.ensures
