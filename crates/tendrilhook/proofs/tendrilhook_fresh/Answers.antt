@@ -1,5 +1,4 @@
 use Rattle.tendrilhook.proofs.Fresh.{made-fresh}
-use borrow.Author.Rules.{rules}
 use Rattle.tendrilhook.proofs.tendrilhook_fresh.Goals as goal
 
 pub returns : goal.returns

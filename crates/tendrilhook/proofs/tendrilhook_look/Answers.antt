@@ -3,7 +3,6 @@ use Rattle.looking.proofs.Parts.{given, said}
 use Rattle.looking.proofs.Short.{short}
 use Rattle.words.specs.Word.{Bytes}
 use native.Mathlib.Omega.{arith}
-use borrow.Author.Rules.{rules}
 use Rattle.tendrilhook.proofs.tendrilhook_look.Goals as goal
 
 pub returns-then-record-ne-RECORD_ROOM : goal.returns-then-record-ne-RECORD_ROOM
@@ -12,10 +11,6 @@ returns-then-record-ne-RECORD_ROOM c = other_length _ _ _ _ c.if-record-ne-RECOR
 pub copy-requires : goal.copy-requires
 unfolding Bytes
 copy-requires c =
-    
-    
-    
-    
     let shows = (given _ _ _ _ c.shown-what.ensures.tells _ c.part-part.ensures).1 in
     let h = short _ (λ i. (c.type_inv.segment i).fits)
     (λ i. (c.type_inv.blocks i).fits)
@@ -24,9 +19,6 @@ copy-requires c =
 
 pub returns : goal.returns
 returns c =
-    
-    
-    
     copied _ _ _ _ c.if-record-ne-RECORD_ROOM.false _
     (given _ _ _ _ c.shown-what.ensures.tells _ c.part-part.ensures).1 _ c.copy.ensures _
     (said _ _ _ _ c.shown-what.ensures.tells _ c.status.ensures)
