@@ -1,4 +1,7 @@
 // Sends the frames of standard input, one hexadecimal line each, to a desk; prints their answers, one line each, as they come.
+// The caller lends the streams: standard input, output and error.
+#![tactic(auto)]
+
 mod feeding;
 mod held;
 
@@ -7,23 +10,20 @@ ghost use Rattle.serving.specs.Going.{most_held, out_bytes, Going, goes, written
 ghost use Rattle.serving.specs.Served.{Behind, Turned, Served, Kept};
 ghost use Rattle.memory.specs.Memories.{was, left};
 
-use libc::{STDERR_FILENO, STDIN_FILENO, STDOUT_FILENO};
+use std::io::{Read, Write};
 
 // The most bytes of input that are read at once.
 const IN_BYTES: usize = 65536;
 
 // Prints answers if the desk is served aloud, and says whether that succeeded. Reports a failure on standard error.
-fn print(aloud: bool, answers: &[u8]) -> bool {
+fn print<O: Write, E: Write>(output: &mut O, errors: &mut E, aloud: bool, answers: &[u8]) -> bool {
     if !aloud {
         return true;
     }
-    if io::write_all(STDOUT_FILENO, answers) {
+    if output.write_all(answers).is_ok() && output.flush().is_ok() {
         return true;
     }
-    io::write_all(
-        STDERR_FILENO,
-        b"standard output cannot be written: answers are lost\n",
-    );
+    let _ = errors.write_all(b"standard output cannot be written: answers are lost\n");
     false
 }
 
@@ -45,7 +45,9 @@ fn last() -> Turn
 }
 
 // Answers a chunk of the input. Writes the answers whenever the output is full, and at the end of the chunk.
-fn answer_chunk(
+fn answer_chunk<O: Write, E: Write>(
+    output: &mut O,
+    errors: &mut E,
     segment: &mut [u8],
     blocks: &mut [u8],
     buffers: &mut [u8],
@@ -66,7 +68,7 @@ fn answer_chunk(
     while at < chunk.len() {
         let fed = feeding::feed(segment, blocks, buffers, line, out, &chunk[at..], held);
         let used = fed.used;
-        if !print(aloud, &out[0..used]) {
+        if !print(output, errors, aloud, &out[0..used]) {
             return last();
         }
         held = fed.held;
@@ -79,7 +81,10 @@ fn answer_chunk(
 }
 
 // Reads once, and answers what was read. A read or a write that fails is the last.
-fn answer_read(
+fn answer_read<I: Read, O: Write, E: Write>(
+    input: &mut I,
+    output: &mut O,
+    errors: &mut E,
     segment: &mut [u8],
     blocks: &mut [u8],
     buffers: &mut [u8],
@@ -94,17 +99,17 @@ fn answer_read(
     ensures turned { (g : Going) → At (written g) (was segment blocks buffers) line.old out.old held 0 → Turned g (left segment blocks buffers) line.new out.new result.held result.more }
     ensures kept { Kept (was segment blocks buffers) (left segment blocks buffers) }
 {
-    let got = libc::read(STDIN_FILENO, chunk);
-    if got < 0 {
+    let Ok(n) = input.read(chunk) else {
         return last();
-    }
-    if got == 0 {
+    };
+    if n == 0 {
         let used = feeding::finish(segment, blocks, buffers, line, out, held);
-        print(aloud, &out[0..used]);
+        print(output, errors, aloud, &out[0..used]);
         return last();
     }
-    let n = io::count(got, chunk);
     answer_chunk(
+        output,
+        errors,
         segment,
         blocks,
         buffers,
@@ -117,7 +122,10 @@ fn answer_read(
 }
 
 // Answers all of the input. A proved loop ends, so it counts its reads down from a number that no run uses up.
-fn answer_all(
+fn answer_all<I: Read, O: Write, E: Write>(
+    input: &mut I,
+    output: &mut O,
+    errors: &mut E,
     segment: &mut [u8],
     blocks: &mut [u8],
     buffers: &mut [u8],
@@ -133,7 +141,9 @@ fn answer_all(
     let mut held = 0;
     let mut reads = u64::MAX;
     while reads > 0 {
-        let turn = answer_read(segment, blocks, buffers, line, out, chunk, held, aloud);
+        let turn = answer_read(
+            input, output, errors, segment, blocks, buffers, line, out, chunk, held, aloud,
+        );
         if !turn.more {
             return;
         }
@@ -143,7 +153,15 @@ fn answer_all(
 }
 
 // Sends all frames of standard input to the desk, and prints their answers if it is served aloud.
-pub fn serve(segment: &mut [u8], blocks: &mut [u8], buffers: &mut [u8], aloud: bool)
+pub fn serve<I: Read, O: Write, E: Write>(
+    input: &mut I,
+    output: &mut O,
+    errors: &mut E,
+    segment: &mut [u8],
+    blocks: &mut [u8],
+    buffers: &mut [u8],
+    aloud: bool,
+)
     ensures served { Served (was segment blocks buffers) (left segment blocks buffers) }
     ensures kept { Kept (was segment blocks buffers) (left segment blocks buffers) }
 {
@@ -151,6 +169,6 @@ pub fn serve(segment: &mut [u8], blocks: &mut [u8], buffers: &mut [u8], aloud: b
     let mut out = [0u8; feeding::OUT_BYTES];
     let mut chunk = [0u8; IN_BYTES];
     answer_all(
-        segment, blocks, buffers, &mut line, &mut out, &mut chunk, aloud,
+        input, output, errors, segment, blocks, buffers, &mut line, &mut out, &mut chunk, aloud,
     );
 }
