@@ -162,8 +162,8 @@ fn put_nothing(out: &mut [u8], at: usize) -> usize
 
 // Puts a last line if bytes that no call reads are not zero.
 fn put_swept(segment: &[u8], blocks: &[u8], buffers: &[u8], out: &mut [u8], at: usize) -> usize
-    requires { Sound (lent segment blocks buffers) × (at + line_room ≤ length out.old) }
-    ensures { (d : Desk) (s : Alloc) → StandsFor (was segment blocks buffers) d s → Put line_room out.old at (swept_text (memory.swept d (was segment blocks buffers))) out.new result }
+    requires { Sound (lent segment.now blocks.now buffers.now) × (at + line_room ≤ length out.old) }
+    ensures { (d : Desk) (s : Alloc) → StandsFor (was segment.now blocks.now buffers.now) d s → Put line_room out.old at (swept_text (memory.swept d (was segment.now blocks.now buffers.now))) out.new result }
 {
     if swept(segment, blocks, buffers) {
         return at;
@@ -177,8 +177,8 @@ fn put_swept(segment: &[u8], blocks: &[u8], buffers: &[u8], out: &mut [u8], at: 
 
 // Puts the whole board, starting at the first byte of the output.
 fn put_board(segment: &[u8], blocks: &[u8], buffers: &[u8], out: &mut [u8]) -> usize
-    requires { Sound (lent segment blocks buffers) × (board_room ≤ length out.old) }
-    ensures { (d : Desk) (s : Alloc) → StandsFor (was segment blocks buffers) d s → Put board_room out.old 0 (whole_text d (was segment blocks buffers)) out.new result }
+    requires { Sound (lent segment.now blocks.now buffers.now) × (board_room ≤ length out.old) }
+    ensures { (d : Desk) (s : Alloc) → StandsFor (was segment.now blocks.now buffers.now) d s → Put board_room out.old 0 (whole_text d (was segment.now blocks.now buffers.now)) out.new result }
 {
     let n = put_files(segment, blocks, out);
     let end = put_nothing(out, n);
@@ -194,7 +194,7 @@ fn refused(status: u8) -> Shown
 // Writes the board, starting at the first byte of the output. Status 29: a memory has the wrong length or is unsound; 44: the output is shorter than
 // BOARD_ROOM. Then nothing is written.
 pub fn board(segment: &[u8], blocks: &[u8], buffers: &[u8], out: &mut [u8]) -> Shown
-    ensures board { Board (was segment blocks buffers) out.old (written result.status result.length out.new) }
+    ensures board { Board (was segment.now blocks.now buffers.now) out.old (written result.status result.length out.new) }
     ensures fits { result.length ≤ length out.old }
 {
     if !sound::sound(segment, blocks, buffers) {

@@ -167,8 +167,8 @@ fn file_buffers<'a>(buffers: &'a [u8], f: usize) -> &'a [u8]
 
 // Whether the bytes of file f that no call reads are zero.
 fn file_zero(segment: &[u8], blocks: &[u8], buffers: &[u8], f: usize) -> bool
-    requires { Sound (lent segment blocks buffers) × (f < files) }
-    ensures { result ≡ file_zero (was segment blocks buffers) f }
+    requires { Sound (lent segment.now blocks.now buffers.now) × (f < files) }
+    ensures { result ≡ file_zero (was segment.now blocks.now buffers.now) f }
 {
     let own_share = share(blocks, f);
     let own_buffers = file_buffers(buffers, f);
@@ -180,8 +180,8 @@ fn file_zero(segment: &[u8], blocks: &[u8], buffers: &[u8], f: usize) -> bool
 
 // Whether all bytes that no call reads are zero.
 pub fn swept(segment: &[u8], blocks: &[u8], buffers: &[u8]) -> bool
-    requires { Sound (lent segment blocks buffers) }
-    ensures { (d : Desk) (s : Alloc) → StandsFor (was segment blocks buffers) d s → result ≡ swept d (was segment blocks buffers) }
+    requires { Sound (lent segment.now blocks.now buffers.now) }
+    ensures { (d : Desk) (s : Alloc) → StandsFor (was segment.now blocks.now buffers.now) d s → result ≡ swept d (was segment.now blocks.now buffers.now) }
 {
     let mut f = 0;
     while f < FILES {

@@ -34,8 +34,8 @@ fn part(
     file: File,
     id: u16,
 ) -> File
-    requires { (o : Start) × (b : Built) × Mid (Owed id) f o (lent segment blocks buffers) file b }
-    ensures { (o : Start) (b : Built) → Mid (Owed id) f o (was segment blocks buffers) file b → Mid Fine f o (left segment blocks buffers) result (put_rec (close_rec id) (last_gone b)) }
+    requires { (o : Start) × (b : Built) × Mid (Owed id) f o (lent segment.old blocks.old buffers.old) file b }
+    ensures { (o : Start) (b : Built) → Mid (Owed id) f o (was segment.old blocks.old buffers.old) file b → Mid Fine f o (left segment.new blocks.new buffers.new) result (put_rec (close_rec id) (last_gone b)) }
 {
     last_gone(segment, buffers, f);
     let nothing = [0u8; 0];
@@ -51,8 +51,8 @@ fn leave(
     acc: usize,
     file: File,
 ) -> File
-    requires { (o : Start) × (b : Built) × (a : Acc) × Mid Fine f o (lent segment blocks buffers) file b × (acc_at b acc ≡ some a) × (a.req ≡ idle) }
-    ensures { (o : Start) (b : Built) (a : Acc) → Mid Fine f o (was segment blocks buffers) file b → acc_at b acc ≡ some a → a.req ≡ idle → Mid Fine f o (left segment blocks buffers) result (closed acc a b) }
+    requires { (o : Start) × (b : Built) × (a : Acc) × Mid Fine f o (lent segment.old blocks.old buffers.old) file b × (acc_at b acc ≡ some a) × (a.req ≡ idle) }
+    ensures { (o : Start) (b : Built) (a : Acc) → Mid Fine f o (was segment.old blocks.old buffers.old) file b → acc_at b acc ≡ some a → a.req ≡ idle → Mid Fine f o (left segment.new blocks.new buffers.new) result (closed acc a b) }
 {
     let place = PLACES * f + acc;
     let row = segment::read_place(segment, place);
@@ -80,8 +80,8 @@ pub fn close(
     f: usize,
     acc: usize,
 ) -> Answer
-    requires { Sound (lent segment blocks buffers) × Accepted f (calls.close acc) (lent segment blocks buffers) }
-    ensures { Does f (calls.close acc) (was segment blocks buffers) (left segment blocks buffers) result }
+    requires { Sound (lent segment.old blocks.old buffers.old) × Accepted f (calls.close acc) (lent segment.old blocks.old buffers.old) }
+    ensures { Does f (calls.close acc) (was segment.old blocks.old buffers.old) (left segment.new blocks.new buffers.new) result }
 {
     let side = segment::place_side(segment, PLACES * f + acc);
     let file = take_file(segment, f);

@@ -1,4 +1,6 @@
 // Control: changes a setting of an accessor, or aborts its request. Nothing settles here, and the file's row stays the same.
+#![tactic(auto)]
+
 ghost use Rattle.std.specs.Prelude.{◌≡◌, ℕ, ◌<◌, length};
 ghost use Rattle.std.proofs.Math.Option.{some};
 ghost use Rattle.kinds.specs.declared.Control.TheVariants as variant;

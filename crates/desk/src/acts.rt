@@ -30,9 +30,9 @@ pub fn act(
     frame: &[u8],
     purges: bool,
 ) -> DataAnswer
-    requires event_lent { EventLent (lent segment blocks buffers) answer.old «frame».now «event» purges }
-    requires unrefused { Unrefused (lent segment blocks buffers) «frame».now }
-    ensures { Acting (rules.event «frame».now) (was segment blocks buffers) answer.old (left segment blocks buffers) answer.new result.answer result.size }
+    requires event_lent { EventLent (lent segment.old blocks.old buffers.old) answer.old «frame».now «event» purges }
+    requires unrefused { Unrefused (lent segment.old blocks.old buffers.old) «frame».now }
+    ensures { Acting (rules.event «frame».now) (was segment.old blocks.old buffers.old) answer.old (left segment.new blocks.new buffers.new) answer.new result.answer result.size }
 {
     match event {
         Event::Build {

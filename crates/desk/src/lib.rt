@@ -33,9 +33,9 @@ fn serve(
     frame: &[u8],
     purges: bool,
 ) -> usize
-    requires event_lent { EventLent (lent segment blocks buffers) answer.old «frame».now «event» purges }
-    requires unrefused { Unrefused (lent segment blocks buffers) «frame».now }
-    ensures { (d : Desk) (s : Alloc) → StandsFor (was segment blocks buffers) d s → Responds d s (rules.event «frame».now) (was segment blocks buffers) answer.old (left segment blocks buffers) answer.new result }
+    requires event_lent { EventLent (lent segment.old blocks.old buffers.old) answer.old «frame».now «event» purges }
+    requires unrefused { Unrefused (lent segment.old blocks.old buffers.old) «frame».now }
+    ensures { (d : Desk) (s : Alloc) → StandsFor (was segment.old blocks.old buffers.old) d s → Responds d s (rules.event «frame».now) (was segment.old blocks.old buffers.old) answer.old (left segment.new blocks.new buffers.new) answer.new result }
 {
     let given = act(segment, blocks, buffers, answer, event, frame, purges);
     let told = given.answer;
@@ -50,7 +50,7 @@ pub fn event(
     answer: &mut [u8],
     frame: &[u8],
 ) -> usize
-    ensures promise { Promise (was segment blocks buffers) (host.event answer.old «frame».now) (host.answer result answer.new) (left segment blocks buffers) }
+    ensures promise { Promise (was segment.old blocks.old buffers.old) (host.event answer.old «frame».now) (host.answer result answer.new) (left segment.new blocks.new buffers.new) }
     ensures room { result ≤ answer_room }
 {
     if answer.len() != ANSWER_ROOM {
@@ -81,7 +81,7 @@ pub fn event(
 // The refusal number that an event call with this frame would get, given answer memory of the right length: 29 if the memories are not a desk, 0 if it would be done.
 // Nothing changes.
 pub fn refusal_of(segment: &[u8], blocks: &[u8], buffers: &[u8], frame: &[u8]) -> u8
-    ensures { RefusedWith (was segment blocks buffers) (rules.event «frame».now) result }
+    ensures { RefusedWith (was segment.now blocks.now buffers.now) (rules.event «frame».now) result }
 {
     if !sound(segment, blocks, buffers) {
         return UNSOUND;

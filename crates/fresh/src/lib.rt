@@ -56,7 +56,7 @@ fn fresh_segment(s: &mut [u8])
 
 // Makes the memories those of a fresh desk and gives status 0; gives 29 and writes nothing if a memory has the wrong length.
 pub fn fresh(segment: &mut [u8], blocks: &mut [u8], buffers: &mut [u8]) -> u8
-    ensures { record { status = result; memories = left segment blocks buffers } ≡ made (was segment blocks buffers) }
+    ensures { record { status = result; memories = left segment.new blocks.new buffers.new } ≡ made (was segment.old blocks.old buffers.old) }
 {
     if segment.len() != layout::SEGMENT_BYTES {
         return refusals::UNSOUND;

@@ -16,7 +16,7 @@ pub fn answer_line(
 ) -> usize
     requires { used + answer_line ≤ length out.old }
     ensures bound { (used < result) × (result ≤ used + answer_line) }
-    ensures asked { Asked (was segment blocks buffers) line.now out.old (left segment blocks buffers) out.new used result }
+    ensures asked { Asked (was segment.old blocks.old buffers.old) line.now out.old (left segment.new blocks.new buffers.new) out.new used result }
 {
     let mut frame = [0u8; LINE_BYTES];
     let mut answer = [0u8; ANSWER_ROOM];

@@ -25,7 +25,7 @@ use sound::sound;
 
 // The status of a load: 0 if it is not refused.
 fn judge_load(segment: &[u8], blocks: &[u8], buffers: &[u8], file: usize, text: &[u8]) -> u8
-    ensures { (v : Option Standing) → Seen (was segment blocks buffers) v → result ≡ reply_status (reply_of v (rules.load file «text».now)) }
+    ensures { (v : Option Standing) → Seen (was segment.now blocks.now buffers.now) v → result ≡ reply_status (reply_of v (rules.load file «text».now)) }
 {
     if !sound(segment, blocks, buffers) {
         return refusals::UNSOUND;
@@ -46,7 +46,7 @@ fn judge_load(segment: &[u8], blocks: &[u8], buffers: &[u8], file: usize, text: 
 fn lay_out(segment: &mut [u8], blocks: &mut [u8], buffers: &mut [u8], f: usize, text: &[u8])
     requires segment_len { (length segment.old ≡ segment_bytes) × (length blocks.old ≡ blocks_bytes) × (length buffers.old ≡ places * buffer_bytes * files) × (f < files) }
     requires text_value { (s : Sheet) × (read_sheet «text».now ≡ some s) }
-    ensures { (s : Sheet) → read_sheet «text».now ≡ some s → left segment blocks buffers ≡ laid_out f (loaded s) (was segment blocks buffers) }
+    ensures { (s : Sheet) → read_sheet «text».now ≡ some s → left segment.new blocks.new buffers.new ≡ laid_out f (loaded s) (was segment.old blocks.old buffers.old) }
 {
     let mut frame = [0u8; SHEET_LINE_BYTES];
     let file = pack(blocks, f, text, &mut frame);
@@ -62,7 +62,7 @@ pub fn load(
     file: usize,
     text: &[u8],
 ) -> u8
-    ensures { Promise (was segment blocks buffers) (host.load file «text».now) (status result) (left segment blocks buffers) }
+    ensures { Promise (was segment.old blocks.old buffers.old) (host.load file «text».now) (status result) (left segment.new blocks.new buffers.new) }
 {
     let status = judge_load(segment, blocks, buffers, file, text);
     if status != 0 {

@@ -21,7 +21,7 @@ use kinds::refusals;
 // What look shows, for memories of any content.
 pub fn shown(segment: &[u8], blocks: &[u8], buffers: &[u8], file: usize, reader: usize) -> Shown
     ensures inside { Inside (length blocks.now) (length buffers.now) result }
-    ensures tells { (v : Option Standing) → Seen (was segment blocks buffers) v → Tells (part_of v file reader) (reply_of v (rules.look file reader)) result }
+    ensures tells { (v : Option Standing) → Seen (was segment.now blocks.now buffers.now) v → Tells (part_of v file reader) (reply_of v (rules.look file reader)) result }
 {
     if !sound::sound(segment, blocks, buffers) {
         return Shown::Refused(refusals::UNSOUND);
@@ -60,8 +60,8 @@ pub fn look<'a>(
     file: usize,
     reader: usize,
 ) -> &'a [u8]
-    ensures part { (v : Option Standing) → Seen (was segment blocks buffers) v → result.now ≡ bytes_of (part_of v file reader) blocks.now buffers.now }
-    ensures shown { (v : Option Standing) → Seen (was segment blocks buffers) v → result.now ≡ reply_bytes (reply_of v (rules.look file reader)) }
+    ensures part { (v : Option Standing) → Seen (was segment.now blocks.now buffers.now) v → result.now ≡ bytes_of (part_of v file reader) blocks.now buffers.now }
+    ensures shown { (v : Option Standing) → Seen (was segment.now blocks.now buffers.now) v → result.now ≡ reply_bytes (reply_of v (rules.look file reader)) }
     ensures short { length result.now ≤ buffer_bytes }
 {
     let what = shown(segment, blocks, buffers, file, reader);
@@ -70,7 +70,7 @@ pub fn look<'a>(
 
 // The status of a look, without the part.
 pub fn look_status(segment: &[u8], blocks: &[u8], buffers: &[u8], file: usize, reader: usize) -> u8
-    ensures { (v : Option Standing) → Seen (was segment blocks buffers) v → result ≡ reply_status (reply_of v (rules.look file reader)) }
+    ensures { (v : Option Standing) → Seen (was segment.now blocks.now buffers.now) v → result ≡ reply_status (reply_of v (rules.look file reader)) }
 {
     let what = shown(segment, blocks, buffers, file, reader);
     status(what)

@@ -61,8 +61,8 @@ pub fn open_reader(
     f: usize,
     share: u16,
 ) -> Answer
-    requires { Sound (lent segment blocks buffers) × Each Reads f (lent segment blocks buffers) }
-    ensures { OpensBy (open_reader share) f (was segment blocks buffers) (left segment blocks buffers) result }
+    requires { Sound (lent segment.old blocks.old buffers.old) × Each Reads f (lent segment.old blocks.old buffers.old) }
+    ensures { OpensBy (open_reader share) f (was segment.old blocks.old buffers.old) (left segment.new blocks.new buffers.new) result }
 {
     let acc = free_place(segment, f);
     let file = take_file(segment, f);
@@ -80,8 +80,8 @@ pub fn open_writer(
     share: u16,
     purges: bool,
 ) -> Answer
-    requires { Sound (lent segment blocks buffers) × ((access : ℕ) × Enters access purges f (lent segment blocks buffers)) }
-    ensures { (access : ℕ) → Enters access purges f (was segment blocks buffers) → OpensBy (λ b. open_writer share (purged access b)) f (was segment blocks buffers) (left segment blocks buffers) result }
+    requires { Sound (lent segment.old blocks.old buffers.old) × ((access : ℕ) × Enters access purges f (lent segment.old blocks.old buffers.old)) }
+    ensures { (access : ℕ) → Enters access purges f (was segment.old blocks.old buffers.old) → OpensBy (λ b. open_writer share (purged access b)) f (was segment.old blocks.old buffers.old) (left segment.new blocks.new buffers.new) result }
 {
     let acc = free_place(segment, f);
     let id = free_id(segment, f);

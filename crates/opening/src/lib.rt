@@ -1,4 +1,6 @@
 // Build and open. The call has been judged and is not refused; here it is done.
+#![tactic(auto)]
+
 ghost use Rattle.std.specs.Prelude.{◌≡◌};
 ghost use Rattle.rules.specs.Calls as calls;
 ghost use Rattle.memory.specs.Memories.{lent, was, left};
@@ -33,8 +35,8 @@ pub fn build(
     records: u16,
     extents: u8,
 ) -> Answer
-    requires { Sound (lent segment blocks buffers) × Accepted f (calls.build words factor records extents) (lent segment blocks buffers) }
-    ensures { Does f (calls.build words factor records extents) (was segment blocks buffers) (left segment blocks buffers) result }
+    requires { Sound (lent segment.old blocks.old buffers.old) × Accepted f (calls.build words factor records extents) (lent segment.old blocks.old buffers.old) }
+    ensures { Does f (calls.build words factor records extents) (was segment.old blocks.old buffers.old) (left segment.new blocks.new buffers.new) result }
 {
     let count = data_blocks(records, factor, extents);
     let row = FileRow {
@@ -63,9 +65,9 @@ pub fn open(
     multi: u8,
     purges: bool,
 ) -> Answer
-    requires sound { Sound (lent segment blocks buffers) × Accepted f (calls.opens access share multi) (lent segment blocks buffers) }
+    requires sound { Sound (lent segment.old blocks.old buffers.old) × Accepted f (calls.opens access share multi) (lent segment.old blocks.old buffers.old) }
     requires purges_value { purges ≡ purges_at segment.old f access }
-    ensures { Does f (calls.opens access share multi) (was segment blocks buffers) (left segment blocks buffers) result }
+    ensures { Does f (calls.opens access share multi) (was segment.old blocks.old buffers.old) (left segment.new blocks.new buffers.new) result }
 {
     let given = sharing_of(share);
     if access == READS {

@@ -51,7 +51,7 @@ fn save_file(segment: &[u8], blocks: &[u8], file: usize, output: &mut [u8]) -> S
 // Writes a file's sheet, starting at the first byte of the output. Status 29: a memory has the wrong length or is unsound; 31: file above 7 or not built;
 // 44: output too short. Then nothing is written.
 pub fn save(segment: &[u8], blocks: &[u8], buffers: &[u8], file: usize, output: &mut [u8]) -> Saved
-    ensures saved { Promise (was segment blocks buffers) (host.save file output.old) (written result.status result.length output.new) (was segment blocks buffers) }
+    ensures saved { Promise (was segment.now blocks.now buffers.now) (host.save file output.old) (written result.status result.length output.new) (was segment.now blocks.now buffers.now) }
     ensures fits { result.length ≤ length output.old }
 {
     if !sound::sound(segment, blocks, buffers) {

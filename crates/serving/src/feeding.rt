@@ -43,8 +43,8 @@ fn feed_byte(
 ) -> Filled
     requires { (length line.old ≡ most_held) × (length out.old ≡ out_bytes) × (at.held ≤ most_held) × (at.used + answer_line ≤ out_bytes) }
     ensures bound { (result.held ≤ most_held) × (result.used ≤ out_bytes) }
-    ensures at { (g : Going) → At g (was segment blocks buffers) line.old out.old at.held at.used → At (byte g b) (left segment blocks buffers) line.new out.new result.held result.used }
-    ensures kept { Kept (was segment blocks buffers) (left segment blocks buffers) }
+    ensures at { (g : Going) → At g (was segment.old blocks.old buffers.old) line.old out.old at.held at.used → At (byte g b) (left segment.new blocks.new buffers.new) line.new out.new result.held result.used }
+    ensures kept { Kept (was segment.old blocks.old buffers.old) (left segment.new blocks.new buffers.new) }
 {
     let held = at.held;
     let used = at.used;
@@ -72,8 +72,8 @@ pub fn feed(
     requires { (length line.old ≡ most_held) × (length out.old ≡ out_bytes) × (held ≤ most_held) }
     ensures bound { (result.taken ≤ length chunk.now) × (result.held ≤ most_held) × (result.used ≤ out_bytes) }
     ensures some { 0 < length chunk.now → 0 < result.taken }
-    ensures at { (g : Going) → At g (was segment blocks buffers) line.old out.old held 0 → At (goes g (take result.taken chunk.now)) (left segment blocks buffers) line.new out.new result.held result.used }
-    ensures kept { Kept (was segment blocks buffers) (left segment blocks buffers) }
+    ensures at { (g : Going) → At g (was segment.old blocks.old buffers.old) line.old out.old held 0 → At (goes g (take result.taken chunk.now)) (left segment.new blocks.new buffers.new) line.new out.new result.held result.used }
+    ensures kept { Kept (was segment.old blocks.old buffers.old) (left segment.new blocks.new buffers.new) }
 {
     let mut at = Filled {
         held: held,
@@ -109,8 +109,8 @@ pub fn finish(
 ) -> usize
     requires { (length line.now ≡ most_held) × (length out.old ≡ out_bytes) × (held ≤ most_held) }
     ensures bound { result ≤ out_bytes }
-    ensures printed { (g : Going) → At g (was segment blocks buffers) line.now out.old held 0 → Printed (ends g) (left segment blocks buffers) out.new result }
-    ensures kept { Kept (was segment blocks buffers) (left segment blocks buffers) }
+    ensures printed { (g : Going) → At g (was segment.old blocks.old buffers.old) line.now out.old held 0 → Printed (ends g) (left segment.new blocks.new buffers.new) out.new result }
+    ensures kept { Kept (was segment.old blocks.old buffers.old) (left segment.new blocks.new buffers.new) }
 {
     if held == 0 {
         return 0;

@@ -59,9 +59,9 @@ fn answer_chunk<O: Write, E: Write>(
 ) -> Turn
     requires { (length line.old ≡ most_held) × (length out.old ≡ out_bytes) × (before ≤ most_held) }
     ensures bound { result.held ≤ most_held }
-    ensures at { (g : Going) → At (written g) (was segment blocks buffers) line.old out.old before 0 → result.more ≡ true → At (written (goes g chunk.now)) (left segment blocks buffers) line.new out.new result.held 0 }
-    ensures stands { (g : Going) → At (written g) (was segment blocks buffers) line.old out.old before 0 → Behind g (left segment blocks buffers) }
-    ensures kept { Kept (was segment blocks buffers) (left segment blocks buffers) }
+    ensures at { (g : Going) → At (written g) (was segment.old blocks.old buffers.old) line.old out.old before 0 → result.more ≡ true → At (written (goes g chunk.now)) (left segment.new blocks.new buffers.new) line.new out.new result.held 0 }
+    ensures stands { (g : Going) → At (written g) (was segment.old blocks.old buffers.old) line.old out.old before 0 → Behind g (left segment.new blocks.new buffers.new) }
+    ensures kept { Kept (was segment.old blocks.old buffers.old) (left segment.new blocks.new buffers.new) }
 {
     let mut held = before;
     let mut at = 0;
@@ -96,8 +96,8 @@ fn answer_read<I: Read, O: Write, E: Write>(
 ) -> Turn
     requires { (length line.old ≡ most_held) × (length out.old ≡ out_bytes) × (held ≤ most_held) }
     ensures bound { result.held ≤ most_held }
-    ensures turned { (g : Going) → At (written g) (was segment blocks buffers) line.old out.old held 0 → Turned g (left segment blocks buffers) line.new out.new result.held result.more }
-    ensures kept { Kept (was segment blocks buffers) (left segment blocks buffers) }
+    ensures turned { (g : Going) → At (written g) (was segment.old blocks.old buffers.old) line.old out.old held 0 → Turned g (left segment.new blocks.new buffers.new) line.new out.new result.held result.more }
+    ensures kept { Kept (was segment.old blocks.old buffers.old) (left segment.new blocks.new buffers.new) }
 {
     let Ok(n) = input.read(chunk) else {
         return last();
@@ -135,8 +135,8 @@ fn answer_all<I: Read, O: Write, E: Write>(
     aloud: bool,
 )
     requires { (length line.old ≡ most_held) × (length out.old ≡ out_bytes) }
-    ensures served { Served (was segment blocks buffers) (left segment blocks buffers) }
-    ensures kept { Kept (was segment blocks buffers) (left segment blocks buffers) }
+    ensures served { Served (was segment.old blocks.old buffers.old) (left segment.new blocks.new buffers.new) }
+    ensures kept { Kept (was segment.old blocks.old buffers.old) (left segment.new blocks.new buffers.new) }
 {
     let mut held = 0;
     let mut reads = u64::MAX;
@@ -162,8 +162,8 @@ pub fn serve<I: Read, O: Write, E: Write>(
     buffers: &mut [u8],
     aloud: bool,
 )
-    ensures served { Served (was segment blocks buffers) (left segment blocks buffers) }
-    ensures kept { Kept (was segment blocks buffers) (left segment blocks buffers) }
+    ensures served { Served (was segment.old blocks.old buffers.old) (left segment.new blocks.new buffers.new) }
+    ensures kept { Kept (was segment.old blocks.old buffers.old) (left segment.new blocks.new buffers.new) }
 {
     let mut line = [0u8; held::MOST_HELD];
     let mut out = [0u8; feeding::OUT_BYTES];

@@ -1,5 +1,7 @@
 // "then the file settles: while something can be done, serve the first waiting reader, else the first waiting writer."
 // The file is in hand. The settled file is handed back or put into its row. The memories are those of a call in its midst.
+#![tactic(auto)]
+
 ghost use Rattle.std.specs.Prelude.{◌≡◌, ◌<◌, ltb, length};
 ghost use Rattle.segment.specs.Layout.{segment_bytes};
 ghost use Rattle.rules.specs.Limits.{files};
@@ -42,8 +44,8 @@ pub fn settle(
     from: File,
     writers: u16,
 ) -> File
-    requires { Amid f (lent segment blocks buffers) from × Beside writers f segment.old }
-    ensures { (o : Start) (b : Built) → Mid Fine f o (was segment blocks buffers) from b → Mid Fine f o (left segment blocks buffers) result (settle b) }
+    requires { Amid f (lent segment.old blocks.old buffers.old) from × Beside writers f segment.old }
+    ensures { (o : Start) (b : Built) → Mid Fine f o (was segment.old blocks.old buffers.old) from b → Mid Fine f o (left segment.new blocks.new buffers.new) result (settle b) }
 {
     let mut file = from;
     let settled = loop {
@@ -71,8 +73,8 @@ pub fn settle_back(
     file: File,
     writers: u16,
 )
-    requires { Amid f (lent segment blocks buffers) file × Beside writers f segment.old }
-    ensures { Settles f (was segment blocks buffers) file (left segment blocks buffers) }
+    requires { Amid f (lent segment.old blocks.old buffers.old) file × Beside writers f segment.old }
+    ensures { Settles f (was segment.old blocks.old buffers.old) file (left segment.new blocks.new buffers.new) }
 {
     let settled = settle(segment, blocks, buffers, f, file, writers);
     put_file(segment, f, settled);
@@ -82,8 +84,8 @@ pub fn settle_back(
 // that the compiler keeps it out of line: the common path then does not save the settling loop's registers.
 // The open writers are counted only if a writer waits: nothing else needs them.
 pub fn conclude(segment: &mut [u8], blocks: &mut [u8], buffers: &mut [u8], f: usize, file: File)
-    requires { Amid f (lent segment blocks buffers) file }
-    ensures { Settles f (was segment blocks buffers) file (left segment blocks buffers) }
+    requires { Amid f (lent segment.old blocks.old buffers.old) file }
+    ensures { Settles f (was segment.old blocks.old buffers.old) file (left segment.new blocks.new buffers.new) }
 {
     if segment::get(segment, layout::WRITE_QUEUES + f) < layout::ENTRIES {
         let writers = count_side(segment, f, WRITER);
@@ -107,8 +109,8 @@ pub fn quick_conclude(
     f: usize,
     file: File,
 )
-    requires { Amid f (lent segment blocks buffers) file × RowStands segment.old f file }
-    ensures { Settles f (was segment blocks buffers) file (left segment blocks buffers) }
+    requires { Amid f (lent segment.old blocks.old buffers.old) file × RowStands segment.old f file }
+    ensures { Settles f (was segment.old blocks.old buffers.old) file (left segment.new blocks.new buffers.new) }
 {
     if segment::get(segment, layout::READ_QUEUES + f) >= layout::ENTRIES {
         if segment::get(segment, layout::WRITE_QUEUES + f) >= layout::ENTRIES {

@@ -44,8 +44,8 @@ pub fn serve_reader(
     f: usize,
     file: File,
 ) -> Turn
-    requires { Amid f (lent segment blocks buffers) file }
-    ensures { (o : Start) (b : Built) → Mid Fine f o (was segment blocks buffers) file b → Served f o (memories segment.new blocks.now buffers.new) result (at_head serve_reader b.rq b) }
+    requires { Amid f (lent segment.old blocks.now buffers.old) file }
+    ensures { (o : Start) (b : Built) → Mid Fine f o (was segment.old blocks.now buffers.old) file b → Served f o (memories segment.new blocks.now buffers.new) result (at_head serve_reader b.rq b) }
 {
     let e = segment::get(segment, layout::READ_QUEUES + f);
     if e >= layout::ENTRIES {

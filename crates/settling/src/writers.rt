@@ -60,8 +60,8 @@ pub fn serve_writer(
     file: File,
     writers: u16,
 ) -> Turn
-    requires { Amid f (lent segment blocks buffers) file × Beside writers f segment.old }
-    ensures { (o : Start) (b : Built) → Mid Fine f o (was segment blocks buffers) file b → Served f o (left segment blocks buffers) result (at_head serve_writer b.wq b) }
+    requires { Amid f (lent segment.old blocks.old buffers.old) file × Beside writers f segment.old }
+    ensures { (o : Start) (b : Built) → Mid Fine f o (was segment.old blocks.old buffers.old) file b → Served f o (left segment.new blocks.new buffers.new) result (at_head serve_writer b.wq b) }
 {
     let e = segment::get(segment, layout::WRITE_QUEUES + f);
     if e >= layout::ENTRIES {

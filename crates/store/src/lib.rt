@@ -1,5 +1,7 @@
 // The one door for records: every record that is put, goes or is purged passes here, with the file in hand by value. What must change beside share and ring when a
 // record comes or goes is written here once. `Keeps` (specs/Door.antt) says that the memories in the midst of a call then stand for the rules' next file.
+#![tactic(auto)]
+
 ghost use Rattle.std.specs.Prelude.{◌≡◌, true, List, ℕ, ◌*◌, ◌≤◌, ◌<◌, length};
 ghost use Rattle.std.proofs.lemmas.List.Edits.{sets};
 ghost use Rattle.rules.specs.Limits.{files, places, share_bytes};

@@ -15,7 +15,7 @@ pub extern "C" fn tendrilhook_event(
     answer: &mut [u8],
     frame: &[u8],
 ) -> usize
-    ensures { Promise (was segment blocks buffers) (host.event answer.old «frame».now) (host.answer result answer.new) (left segment blocks buffers) }
+    ensures { Promise (was segment.old blocks.old buffers.old) (host.event answer.old «frame».now) (host.answer result answer.new) (left segment.new blocks.new buffers.new) }
 {
     desk::event(segment, blocks, buffers, answer, frame)
 }
@@ -23,7 +23,7 @@ pub extern "C" fn tendrilhook_event(
 // Makes a fresh desk and gives the status: 0, or 29 if a length is wrong, and then nothing is written.
 #[unsafe(no_mangle)]
 pub extern "C" fn tendrilhook_fresh(segment: &mut [u8], blocks: &mut [u8], buffers: &mut [u8]) -> u8
-    ensures { Promise (was segment blocks buffers) host.fresh (host.status result) (left segment blocks buffers) }
+    ensures { Promise (was segment.old blocks.old buffers.old) host.fresh (host.status result) (left segment.new blocks.new buffers.new) }
 {
     fresh::fresh(segment, blocks, buffers)
 }
@@ -39,7 +39,7 @@ pub extern "C" fn tendrilhook_look<'a>(
     record: &mut [u8],
     length: &mut usize,
 ) -> u8
-    ensures { Promise (was segment blocks buffers) (host.look file reader «record».old) (host.written result length.new «record».new) (was segment blocks buffers) }
+    ensures { Promise (was segment.now blocks.now buffers.now) (host.look file reader «record».old) (host.written result length.new «record».new) (was segment.now blocks.now buffers.now) }
 {
     if record.len() != RECORD_ROOM {
         *length = 0;
@@ -62,7 +62,7 @@ pub extern "C" fn tendrilhook_save(
     output: &mut [u8],
     length: &mut usize,
 ) -> u8
-    ensures { Promise (was segment blocks buffers) (host.save file output.old) (host.written result length.new output.new) (was segment blocks buffers) }
+    ensures { Promise (was segment.now blocks.now buffers.now) (host.save file output.old) (host.written result length.new output.new) (was segment.now blocks.now buffers.now) }
 {
     let saved = saving::save(segment, blocks, buffers, file, output);
     *length = saved.length;
@@ -78,7 +78,7 @@ pub extern "C" fn tendrilhook_load(
     file: usize,
     text: &[u8],
 ) -> u8
-    ensures { Promise (was segment blocks buffers) (host.load file «text».now) (host.status result) (left segment blocks buffers) }
+    ensures { Promise (was segment.old blocks.old buffers.old) (host.load file «text».now) (host.status result) (left segment.new blocks.new buffers.new) }
 {
     loading::load(segment, blocks, buffers, file, text)
 }

@@ -1,5 +1,7 @@
 // The passing of time: every waiting request whose time is up completes with status 22, the smallest timeout first, equals in arming order;
 // all other timers lose the seconds.
+#![tactic(auto)]
+
 ghost use Rattle.std.specs.Prelude.{◌≡◌, List, ℕ, ◌-◌, ◌<◌, length};
 ghost use Rattle.rules.specs.Limits.{files, entries};
 ghost use Rattle.rules.specs.State.{unbuilt};

@@ -56,9 +56,9 @@ pub fn read(
     acc: usize,
     count: u16,
 ) -> DataAnswer
-    requires sound { Sound (lent segment blocks buffers) × Accepted f (calls.read acc count) (lent segment blocks buffers) }
+    requires sound { Sound (lent segment.old blocks.old buffers.old) × Accepted f (calls.read acc count) (lent segment.old blocks.old buffers.old) }
     requires answer_len { length answer.old ≡ answer_room }
-    ensures { Gives f (calls.read acc count) (was segment blocks buffers) answer.old (left segment blocks buffers) answer.new result.answer result.size }
+    ensures { Gives f (calls.read acc count) (was segment.old blocks.old buffers.old) answer.old (left segment.new blocks.new buffers.new) answer.new result.answer result.size }
 {
     let place = PLACES * f + acc;
     let file = take_file(segment, f);

@@ -76,9 +76,9 @@ pub fn write(
     count: u16,
     data: &[u8],
 ) -> Answer
-    requires sound { Sound (lent segment blocks buffers) × Accepted f (calls.write acc count «data».now) (lent segment blocks buffers) }
+    requires sound { Sound (lent segment.old blocks.old buffers.old) × Accepted f (calls.write acc count «data».now) (lent segment.old blocks.old buffers.old) }
     requires data_len { length «data».now ≡ count_bytes count }
-    ensures { Does f (calls.write acc count «data».now) (was segment blocks buffers) (left segment blocks buffers) result }
+    ensures { Does f (calls.write acc count «data».now) (was segment.old blocks.old buffers.old) (left segment.new blocks.new buffers.new) result }
 {
     let place = PLACES * f + acc;
     let file = take_file(segment, f);

@@ -1,0 +1,17 @@
+use mathlib.Core.Path.{◌≡◌, refl, ◌∙◌}
+use lib.ListN.{length}
+use Rattle.settling.specs.Turns.{Beside, Comes, waiting}
+use Rattle.settling.proofs.Loops.{comes-here, comes-amid, read_again, read-less, after-amid, after-beside, write_again, write-less, beside-again, at_rest}
+use Rattle.memory.specs.Memories.{memories}
+use Rattle.settling.proofs.settle.Given as goal
+
+abbrev pub invariant-loop-segment : goal.invariant-loop-segment
+invariant-loop-segment l =
+    Comes l.f (memories l.initial.segment l.initial.blocks l.initial.buffers) l.initial.file (memories l.segment l.blocks l.buffers) l.file
+    × (length l.segment ≡ length l.initial.segment)
+    × (length l.blocks ≡ length l.initial.blocks)
+    × (length l.buffers ≡ length l.initial.buffers)
+    × Beside l.writers l.f l.segment
+
+abbrev pub decreases-loop-segment : goal.decreases-loop-segment
+decreases-loop-segment l = waiting l.segment l.f

@@ -1,0 +1,7 @@
+use mathlib.Core.Path.{sym, ◌∙◌}
+use Rattle.sound.proofs.quick.Nils.{lists-free}
+use borrow.Author.Rules.{rules}
+use Rattle.sound.proofs.quick.heads.no_requests.Goals as goal
+
+pub returns : goal.returns
+returns c = λ h. lists-free _ (sym c.ones.ensures ∙ h)

@@ -1,0 +1,14 @@
+use native.Mathlib.Omega.{arith}
+use mathlib.Core.Path.{◌≡◌, refl}
+use borrow.Author.Rules.{rules}
+use Prim.Native.Nat.{◌+◌}
+use Rattle.sound.specs.quick.Ones.{ones}
+use Rattle.words.proofs.Ors.{Sofar, sofar-start, sofar-on, sofar-end, xor_same}
+use Rattle.sound.proofs.quick.Nils.{ones_step, ones-bad, ones-end}
+use Rattle.sound.proofs.quick.heads.ones.Given as goal
+
+abbrev pub invariant-loop-left : goal.invariant-loop-left
+invariant-loop-left l = Sofar l.all (ones l.s l.at l.n) (ones l.s l.p l.left) × (l.p + l.left ≡ l.at + l.n)
+
+abbrev pub decreases-loop-left : goal.decreases-loop-left
+decreases-loop-left l = l.left

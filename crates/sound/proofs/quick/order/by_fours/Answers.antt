@@ -1,0 +1,24 @@
+use borrow.Author.Rules.{rules}
+use mathlib.Core.Path.{◌≡◌, refl, ◌∙◌}
+use native.Mathlib.Omega.{arith}
+use mathlib.Core.List.{List}
+use Prim.Native.Nat.{ℕ, ◌*◌, ◌-◌, ◌≤◌}
+use Rattle.segment.specs.Layout.{link_at}
+use Rattle.sound.specs.quick.Onward.{free_from}
+use Rattle.sound.proofs.quick.Onward.{stays, onto-four, fewer}
+use Rattle.sound.proofs.quick.order.by_fours.Goals as goal
+
+pub loop-last-preserved : goal.loop-last-preserved
+loop-last-preserved c =
+    let t = c.loop-last-test.true in
+    let k = c.four_linked.ensures c.if-four_linked-ne0.false in
+    let m = c.four_marks.ensures c.if-four_marks-ne0.false in (
+      omega arith,
+      omega arith,
+      omega arith,
+      λ b.
+          c.loop-last.invariant.3 b
+          ∙ onto-four _ _ b _ _ _ c.loop-last.invariant.2 k.0 k.1 k.2 k.3 m.0 m.1 m.2 m.3 (omega arith)
+          (omega arith)
+          ∙ fewer _ _ b _ _ _ (omega arith),
+    )

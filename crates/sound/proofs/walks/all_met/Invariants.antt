@@ -1,0 +1,15 @@
+use native.Mathlib.Omega.{arith}
+use mathlib.Core.Path.{◌≡◌}
+use borrow.Author.Rules.{rules}
+use Prim.Native.Nat.{◌≤◌}
+use Rattle.rules.specs.Limits.{entries}
+use Rattle.sound.specs.Walks.{all_met}
+use Rattle.sound.proofs.Steps.{met-bad, met-step}
+use Rattle.words.proofs.Ors.{Sofar, sofar-start, sofar-on, sofar-end, xor_same}
+use Rattle.sound.proofs.walks.all_met.Given as goal
+
+abbrev pub invariant-loop-n : goal.invariant-loop-n
+invariant-loop-n l = (l.n ≤ entries) × Sofar l.all (all_met l.seen entries) (all_met l.seen l.n)
+
+abbrev pub decreases-loop-n : goal.decreases-loop-n
+decreases-loop-n l = l.n

@@ -1,0 +1,17 @@
+use native.Mathlib.Omega.{arith}
+use borrow.Author.Rules.{rules}
+use mathlib.Core.Path.{◌≡◌, refl, sym, ◌∙◌}
+use Prim.Native.Nat.{◌+◌, ◌<◌}
+use Rattle.rules.specs.Limits.{entries}
+use Rattle.segment.specs.Layout.{file_rows}
+use Rattle.sound.specs.Walks.{entry_word, place_in, queue_walk}
+use Rattle.sound.proofs.Steps.{held, failed, queue-end, queue-bad, queue-step, queue-place, met-before, unfit, both-held}
+use Rattle.sound.proofs.walks.queue_walk.Given as goal
+
+abbrev pub invariant-loop-left : goal.invariant-loop-left
+invariant-loop-left l =
+    (l.p < file_rows)
+    × (queue_walk l.s l.side l.f l.head l.initial.seen l.initial.busy (entries + 1) ≡ queue_walk l.s l.side l.f l.p l.seen l.busy l.left)
+
+abbrev pub decreases-loop-left : goal.decreases-loop-left
+decreases-loop-left l = l.left
