@@ -1,4 +1,6 @@
 // Sends a line of hexadecimal digits to the desk, and writes the answer as a line.
+#![tactic(auto)]
+
 ghost use Rattle.std.specs.Prelude.{◌+◌, ◌≤◌, ◌<◌, length};
 ghost use Rattle.lines.specs.Asked.{Asked, answer_line};
 ghost use Rattle.memory.specs.Memories.{was, left};
