@@ -133,7 +133,7 @@ module _ {ms : Memories} {d : Desk} {s : Alloc} (S : StandsFor ms d s) (f p : �
       (alter-rowed xs' f p g b (rw v (rowed-place ms.segment f (places * f + p) (place_words (changed_row c (place_at ms.segment (places * f + p)))) b h (begins-rowed S f b h e)))) bs bytes
 
   -- every control but the abort
-  pub set-done : (c : Control) → OneOf (0 ∷ 1 ∷ 3 ∷ 4 ∷ 5 ∷ []) (tag_of control.the_type c) → refusal_of (answered d (on f (calls.control p (some c)))).reply ≡ 0
+  pub set-done : (c : Control) → ((v : ℕ) → c ≡ Abort v → ⊥) → refusal_of (answered d (on f (calls.control p (some c)))).reply ≡ 0
       → (xs' : List ℕ) → xs' ≡ written c f p ms.segment → Bytes xs' → Done f d s (ask (file_of d f) (calls.control p (some c))) ms (memories xs' ms.blocks ms.buffers) Controlled
   set-done (Timeout v) t r xs' e bs =
       let A = accepted-timeout d f p v r in
@@ -141,11 +141,7 @@ module _ {ms : Memories} {d : Desk} {s : Alloc} (S : StandsFor ms d s) (f p : �
   set-done (Verify v) t r xs' e bs =
       let A = accepted-verify d f p v r in
       setting (Verify v) (λ a. a) A.b A.known.a _ xs' mild-same (row-verify v) A.file A.stands A.known.at (A.known.out ∙ set_same p A.b) e bs
-  set-done (Abort v) (inl u) r xs' e bs = absurd (omega arith)
-  set-done (Abort v) (inr (inl u)) r xs' e bs = absurd (omega arith)
-  set-done (Abort v) (inr (inr (inl u))) r xs' e bs = absurd (omega arith)
-  set-done (Abort v) (inr (inr (inr (inl u)))) r xs' e bs = absurd (omega arith)
-  set-done (Abort v) (inr (inr (inr (inr u)))) r xs' e bs = absurd (omega arith)
+  set-done (Abort v) t r xs' e bs = absurd (t v refl)
   set-done (Extended v) t r xs' e bs =
       let A = accepted-extended d f p v r in
       setting (Extended v) (set_extended (eqb v 1)) A.b A.known.a _ xs' (mild-extended (eqb v 1)) (row-extended v A.known.low) A.file A.stands A.known.at A.known.out e bs

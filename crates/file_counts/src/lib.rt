@@ -1,4 +1,6 @@
 // Counts: "data records, all records, writers, readers", of a file that is built.
+#![tactic(auto)]
+
 ghost use Rattle.std.specs.Prelude.{◌≡◌, cond, List, ℕ, ◌≤◌, eqb};
 ghost use Rattle.rules.specs.State.{Built, built};
 ghost use Rattle.rules.specs.Reply.{answering};

@@ -1,4 +1,6 @@
 // "One call makes a fresh desk: no file built, blocks and buffers zero, the free list in order of entry number".
+#![tactic(auto)]
+
 ghost use Rattle.std.specs.Prelude.{◌≡◌, ◌<◌, length};
 ghost use Rattle.rules.specs.Limits.{entries};
 ghost use Rattle.segment.specs.Layout.{segment_words, segment_bytes};

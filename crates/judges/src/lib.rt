@@ -1,4 +1,6 @@
 // Judges events on the shared segment, before anything is changed. Of the refusals, "the lowest that applies is given".
+#![tactic(auto)]
+
 ghost use Rattle.std.specs.Prelude.{◌≡◌, false, ◌&&◌, List, ℕ, eqb};
 ghost use Rattle.kinds.specs.declared.Frame.TheVariants as frame;
 ghost use Rattle.rules.specs.Desk.{frame_asks};

@@ -1,4 +1,6 @@
 // Save writes a file's sheet into the output. "Save also gives the length, 0 if refused; output behind it stays."
+#![tactic(auto)]
+
 mod writing;
 
 ghost use Rattle.std.specs.Prelude.{◌≡◌, ◌≤◌, length};

@@ -50,7 +50,7 @@ less-walk {s} {hand} {hm} {ls} {ms} {rs} n (suc k) ts (u ∷ us) B e h =
     let C = put_data-list B timer_list i (timer_words (minus n u)) (omega arith) k' (unfold timer_words entry_words in refl) in
     let f : set (get_or ms timer_list []) i (timer_words (minus n u)) ≡ map timer_words ((ts ++ minus n u ∷ []) ++ us) =
     ap (λ b. set b i (timer_words (minus n u))) e ∙ words-set ts us u (minus n u) in
-    let D = less-walk n k (ts ++ minus n u ∷ []) us C (get_or-set_same ms timer_list _ [] (omega (arith, B.sized)) ∙ f) (omega arith) in
+    let D = less-walk {s = put_data s x (timer_words (minus n u))} n k (ts ++ minus n u ∷ []) us C (get_or-set_same ms timer_list _ [] (omega (arith, B.sized)) ∙ f) (omega arith) in
     let j : length (ts ++ minus n u ∷ []) ≡ suc i = omega (arith, length-append ts (minus n u ∷ [])) in
     let q : slot_at timer_list (take (length (ts ++ minus n u ∷ [])) xs) ≡ link_at x =
     ap (λ j. slot_at timer_list (take j xs)) j ∙ ap (slot_at timer_list) (take-suc xs i 0 k') ∙ slot-after timer_list (take i xs) x in

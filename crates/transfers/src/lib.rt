@@ -1,4 +1,6 @@
 // Read, write and collect, when the call is not refused. Read and write first act, which fixes their answer, then the file settles. Collect does not settle.
+#![tactic(auto)]
+
 use kinds::Answer;
 
 mod collecting;

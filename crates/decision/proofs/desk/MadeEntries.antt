@@ -1,6 +1,6 @@
 -- The entry of a place, found in a list: it is there, and where a place has one entry only it is that one.
 use Prim.Native.Nat.{ℕ, ◌≤◌}
-use mathlib.Core.Path.{◌≡◌, refl, sym, ap, ap₂, ◌∙◌}
+use mathlib.Core.Path.{◌≡◌, refl, sym, subst, ap, ap₂, ◌∙◌}
 use mathlib.Core.List.{List, [], ◌∷◌, ◌++◌, map}
 use native.Mathlib.Omega.{arith}
 use native.Mathlib.Decide.{ℕ_discrete}
@@ -61,7 +61,9 @@ module _ (s : List ℕ) where
         go : Dec (place_in s x ≡ i) → (1 ≤ named s i l → (1 ≤ count (the_entry s i l) l) × (place_in s (the_entry s i l) ≡ i))
             → (1 ≤ count (the_entry s i (x ∷ l)) (x ∷ l)) × (place_in s (the_entry s i (x ∷ l)) ≡ i)
         go (yes u) k = rw (entry_here x l u) (omega (arith, bit-eq x x refl), u)
-        go (no u) k = let (a, b) = k (omega (arith, bit-ne (place_in s x) i u)) in rw (entry_next x l u) (omega arith, b)
+        go (no u) k =
+            let (a, b) = k (omega (arith, bit-ne (place_in s x) i u)) in
+            subst (λ (w : ℕ). (1 ≤ count w (x ∷ l)) × (place_in s w ≡ i)) (sym (entry_next x l u)) (omega arith, b)
 
     pub entry-left : (l m : List ℕ) → 1 ≤ named s i l → the_entry s i (l ++ m) ≡ the_entry s i l
     unfolding named count

@@ -1,0 +1,9 @@
+use mathlib.Core.Path.{◌∙◌}
+use borrow.Author.Tests.{lt-ltb, le-ltb}
+use Rattle.judges.proofs.Together as together
+use borrow.Author.Rules.{rules}
+use Rattle.judges.proofs.sharing.crowds.Goals as goal
+
+pub returns-then-access-gt0 : goal.returns-then-access-gt0
+returns-then-access-gt0 c =
+    λ b S. rw (lt-ltb _ _ c.if-access-gt0.true) (c.crowds_writers.ensures b (c.requires.f_lt_files.1 c.if-access-gt0.true ∙ together.writers-are _ _ b S))

@@ -1,0 +1,26 @@
+use Rattle.judges.proofs.Turns.{others-here, others-step, others-end}
+use Rattle.judges.specs.Sharing.{others_from}
+use Rattle.rules.specs.Limits.{places}
+use native.Mathlib.Omega.{arith}
+use mathlib.Core.Path.{◌≡◌, refl, sym, ◌∙◌}
+use Prim.Native.Nat.{◌+◌, ◌*◌}
+use borrow.Author.Rules.{rules}
+use Rattle.judges.proofs.sharing.others.Goals as goal
+
+pub returns-then-differs : goal.returns-then-differs
+returns-then-differs c =
+    sym
+    (c.loop-left.invariant.0
+    ∙ others-here _ _ _ _ c.loop-left-test.true
+    (sym c.differs.ensures ∙ c.if-differs.true))
+
+pub loop-left-preserved : goal.loop-left-preserved
+loop-left-preserved c = (
+  c.loop-left.invariant.0
+      ∙ others-step _ _ _ _ c.loop-left-test.true
+      (sym c.differs.ensures ∙ c.if-differs.false),
+  omega arith,
+)
+
+pub returns : goal.returns
+returns c = sym (c.loop-left.invariant.0 ∙ others-end _ _ _ _ c.loop-left-test.false)

@@ -1,0 +1,15 @@
+use Rattle.midst.specs.declared.File.{File}
+use Rattle.ring.specs.Ring.{Ranged}
+use mathlib.Core.Path.{sym, subst}
+use borrow.Author.Tests.{not-true, not-false}
+use Rattle.opening.proofs.Purges.{taken-plain, taken-purged}
+use borrow.Author.Rules.{rules}
+use Rattle.opening.proofs.entering.take.Goals as goal
+
+pub returns-then-not-purges : goal.returns-then-not-purges
+returns-then-not-purges c = λ access k. taken-plain _ _ access _ k _ c.take_file-file.ensures c.if-not-purges.true
+
+pub returns : goal.returns
+returns c =
+    λ access k.
+    taken-purged _ _ access _ k _ c.take_file-file.ensures c.if-not-purges.false _ c.purge.ensures.keeps

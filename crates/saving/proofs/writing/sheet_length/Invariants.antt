@@ -1,0 +1,12 @@
+use native.Mathlib.Omega.{arith}
+use borrow.Author.Rules.{rules}
+use Rattle.ring.proofs.Laws.{advanced-held}
+use Rattle.records.proofs.cursor.Laws.{stands-ranged, stands-readable}
+use Rattle.saving.proofs.writing.Records.{Measured, measured-start, measured-on, measured-end, turn_low}
+use Rattle.saving.proofs.writing.sheet_length.Given as goal
+
+abbrev pub invariant-loop-cursor : goal.invariant-loop-cursor
+invariant-loop-cursor l = Measured l.words l.share l.initial.cursor.ring l.cursor l.total
+
+abbrev pub decreases-loop-cursor : goal.decreases-loop-cursor
+decreases-loop-cursor l = l.cursor.ring.held

@@ -1,0 +1,13 @@
+use Rattle.words.specs.Word.{Bytes}
+use native.Mathlib.Omega.{arith}
+use Rattle.settling.proofs.Loops.{nobody-settles}
+use Rattle.settling.proofs.Outs.{mid-out}
+use borrow.Author.Rules.{rules}
+use Rattle.settling.proofs.quick_conclude.Goals as goal
+
+pub returns-then-get-ge-ENTRIES-2 : goal.returns-then-get-ge-ENTRIES-2
+returns-then-get-ge-ENTRIES-2 c = λ o b M B r.
+    mid-out (nobody-settles (omega (arith, c.get.ensures, c.if-get-ge-ENTRIES.true)) (omega (arith, c.get-then-get-ge-ENTRIES.ensures, c.if-get-ge-ENTRIES-2.true)) M) B _
+    c.put_ring.ensures (unfold Bytes in λ i. (c.type_inv.segment i).fits)
+    (unfold Bytes in λ i. (c.type_inv.blocks i).fits)
+    (unfold Bytes in λ i. (c.type_inv.buffers i).fits) r

@@ -1,0 +1,19 @@
+use Prim.Native.Nat.{◌<◌}
+use mathlib.Core.Path.{◌≡◌, refl, sym, ◌∙◌}
+use native.Mathlib.Omega.{arith}
+use lib.ListN.{length}
+use borrow.Author.Rules.{rules}
+use Rattle.rules.specs.Limits.{entries}
+use Rattle.segment.specs.Layout.{timer_list, segment_bytes, file_rows}
+use Rattle.timeouts.specs.Late.{less_all}
+use Rattle.timeouts.proofs.Steps.{less-stop, less-step}
+use Rattle.timeouts.proofs.lessen.Given as goal
+
+abbrev pub invariant-loop-n : goal.invariant-loop-n
+invariant-loop-n l =
+    (length l.segment ≡ segment_bytes)
+    × (l.p < file_rows)
+    × (less_all l.initial.segment timer_list l.seconds entries ≡ less_all l.segment l.p l.seconds l.n)
+
+abbrev pub decreases-loop-n : goal.decreases-loop-n
+decreases-loop-n l = l.n
