@@ -2,11 +2,8 @@
 use Prim.Native.Nat.{ℕ, ◌+◌, ◌-◌, ◌*◌, ◌≤◌, ◌<◌}
 use mathlib.Core.Path.{◌≡◌, sym, ap, ◌∙◌}
 use mathlib.Core.List.{[], ◌∷◌, ◌++◌}
-use types.Run.{OneOf, miss}
-use denote.Enum.Declared.{tag_of}
 use lib.ListN.{length}
 use Rattle.kinds.specs.declared.Answer.{Answer}
-use Rattle.kinds.specs.contracts.Answer as D
 use Rattle.kinds.specs.declared.Answer.TheVariants.{Counted}
 use Rattle.rules.specs.Limits.{files, most_words}
 use Rattle.rules.specs.State.{Built, built}
@@ -43,8 +40,8 @@ counts-are b r e n all w m k =
     (cc, cc, cc)
 
 -- the answer of counts is no other answer
-pub counts-only : (b : Built) (r : Answer) → counts b ≡ answering r b → OneOf (0 ∷ 1 ∷ 2 ∷ 3 ∷ 4 ∷ 5 ∷ 6 ∷ 7 ∷ 9 ∷ []) (tag_of D.the_type r) → ⊥
-counts-only b r e k = miss (0 ∷ 1 ∷ 2 ∷ 3 ∷ 4 ∷ 5 ∷ 6 ∷ 7 ∷ 9 ∷ []) 8 tt (rw (counted-as b r e) at k)
+pub counts-only : (b : Built) (r : Answer) → counts b ≡ answering r b → ((n all w m : ℕ) → r ≡ Counted n all w m → ⊥) → ⊥
+counts-only b r e k = k _ _ _ _ (counted-as b r e)
 
 -- the memories stand for a desk whose file f is b, and x is that file in hand
 module _ {m : Memories} {d : Desk} {s : Alloc} (S : StandsFor m d s) (f : ℕ) (hf : f < files) (b : Built) (is : file_of d f ≡ built b)

@@ -1,5 +1,7 @@
 // The night board: a text that shows what a desk holds, who has its files open, who waits and what is not collected. A last line says if bytes that no call reads
 // are not zero.
+#![tactic(auto)]
+
 mod outstanding;
 mod unread;
 

@@ -1,5 +1,7 @@
 // Close: "a waiting request is cancelled; for the last writer, every waiting reader without extended wait, in queue order, completes with status 2;
 // then a writer's close record is put." The call has been judged and is not refused.
+#![tactic(auto)]
+
 ghost use Rattle.std.specs.Prelude.{◌≡◌};
 ghost use Rattle.std.proofs.Math.Option.{some};
 ghost use Rattle.rules.specs.State.{idle, Acc, Built};

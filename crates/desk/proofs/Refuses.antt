@@ -8,8 +8,6 @@ use mathlib.Core.Option.{none, some}
 use native.Mathlib.Omega.{arith}
 use lib.Dec.{eqb}
 use lib.ListN.{get_or, drop}
-use types.Run.{OneOf}
-use denote.Enum.Declared.{tag_of}
 use Rattle.rules.specs.Limits.{write_head}
 use Rattle.kinds.specs.declared.Answer.TheVariants.{Status}
 use Rattle.kinds.specs.declared.Event.{Event}
@@ -42,11 +40,10 @@ unfolding answer_bytes
 twice op n r memory memory' k e T = subst (λ (z : Reply). Told z memory memory' k) (sym e) (tells_none (Status op n) memory memory' k T.bytes T.size)
 
 -- a frame whose tag is not that of a code is answered with 30
-pub no_code : (xs : List ℕ) (y : Frame) (memory memory' : List ℕ) (k : ℕ) → OneOf (0 ∷ 2 ∷ []) (tag_of D.the_type y) → Twice 0 30 memory memory' k → Refusal xs y memory memory' k
+pub no_code : (xs : List ℕ) (y : Frame) (memory memory' : List ℕ) (k : ℕ) → ((f p : ℕ) → y ≡ frame.Code f p → ⊥) → Twice 0 30 memory memory' k → Refusal xs y memory memory' k
 unfolding Refusal
 no_code xs (frame.Event e) memory memory' k u T = T
-no_code xs (frame.Code f p) memory memory' k (inl u) T = absurd (omega arith)
-no_code xs (frame.Code f p) memory memory' k (inr u) T = absurd (omega arith)
+no_code xs (frame.Code f p) memory memory' k u T = absurd (u f p refl)
 no_code xs frame.Shape memory memory' k u T = T
 
 module _ {ms : Memories} {d : Desk} {s : Alloc} (S : StandsFor ms d s) (fr memory memory' : List ℕ) (k : ℕ) where
@@ -89,11 +86,10 @@ module _ {ms : Memories} {d : Desk} {s : Alloc} (S : StandsFor ms d s) (fr memor
   }
 
   -- a frame that is no event: in the `else` of `let Frame::Event(..) = said else { .. }` the tag is another variant's
-  pub frame_refused : (y : Frame) → frame_of fr ≡ y → OneOf (1 ∷ 2 ∷ []) (tag_of D.the_type y) → Refusal ms.segment y memory memory' k
+  pub frame_refused : (y : Frame) → frame_of fr ≡ y → ((e : Event) → y ≡ frame.Event e → ⊥) → Refusal ms.segment y memory memory' k
       → Responds d s (event fr) ms memory ms memory' k
   unfolding Refusal frame_asks asked refusal
-  frame_refused (frame.Event e) said (inl u) R = absurd (omega arith)
-  frame_refused (frame.Event e) said (inr u) R = absurd (omega arith)
+  frame_refused (frame.Event e) said u R = absurd (u e refl)
   frame_refused (frame.Code f p) said u (n, N, T) =
       let e = N ms.blocks ms.buffers d s S in
       on-refused f (calls.control p none) 5 n (ap (λ (y : Frame). frame_asks y (drop write_head fr)) said) (λ _. refl) e (λ z. accepted-code d f p (sym e ∙ z)) T

@@ -1,4 +1,6 @@
 // One event: tests the memories, takes the frame apart, judges the call on shared memory, and only then does it.
+#![tactic(auto)]
+
 mod acts;
 mod refusals;
 

@@ -1,6 +1,8 @@
 // Look: "It shows the record lying in that reader's buffer as it will be answered, else the data bytes of the file's oldest data record, as a part
 // of whichever memory holds it. Refused, it shows an empty part; a second call gives its status."
 // The lent memories may hold anything, and nothing is changed.
+#![tactic(auto)]
+
 mod finding;
 
 ghost use Rattle.std.specs.Prelude.{◌≡◌, ◌≤◌, length};

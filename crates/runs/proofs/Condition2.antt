@@ -42,6 +42,8 @@ since-more cs c m H = rw (after_more fresh_desk cs c, alloc-more fresh_desk cs c
 pub run-says : (xs : List HostCall) (gs : List Given) (cs : List Call) (m n : Memories) → Since cs m → Run m xs gs n
     → (gs ≡ heard xs (replies (after fresh_desk cs) (stretch xs))) × Since (since cs xs) n
 unfolding heard stretch since
+run-says [] (g ∷ gs) cs m n H x4 = elim x4 [ ]
+run-says (x ∷ xs) [] cs m n H x5 = elim x5 [ ]
 run-says [] [] cs m n H ended = (refl, H)
 run-says (x ∷ xs) (g ∷ gs) cs m n H (then {n = k} P R) =
     go (meant x) (step-comes m k (after fresh_desk cs) (alloc_after fresh_desk cs fresh_alloc) H x g P) (λ ds K. run-says xs gs ds k n K R)
@@ -75,6 +77,7 @@ step-since cs m n x g H P = go (meant x) (step-comes m n (after fresh_desk cs) (
 -- The theorem: memories of any content and the right lengths, made fresh, and then any calls, fresh among them.
 pub condition-2 : (m n : Memories) (xs : List HostCall) (gs : List Given) → sized m ≡ true → Run m (fresh ∷ xs) gs n → Condition2 xs gs n
 unfolding heard meant gives said reply_status
+condition-2 m n xs [] h x'' = elim x'' [ ]
 condition-2 m n xs (g ∷ gs) h (then {n = k} P R) =
     let (e, H) = fresh-first m k g h P in
     let (es, K) = run-says xs gs [] k n (since_none k H) R in

@@ -118,6 +118,8 @@ module _ (m n : Memories) (d : Desk) (s : Alloc) (H : Holds m d s) where
 -- A run.
 
 run-29 : (xs : List HostCall) (gs : List Given) (cs : List Call) (m n : Memories) → Since cs m → Run m xs gs n → map is29 gs ≡ map wrong_length xs
+run-29 [] (g ∷ gs) cs m n H x4 = elim x4 [ ]
+run-29 (x ∷ xs) [] cs m n H x5 = elim x5 [ ]
 run-29 [] [] cs m n H ended = refl
 run-29 (x ∷ xs) (g ∷ gs) cs m n H (then {n = k} P R) =
     let (ds, K) = step-since cs m k x g H P in
@@ -126,6 +128,7 @@ run-29 (x ∷ xs) (g ∷ gs) cs m n H (then {n = k} P R) =
 -- 29 is given for a wrong length of answer or record memory, and for nothing else
 pub never-29 : (m n : Memories) (xs : List HostCall) (gs : List Given) → sized m ≡ true → Run m (fresh ∷ xs) gs n → map is29 gs ≡ map wrong_length (fresh ∷ xs)
 unfolding is29 wrong_length
+never-29 m n xs [] h x'' = elim x'' [ ]
 never-29 m n xs (g ∷ gs) h (then {n = k} P R) =
     let (e, H) = fresh-first m k g h P in
     ap₂ {C = List Bool} (λ (a : Bool) (l : List Bool). a ∷ l) (ap is29 e) (run-29 xs gs [] k n (since_none k H) R)

@@ -67,6 +67,8 @@ module _ (m n : Memories) (d : Desk) (s : Alloc) (H : Holds m d s) where
 
 stays_on : (xs : List HostCall) (gs : List Given) (cs : List Call) (m n : Memories) → Since cs m → Run m xs gs n → Stay xs gs
 unfolding Stay
+stays_on [] (g ∷ gs) cs m n H x4 = elim x4 [ ]
+stays_on (x ∷ xs) [] cs m n H x5 = elim x5 [ ]
 stays_on [] [] cs m n H ended = tt
 stays_on (x ∷ xs) (g ∷ gs) cs m n H (then {n = k} P R) =
     let (ds, K) = step-since cs m k x g H P in
@@ -74,6 +76,7 @@ stays_on (x ∷ xs) (g ∷ gs) cs m n H (then {n = k} P R) =
 
 pub run-stays : (m n : Memories) (xs : List HostCall) (gs : List Given) → sized m ≡ true → Run m (fresh ∷ xs) gs n → Stay (fresh ∷ xs) gs
 unfolding Stay lent_by
+run-stays m n xs [] h x'' = elim x'' [ ]
 run-stays m n xs (g ∷ gs) h (then {n = k} P R) =
     let (e, H) = fresh-first m k g h P in
     (subst (λ (y : Given). Stayed y []) (sym e) (unfold given_size given_memory in refl), stays_on xs gs [] k n (since_none k H) R)

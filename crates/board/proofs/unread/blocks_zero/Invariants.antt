@@ -1,0 +1,15 @@
+use Prim.Native.Nat.{◌+◌}
+use mathlib.Core.Path.{◌≡◌, refl, sym, ◌∙◌}
+use native.Mathlib.Omega.{arith}
+use borrow.Author.Rules.{rules}
+use Rattle.shares.specs.Tails.{tail_zero, blocks_zero}
+use Rattle.ring.specs.Ring.{geo}
+use Rattle.sound.proofs.Steps.{held, failed}
+use Rattle.board.proofs.Swept.{blocks-bad, blocks-on}
+use Rattle.board.proofs.unread.blocks_zero.Given as goal
+
+abbrev pub invariant-loop-n : goal.invariant-loop-n
+invariant-loop-n l = (blocks_zero (geo l.words l.ring) l.share 0 l.ring.blocks ≡ blocks_zero (geo l.words l.ring) l.share l.k l.n) × (l.k + l.n ≡ l.ring.blocks)
+
+abbrev pub decreases-loop-n : goal.decreases-loop-n
+decreases-loop-n l = l.n

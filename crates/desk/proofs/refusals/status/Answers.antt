@@ -1,0 +1,7 @@
+use Rattle.rules.specs.Answers.{answer_bytes}
+use borrow.Author.Rules.{rules}
+use Rattle.desk.proofs.refusals.status.Goals as goal
+
+pub returns : goal.returns
+unfolding answer_bytes
+returns c = record { bytes = c.encode.ensures.bytes; size = c.encode.ensures.size }
