@@ -1,4 +1,3 @@
-pub mod Again
 pub mod Packs
 pub mod Packed
 pub mod Judged

@@ -1,4 +1,6 @@
 // Load: builds a file that is not built from a sheet's text. Judging comes first, on shared memory.
+#![tactic(auto)]
+
 ghost use Rattle.std.specs.Prelude.{◌≡◌, ◌*◌, ◌<◌, length};
 ghost use Rattle.std.proofs.Math.Option.{Option, some};
 ghost use Rattle.segment.specs.Layout.{segment_bytes};
