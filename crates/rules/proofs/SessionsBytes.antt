@@ -1,12 +1,11 @@
 -- The exact bytes of a file's share and of record buffers.
 use mathlib.Core.Path.{◌≡◌, refl}
 use mathlib.Core.List.{List, [], ◌∷◌, ◌++◌}
-use Prim.Native.Nat.{ℕ, ◌+◌, ◌*◌, ◌-◌}
+use Prim.Native.Nat.{ℕ, ◌+◌, ◌-◌}
 use Prim.Native.String.{String}
 use lib.ListN.{length}
 use Rattle.words.specs.Word.{zeros}
 use Rattle.rules.specs.Limits.{share_bytes, buffer_bytes}
-use Rattle.rules.specs.Desk.{file_of}
 use Rattle.rules.specs.Memories.{share_at, blocks, buffer_at, buffers}
 use Rattle.rules.specs.Allocation.{place_of}
 use Rattle.rules.proofs.All.{All}

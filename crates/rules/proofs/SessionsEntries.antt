@@ -1,9 +1,8 @@
 -- The allocation beside the definition, and the happenings of a call.
 use mathlib.Core.Path.{◌≡◌, refl}
 use mathlib.Core.List.{List, [], ◌∷◌, ◌++◌, map}
-use Prim.Native.Nat.{ℕ, ◌+◌}
-use lib.ListN.{length}
-use Rattle.rules.specs.State.{Rec, Timer, Hap, made, puts, takes, drops, purges, waits, arms, ends, cancels, collects, Built}
+use Prim.Native.Nat.{◌+◌}
+use Rattle.rules.specs.State.{made, puts, takes, drops, purges, waits, arms, ends, cancels, collects}
 use Rattle.rules.specs.Desk.{asked, fresh_desk, file_of, history}
 use Rattle.rules.specs.Allocation.{Alloc, own, timed, nothing, up_from, fresh_alloc, held_at, alloc_after, happening, told, queue_of, timer_list}
 use Rattle.rules.proofs.All.{All}

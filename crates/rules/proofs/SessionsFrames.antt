@@ -1,6 +1,6 @@
 -- Frames: the nine shapes, the refusals 30 to 32, and what is no line.
-use mathlib.Core.Path.{◌≡◌, refl}
-use mathlib.Core.List.{List, [], ◌∷◌}
+use mathlib.Core.Path.{refl}
+use mathlib.Core.List.{[], ◌∷◌}
 use Rattle.rules.proofs.All.{All}
 use Rattle.rules.proofs.Vocabulary.{builds, opens, reads, writes, controls, collects, closes, passes, counts, shorter, longer, line, bytes, built, refused, malformed}
 use Rattle.rules.proofs.Script.{◌⇒◌, AsWritten, Plays}

@@ -1,6 +1,6 @@
 -- Geometry: what build answers.
-use mathlib.Core.Path.{◌≡◌, refl}
-use mathlib.Core.List.{List, [], ◌∷◌}
+use mathlib.Core.Path.{refl}
+use mathlib.Core.List.{[], ◌∷◌}
 use Rattle.rules.proofs.All.{All}
 use Rattle.rules.proofs.Vocabulary.{builds, built, refused}
 use Rattle.rules.proofs.Script.{◌⇒◌, AsWritten, Plays}

@@ -1,7 +1,6 @@
 -- The event program's lines, and the limits of a frame's length.
 use mathlib.Core.Path.{◌≡◌, refl}
-use mathlib.Core.List.{List, [], ◌∷◌, ◌++◌}
-use Prim.Native.Nat.{ℕ}
+use mathlib.Core.List.{[], ◌∷◌}
 use Rattle.words.specs.Word.{zeros}
 use Rattle.kinds.specs.declared.Answer.TheVariants.{Status}
 use Rattle.rules.specs.Line.{digits_of, line_frame}

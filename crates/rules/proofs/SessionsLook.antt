@@ -1,6 +1,6 @@
 -- Look.
-use mathlib.Core.Path.{◌≡◌, refl}
-use mathlib.Core.List.{List, [], ◌∷◌}
+use mathlib.Core.Path.{refl}
+use mathlib.Core.List.{[], ◌∷◌}
 use Rattle.rules.proofs.All.{All}
 use Rattle.rules.proofs.Vocabulary.{builds, opens, reads, writes, controls, collects, passes, counts, built, opened, got, wrote, counted, done, waiting, timed-out}
 use Rattle.rules.proofs.Script.{◌⇒◌, looks, AsWritten, Plays}

@@ -1,6 +1,6 @@
 -- Sentences of document 000 on which document 01 is silent, and its worked example.
-use mathlib.Core.Path.{◌≡◌, refl}
-use mathlib.Core.List.{List, [], ◌∷◌}
+use mathlib.Core.Path.{refl}
+use mathlib.Core.List.{[], ◌∷◌}
 use Rattle.rules.proofs.All.{All}
 use Rattle.rules.proofs.Vocabulary.{builds, built, bytes, closes, collects, controls, counted, counts, done, end-of-file, got, opened, opens, passes, reads, refused, timed-out, waiting, writes, wrote}
 use Rattle.rules.proofs.Script.{◌⇒◌, AsWritten, Plays}

@@ -1,6 +1,6 @@
 -- Opening: access, shares, multiaccess, places and IDs, purges.
-use mathlib.Core.Path.{◌≡◌, refl}
-use mathlib.Core.List.{List, [], ◌∷◌}
+use mathlib.Core.Path.{refl}
+use mathlib.Core.List.{[], ◌∷◌}
 use Rattle.rules.proofs.All.{All}
 use Rattle.rules.proofs.Vocabulary.{builds, opens, reads, writes, controls, collects, closes, passes, counts, built, opened, got, wrote, counted, done, waiting, end-of-file, refused}
 use Rattle.rules.proofs.Script.{◌⇒◌, AsWritten, Plays}

@@ -1,6 +1,6 @@
 -- Reading: what goes at the head, controls 46 and 47, counts and logs.
-use mathlib.Core.Path.{◌≡◌, refl}
-use mathlib.Core.List.{List, [], ◌∷◌}
+use mathlib.Core.Path.{refl}
+use mathlib.Core.List.{[], ◌∷◌}
 use Rattle.rules.proofs.All.{All}
 use Rattle.rules.proofs.Vocabulary.{builds, opens, reads, writes, controls, collects, closes, counts, bytes, built, opened, got, wrote, counted, done, waiting, end-of-file, refused}
 use Rattle.rules.proofs.Script.{◌⇒◌, AsWritten, Plays}

@@ -1,6 +1,6 @@
 -- Save and load.
-use mathlib.Core.Path.{◌≡◌, refl}
-use mathlib.Core.List.{List, [], ◌∷◌}
+use mathlib.Core.Path.{refl}
+use mathlib.Core.List.{[], ◌∷◌}
 use Rattle.rules.proofs.All.{All}
 use Rattle.rules.proofs.Vocabulary.{builds, opens, reads, writes, closes, counts, built, opened, got, wrote, counted, done, refused}
 use Rattle.rules.proofs.Script.{◌⇒◌, saves, loads, AsWritten, Plays}

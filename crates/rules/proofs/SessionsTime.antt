@@ -1,6 +1,6 @@
 -- Timeouts and the passing of time.
-use mathlib.Core.Path.{◌≡◌, refl}
-use mathlib.Core.List.{List, [], ◌∷◌}
+use mathlib.Core.Path.{refl}
+use mathlib.Core.List.{[], ◌∷◌}
 use Rattle.rules.proofs.All.{All}
 use Rattle.rules.proofs.Vocabulary.{builds, opens, reads, writes, controls, collects, passes, built, opened, got, wrote, done, waiting, end-of-file, timed-out, refused}
 use Rattle.rules.proofs.Script.{◌⇒◌, AsWritten, Plays}

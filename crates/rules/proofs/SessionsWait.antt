@@ -1,6 +1,6 @@
 -- Waiting: who waits, who ends with status 2, and in which order they are served.
-use mathlib.Core.Path.{◌≡◌, refl}
-use mathlib.Core.List.{List, [], ◌∷◌}
+use mathlib.Core.Path.{refl}
+use mathlib.Core.List.{[], ◌∷◌}
 use Rattle.rules.proofs.All.{All}
 use Rattle.rules.proofs.Vocabulary.{builds, opens, reads, writes, controls, collects, closes, built, opened, got, wrote, done, waiting, end-of-file, refused}
 use Rattle.rules.proofs.Script.{◌⇒◌, AsWritten, Plays}

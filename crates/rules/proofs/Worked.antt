@@ -1,11 +1,10 @@
 -- The worked session of document 01, and the sheet after its third line.
 use mathlib.Core.Path.{◌≡◌, refl}
-use mathlib.Core.List.{List, [], ◌∷◌}
-use Prim.Native.String.{String}
+use mathlib.Core.List.{[], ◌∷◌}
 use Rattle.rules.specs.Desk.{program}
 use Rattle.rules.proofs.All.{All}
 use Rattle.rules.proofs.Vocabulary.{line, prints}
-use Rattle.rules.proofs.Script.{lines, ◌⇒◌, saves, loads, AsWritten, Plays}
+use Rattle.rules.proofs.Script.{lines, ◌⇒◌, saves, AsWritten, Plays}
 
 -- the event program, given on standard input .. prints ..
 pub worked : program (lines (

@@ -5,7 +5,6 @@ use mathlib.Core.Path.{◌≡◌, refl}
 use mathlib.Core.List.{List, []}
 use lib.ListN.{set}
 use Rattle.words.specs.Word.{zeros, quiet}
-use Rattle.rules.specs.Limits.{share_bytes}
 use Rattle.rules.specs.State.{Geo}
 use Rattle.rules.specs.Geometry.{block_size}
 use Rattle.rules.specs.Store.{used, pad, record_bytes, record_words, block_bytes, zeroed, added, tail, readied, inscribed, empty_store, put}

@@ -1,4 +1,6 @@
 // The calls that a host in C makes; include/tendrilhook.h says what they do.
+#![tactic(auto)]
+
 ghost use Rattle.promises.specs.Promise.{Promise};
 ghost use Rattle.promises.specs.Promise as host;
 ghost use Rattle.memory.specs.Memories.{was, left};

@@ -1,7 +1,6 @@
 use mathlib.Core.Path.{ap}
 use Rattle.accessors.specs.Accessors.{words_at}
 use borrow.Author.Tests.{le-leb, lt-leb}
-use borrow.Author.Rules.{rules}
 use Rattle.accessors.proofs.words_of.Goals as goal
 
 pub returns-then-file-ge-FILES : goal.returns-then-file-ge-FILES

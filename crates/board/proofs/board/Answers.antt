@@ -1,10 +1,7 @@
 use Rattle.decision.proofs.desk.Both.{sound-stands}
 use Rattle.board.proofs.Boards.{board-unsound, board-short, board-shown, board-low}
 use Rattle.words.specs.Word.{Bytes}
-use borrow.Author.Tests.{not-true, not-false}
-use native.Mathlib.Omega.{arith}
 use mathlib.Core.Path.{sym, ◌∙◌}
-use borrow.Author.Rules.{rules}
 use Rattle.board.proofs.board.Goals as goal
 
 pub returns-then-not-sound-clause-board : goal.returns-then-not-sound-clause-board
@@ -17,12 +14,11 @@ returns-then-out-lt-BOARD_ROOM-clause-board c =
 
 pub put_board-length-requires : goal.put_board-length-requires
 unfolding Bytes
-put_board-length-requires c =
-    (
-      sound-stands _ (λ i. (c.type_inv.segment i).fits) (λ i. (c.type_inv.blocks i).fits) (λ i. (c.type_inv.buffers i).fits)
-          (sym c.sound.ensures ∙ c.if-not-sound.false),
-      c.if-out-lt-BOARD_ROOM.false,
-    )
+put_board-length-requires c = (
+  sound-stands _ (λ i. (c.type_inv.segment i).fits) (λ i. (c.type_inv.blocks i).fits) (λ i. (c.type_inv.buffers i).fits)
+      (sym c.sound.ensures ∙ c.if-not-sound.false),
+  c.if-out-lt-BOARD_ROOM.false,
+)
 
 pub returns-clause-board : goal.returns-clause-board
 unfolding Bytes

@@ -1,4 +1,3 @@
-use borrow.Author.Rules.{rules}
 use Rattle.board.proofs.Boards.{line-fits, whole-put}
 use Rattle.board.proofs.put_board.Goals as goal
 

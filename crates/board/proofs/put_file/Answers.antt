@@ -1,7 +1,6 @@
 use Rattle.board.proofs.Files.{counts-are, counts-only, ring-ranged, room-low, words-low, file-is}
 use Rattle.texts.proofs.Runs.{◌then◌, put_as, put-within}
 use native.Mathlib.Omega.{arith}
-use borrow.Author.Rules.{rules}
 use Rattle.board.proofs.put_file.Goals as goal
 
 pub returns-in_default : goal.returns-in_default

@@ -1,13 +1,11 @@
-use borrow.Author.Rules.{rules}
 use Prim.Native.Nat.{ℕ, ◌-◌, ◌≤◌}
 use mathlib.Core.List.{List}
-use native.Mathlib.Omega.{arith}
 use Rattle.rules.specs.Limits.{files}
 use Rattle.rules.specs.Desk.{Desk}
 use Rattle.rules.specs.Allocation.{Alloc}
 use Rattle.memory.specs.Memories.{memories}
 use Rattle.memory.specs.Fine.{StandsFor}
-use Rattle.board.proofs.Turns.{Filed, filed-none, filed-on, filed-all}
+use Rattle.board.proofs.Turns.{Filed}
 use Rattle.board.proofs.put_files.Given as goal
 
 abbrev pub invariant-loop-f : goal.invariant-loop-f

@@ -1,5 +1,3 @@
-use borrow.Author.Rules.{rules}
-use native.Mathlib.Omega.{arith}
 use Rattle.board.proofs.Boards.{stood-file, unbuilt-put, built-put}
 use Rattle.board.proofs.put_if_built.Goals as goal
 

@@ -1,6 +1,5 @@
 use Rattle.texts.specs.Spell.{spell}
 use Rattle.board.proofs.Turns.{ends-none, ends_some}
-use borrow.Author.Rules.{rules}
 use Rattle.board.proofs.put_nothing.Goals as goal
 
 pub returns-then-at-eq0 : goal.returns-then-at-eq0

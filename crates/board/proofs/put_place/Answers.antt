@@ -1,7 +1,6 @@
 use Rattle.texts.proofs.Runs.{◌then◌, put-none}
 use Rattle.board.specs.Found.{row_text}
 use borrow.Author.Tests.{eq-eqb, ne_eqb}
-use borrow.Author.Rules.{rules}
 use Rattle.board.proofs.put_place.Goals as goal
 
 pub returns-then-side-eq-CLOSED : goal.returns-then-side-eq-CLOSED

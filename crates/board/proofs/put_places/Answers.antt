@@ -1,7 +1,5 @@
-use Rattle.board.proofs.Turns.{Placed, placed-none, placed_on, placed-all}
-use Rattle.rules.specs.Limits.{places}
-use Prim.Native.Nat.{◌-◌, ◌≤◌}
-use borrow.Author.Rules.{rules}
+use Rattle.board.proofs.Turns.{placed-none, placed_on}
+use Prim.Native.Nat.{◌-◌}
 use native.Mathlib.Omega.{arith}
 use Rattle.board.proofs.put_places.Goals as goal
 

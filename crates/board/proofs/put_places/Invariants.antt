@@ -1,8 +1,6 @@
-use Rattle.board.proofs.Turns.{Placed, placed-none, placed_on, placed-all}
+use Rattle.board.proofs.Turns.{Placed}
 use Rattle.rules.specs.Limits.{places}
 use Prim.Native.Nat.{◌-◌, ◌≤◌}
-use borrow.Author.Rules.{rules}
-use native.Mathlib.Omega.{arith}
 use Rattle.board.proofs.put_places.Given as goal
 
 abbrev pub invariant-loop-p : goal.invariant-loop-p

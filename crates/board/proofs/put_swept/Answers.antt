@@ -1,6 +1,5 @@
 use mathlib.Core.Path.{sym, ◌∙◌}
 use native.Mathlib.Omega.{arith}
-use borrow.Author.Rules.{rules}
 use Rattle.texts.specs.Spell.{spell}
 use Rattle.texts.proofs.Runs.{put-none, put-within}
 use Rattle.board.specs.Board.{swept_text}

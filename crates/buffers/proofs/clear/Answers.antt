@@ -1,5 +1,4 @@
 use Rattle.buffers.proofs.Filled.{clear-written}
-use borrow.Author.Rules.{rules}
 use Rattle.buffers.proofs.clear.Goals as goal
 
 pub returns : goal.returns

@@ -2,7 +2,6 @@ use Rattle.words.proofs.Parts.{span, part-lent}
 use Rattle.words.proofs.Runs.{length-zeros}
 use Rattle.rules.specs.Limits.{buffer_bytes}
 use Rattle.buffers.specs.Buffer.{buffer_count}
-use borrow.Author.Rules.{rules}
 use Rattle.buffers.proofs.clear_at.Goals as goal
 
 pub returns : goal.returns

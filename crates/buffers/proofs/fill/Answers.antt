@@ -1,5 +1,4 @@
 use Rattle.buffers.proofs.Filled.{fill-written}
-use borrow.Author.Rules.{rules}
 use Rattle.buffers.proofs.fill.Goals as goal
 
 pub returns : goal.returns

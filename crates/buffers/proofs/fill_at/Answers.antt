@@ -1,7 +1,6 @@
 use Rattle.words.proofs.Parts.{span, part-lent}
 use Rattle.rules.proofs.Buffers.{length-filled}
 use Rattle.buffers.specs.Buffer.{buffer_count}
-use borrow.Author.Rules.{rules}
 use Rattle.buffers.proofs.fill_at.Goals as goal
 
 pub returns : goal.returns

@@ -1,7 +1,6 @@
 use lib.Seq.{take-take}
 use Rattle.words.proofs.Parts.{span}
 use Rattle.rules.specs.Limits.{buffer_bytes}
-use borrow.Author.Rules.{rules}
 use Rattle.buffers.proofs.lies.Goals as goal
 
 pub returns : goal.returns

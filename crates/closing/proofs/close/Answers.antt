@@ -1,4 +1,3 @@
-use mathlib.Core.Path.{◌∙◌}
 use native.Mathlib.Omega.{arith}
 use Rattle.closing.proofs.Clears.{close-size, clears, close-done}
 use Rattle.closing.proofs.close.Goals as goal

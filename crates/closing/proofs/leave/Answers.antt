@@ -1,6 +1,5 @@
 use native.Mathlib.Omega.{arith}
 use Rattle.closing.proofs.Parts.{leave-size, reader-gone, writer-gone, writer-done}
-use borrow.Author.Rules.{rules}
 use Rattle.closing.proofs.leave.Goals as goal
 
 pub overflow_add-place : goal.overflow_add-place

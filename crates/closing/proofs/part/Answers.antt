@@ -1,5 +1,4 @@
 use Rattle.closing.proofs.Parts.{close-ready, close-put}
-use borrow.Author.Rules.{rules}
 use Rattle.closing.proofs.part.Goals as goal
 
 pub put-requires-clause-ready : goal.put-requires-clause-ready

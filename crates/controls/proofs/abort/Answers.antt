@@ -2,7 +2,6 @@ use Rattle.words.specs.Word.{Bytes}
 use mathlib.Core.Path.{sym, ◌∙◌}
 use Rattle.controls.proofs.Aborts.{taken-sized, abort-waits, abort-completed}
 use native.Mathlib.Omega.{arith}
-use borrow.Author.Rules.{rules}
 use Rattle.controls.proofs.abort.Goals as goal
 
 pub overflow_mul-f : goal.overflow_mul-f

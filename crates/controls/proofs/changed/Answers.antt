@@ -1,5 +1,4 @@
 use Rattle.controls.specs.Changed.{changed_row}
-use borrow.Author.Rules.{rules}
 use Rattle.controls.proofs.changed.Goals as goal
 
 pub returns-in-Timeout : goal.returns-in-Timeout

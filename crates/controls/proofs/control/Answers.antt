@@ -2,7 +2,6 @@ use Rattle.words.specs.Word.{Bytes}
 use Rattle.controls.proofs.Settings.{set-done}
 use Rattle.controls.proofs.Aborts.{taken-sized}
 use native.Mathlib.Omega.{arith}
-use borrow.Author.Rules.{rules}
 use Rattle.controls.proofs.control.Goals as goal
 
 pub overflow_mul-f : goal.overflow_mul-f

@@ -1,9 +1,7 @@
 use Rattle.words.specs.Word.{Bytes}
 use Rattle.desk.proofs.Numbers.{unsound-number, frame-number}
 use Rattle.decision.proofs.desk.Both.{sound-stands}
-use borrow.Author.Tests.{not-true, not-false}
 use mathlib.Core.Path.{sym, ◌∙◌}
-use borrow.Author.Rules.{rules}
 use Rattle.desk.proofs.refusal_of.Goals as goal
 
 pub returns-then-not-sound : goal.returns-then-not-sound

@@ -1,6 +1,5 @@
-use Rattle.desk.proofs.Serves.{served, served-short}
+use Rattle.desk.proofs.Serves.{served}
 use native.Mathlib.Omega.{arith}
-use borrow.Author.Rules.{rules}
 use Rattle.desk.proofs.serve.Goals as goal
 
 pub returns : goal.returns

@@ -1,6 +1,5 @@
 use Rattle.midst.proofs.FileStands.{held-file}
 use Rattle.file_counts.proofs.Counted.{counts-file}
-use borrow.Author.Rules.{rules}
 use Rattle.file_counts.proofs.counts.Goals as goal
 
 pub data_records-records-requires : goal.data_records-records-requires

@@ -1,6 +1,5 @@
 use Rattle.fresh.proofs.Lengths.{no-segment, no_blocks, no-buffers, makes}
 use Rattle.fresh.specs.Made.{nothing_made}
-use borrow.Author.Rules.{rules}
 use Rattle.fresh.proofs.fresh.Goals as goal
 
 pub returns-then-segment-ne-SEGMENT_BYTES : goal.returns-then-segment-ne-SEGMENT_BYTES

@@ -1,5 +1,4 @@
 use Rattle.fresh.proofs.Words.{link-next, link-last}
-use borrow.Author.Rules.{rules}
 use Rattle.fresh.proofs.fresh_link.Goals as goal
 
 pub returns-then-e-lt-ENTRIES : goal.returns-then-e-lt-ENTRIES

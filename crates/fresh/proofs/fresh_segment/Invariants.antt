@@ -1,10 +1,8 @@
-use Rattle.fresh.proofs.Words.{from, from-turn, from_end}
+use Rattle.fresh.proofs.Words.{from}
 use Rattle.segment.specs.Layout.{segment_words}
-use borrow.Author.Rules.{rules}
 use lib.Seq.{sets}
 use lib.ListN.{length}
-use native.Mathlib.Omega.{arith}
-use mathlib.Core.Path.{◌≡◌, refl, ◌∙◌}
+use mathlib.Core.Path.{◌≡◌}
 use Prim.Native.Nat.{◌*◌, ◌-◌, ◌≤◌}
 use Rattle.fresh.proofs.fresh_segment.Given as goal
 

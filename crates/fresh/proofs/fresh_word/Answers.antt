@@ -1,6 +1,5 @@
 use mathlib.Core.Path.{◌∙◌}
 use Rattle.fresh.proofs.Words.{word-free, word-list, word-link, word-data, word_row}
-use borrow.Author.Rules.{rules}
 use Rattle.fresh.proofs.fresh_word.Goals as goal
 
 pub returns-then-k-lt-READ_QUEUES : goal.returns-then-k-lt-READ_QUEUES

@@ -1,7 +1,6 @@
 use native.Mathlib.Omega.{arith}
 use Rattle.rules.specs.Geometry.{block_size}
 use Rattle.geometry.proofs.Sizes.{records-most}
-use borrow.Author.Rules.{rules}
 use Rattle.geometry.proofs.block_size.Goals as goal
 
 pub returns-clause-value : goal.returns-clause-value

@@ -1,7 +1,5 @@
 use mathlib.Core.Path.{refl}
-use native.Mathlib.Omega.{arith}
 use Rattle.rules.specs.Geometry.{capacity}
-use Rattle.geometry.proofs.Sizes.{product-most}
 use Rattle.geometry.proofs.capacity.Goals as goal
 
 pub returns : goal.returns

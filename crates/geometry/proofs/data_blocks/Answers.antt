@@ -1,6 +1,4 @@
-use native.Mathlib.Omega.{arith}
 use Rattle.rules.specs.Geometry.{data_blocks}
-use borrow.Author.Rules.{rules}
 use Rattle.geometry.proofs.data_blocks.Goals as goal
 
 pub returns-clause-value : goal.returns-clause-value

@@ -1,7 +1,5 @@
 use mathlib.Core.Path.{refl}
 use Rattle.rules.specs.Geometry.{divided_up}
-use Rattle.geometry.proofs.Sizes.{divided-up-least}
-use borrow.Author.Rules.{rules}
 use Rattle.geometry.proofs.divided_up.Goals as goal
 
 pub returns-clause-value : goal.returns-clause-value

@@ -1,5 +1,4 @@
 use Rattle.rules.specs.Geometry.{fits_share}
-use borrow.Author.Rules.{rules}
 use Rattle.geometry.proofs.fits_share.Goals as goal
 
 pub returns : goal.returns

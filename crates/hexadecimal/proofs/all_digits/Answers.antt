@@ -1,8 +1,6 @@
-use Prim.Native.Nat.{◌≤◌, ◌-◌}
-use mathlib.Core.Path.{◌≡◌, sym, ◌∙◌}
-use lib.ListN.{length, drop}
+use Prim.Native.Nat.{◌-◌}
+use mathlib.Core.Path.{sym, ◌∙◌}
 use borrow.Author.Rules.{rules}
-use Rattle.rules.specs.Line.{all_digits}
 use Rattle.hexadecimal.proofs.Lines.{digits_step, digits-stop, digits-end}
 use Rattle.hexadecimal.proofs.all_digits.Goals as goal
 

@@ -1,7 +1,6 @@
 use mathlib.Core.Path.{sym, ◌∙◌}
 use native.Mathlib.Omega.{arith}
 use Rattle.hexadecimal.proofs.Lines.{line-is, length-bytes, frame-line, frame-none}
-use borrow.Author.Rules.{rules}
 use Rattle.hexadecimal.proofs.decode.Goals as goal
 
 pub fill-requires-clause-s_value : goal.fill-requires-clause-s_value

@@ -1,6 +1,5 @@
 use native.Mathlib.Omega.{arith}
 use Rattle.hexadecimal.proofs.Digits.{digit-number, digit-letter}
-use borrow.Author.Rules.{rules}
 use Rattle.hexadecimal.proofs.digit.Goals as goal
 
 pub returns-then-n-lt-TEN : goal.returns-then-n-lt-TEN

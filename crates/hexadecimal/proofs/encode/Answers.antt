@@ -1,21 +1,16 @@
-use Prim.Native.Nat.{◌*◌, ◌-◌, ◌≤◌}
-use mathlib.Core.Path.{◌≡◌, sym, ◌∙◌}
-use native.Mathlib.Omega.{arith}
-use lib.ListN.{length, drop, length-set}
-use lib.Seq.{sets}
+use Prim.Native.Nat.{◌-◌}
+use mathlib.Core.Path.{sym, ◌∙◌}
 use borrow.Author.Rules.{rules}
-use Rattle.rules.specs.Line.{digits_of}
 use Rattle.hexadecimal.proofs.Lines.{encode-step, encode-end}
 use Rattle.hexadecimal.proofs.encode.Goals as goal
 
 pub loop-i-preserved : goal.loop-i-preserved
-loop-i-preserved c =
-    (
-      search rules,
-      search rules,
-      rw (c.digit.ensures, c.digit-in-loop-i.ensures)
-          (sym (encode-step _ c.loop-i.out c.loop-i.i c.loop-i-test.true) ∙ c.loop-i.invariant.2),
-    )
+loop-i-preserved c = (
+  search rules,
+  search rules,
+  rw (c.digit.ensures, c.digit-in-loop-i.ensures)
+      (sym (encode-step _ c.loop-i.out c.loop-i.i c.loop-i-test.true) ∙ c.loop-i.invariant.2),
+)
 
 pub returns-clause-bytes : goal.returns-clause-bytes
 returns-clause-bytes c =

@@ -1,11 +1,8 @@
 use Prim.Native.Nat.{◌*◌, ◌-◌, ◌≤◌}
-use mathlib.Core.Path.{◌≡◌, sym, ◌∙◌}
-use native.Mathlib.Omega.{arith}
-use lib.ListN.{length, drop, length-set}
+use mathlib.Core.Path.{◌≡◌}
+use lib.ListN.{length, drop}
 use lib.Seq.{sets}
-use borrow.Author.Rules.{rules}
 use Rattle.rules.specs.Line.{digits_of}
-use Rattle.hexadecimal.proofs.Lines.{encode-step, encode-end}
 use Rattle.hexadecimal.proofs.encode.Given as goal
 
 abbrev pub invariant-loop-i : goal.invariant-loop-i

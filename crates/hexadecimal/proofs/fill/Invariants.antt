@@ -1,11 +1,8 @@
-use Prim.Native.Nat.{◌+◌, ◌*◌, ◌/◌, ◌-◌, ◌<◌, ◌≤◌}
-use mathlib.Core.Path.{◌≡◌, sym, ◌∙◌}
-use native.Mathlib.Omega.{arith}
+use Prim.Native.Nat.{◌*◌, ◌/◌, ◌-◌, ◌≤◌}
+use mathlib.Core.Path.{◌≡◌}
 use lib.ListN.{length, drop}
 use lib.Seq.{sets}
-use borrow.Author.Rules.{rules}
 use Rattle.rules.specs.Line.{bytes_of}
-use Rattle.hexadecimal.proofs.Lines.{digits-at, fill_step, fill_end}
 use Rattle.hexadecimal.proofs.fill.Given as goal
 
 abbrev pub invariant-loop-i : goal.invariant-loop-i

@@ -1,5 +1,4 @@
 use mathlib.Core.Path.{sym, ◌∙◌}
-use borrow.Author.Rules.{rules}
 use Rattle.hexadecimal.proofs.Lines.{line-odd, line-long, line-short}
 use Rattle.hexadecimal.proofs.is_line.Goals as goal
 

@@ -1,9 +1,7 @@
-use native.Mathlib.Omega.{arith}
 use Rattle.hexadecimal.proofs.Printed.{line-printed}
-use borrow.Author.Rules.{rules}
 use Rattle.hexadecimal.proofs.line.Goals as goal
 
 pub returns-clause-printed : goal.returns-clause-printed
 returns-clause-printed c =
     line-printed _ c.args.out.now _ _ _ c.encode.ensures.size c.requires
-          c.encode.ensures.bytes
+    c.encode.ensures.bytes

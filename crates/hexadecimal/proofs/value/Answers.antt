@@ -1,6 +1,5 @@
 use native.Mathlib.Omega.{arith}
 use Rattle.hexadecimal.proofs.Digits.{value-under, value-number, value-between, value-letter, value-over}
-use borrow.Author.Rules.{rules}
 use Rattle.hexadecimal.proofs.value.Goals as goal
 
 pub returns-then-b-lt48 : goal.returns-then-b-lt48

@@ -2,7 +2,6 @@ use mathlib.Core.Path.{refl}
 use Rattle.midst.specs.Outcome.{refusal_of, reply_status, status_of}
 use Rattle.rules.specs.Desk.{frame_asks, answered}
 use Rattle.judges.specs.Refused.{purges_by}
-use borrow.Author.Rules.{rules}
 use Rattle.judges.proofs.judge.Goals as goal
 
 pub returns-in-Build-clause-by_index : goal.returns-in-Build-clause-by_index

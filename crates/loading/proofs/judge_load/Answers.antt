@@ -1,7 +1,5 @@
 use mathlib.Core.Path.{sym, ◌∙◌}
 use native.Mathlib.Omega.{arith}
-use borrow.Author.Tests.{not-true, not-false}
-use borrow.Author.Rules.{rules}
 use Rattle.loading.proofs.Judged.{judges-unsound, sound-size, judges-high, judges-built, judges-text, judges-done}
 use Rattle.loading.proofs.judge_load.Goals as goal
 

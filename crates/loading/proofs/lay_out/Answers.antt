@@ -1,4 +1,3 @@
-use borrow.Author.Rules.{rules}
 use Rattle.loading.proofs.Done.{lays}
 use Rattle.loading.proofs.lay_out.Goals as goal
 

@@ -1,4 +1,3 @@
-use borrow.Author.Rules.{rules}
 use Rattle.words.specs.Word.{Bytes}
 use Rattle.loading.proofs.Done.{refused-load, judges-zero, done-asks, done-load}
 use Rattle.loading.proofs.load.Goals as goal

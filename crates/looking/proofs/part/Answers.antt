@@ -3,20 +3,18 @@ use borrow.Author.Rules.{rules}
 use Rattle.looking.proofs.part.Goals as goal
 
 pub overflow_add-result : goal.overflow_add-result
-overflow_add-result c =  let h = block_inside _ _ _ c.requires _ _ c.in-Block.is in search rules
+overflow_add-result c = let h = block_inside _ _ _ c.requires _ _ c.in-Block.is in search rules
 
 pub slice_bounds-result-end-in-Block : goal.slice_bounds-result-end-in-Block
 slice_bounds-result-end-in-Block c =
-    
     let h = block_inside _ _ _ c.requires _ _ c.in-Block.is in
     search rules
 
 pub overflow_add-result-in-Buffer : goal.overflow_add-result-in-Buffer
-overflow_add-result-in-Buffer c =  let h = buffer-inside _ _ _ c.requires _ _ c.in-Buffer.is in search rules
+overflow_add-result-in-Buffer c = let h = buffer-inside _ _ _ c.requires _ _ c.in-Buffer.is in search rules
 
 pub slice_bounds-result-end-in-Buffer : goal.slice_bounds-result-end-in-Buffer
 slice_bounds-result-end-in-Buffer c =
-    
     let h = buffer-inside _ _ _ c.requires _ _ c.in-Buffer.is in
     search rules
 

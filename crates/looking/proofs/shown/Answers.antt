@@ -1,9 +1,7 @@
 use mathlib.Core.Path.{sym, ◌∙◌}
-use borrow.Author.Tests.{not-true, not-false}
 use Rattle.looking.specs.Shown.{Inside}
 use Rattle.words.specs.Word.{Bytes}
 use Rattle.looking.proofs.Parts.{unsound-shows, sound-stood, sound-inside, sound-shows}
-use borrow.Author.Rules.{rules}
 use Rattle.looking.proofs.shown.Goals as goal
 
 pub returns-then-not-sound-clause-inside : goal.returns-then-not-sound-clause-inside
@@ -28,12 +26,12 @@ pub returns-clause-inside : goal.returns-clause-inside
 unfolding Bytes
 returns-clause-inside c =
     sound-inside _ _ _ (λ i. (c.type_inv.segment i).fits) (λ i. (c.type_inv.blocks i).fits)
-          (λ i. (c.type_inv.buffers i).fits)
-          (sym c.sound.ensures ∙ c.if-not-sound.false) _ c.find.ensures
+    (λ i. (c.type_inv.buffers i).fits)
+    (sym c.sound.ensures ∙ c.if-not-sound.false) _ c.find.ensures
 
 pub returns-clause-tells : goal.returns-clause-tells
 unfolding Bytes
 returns-clause-tells c =
     sound-shows _ _ _ (λ i. (c.type_inv.segment i).fits) (λ i. (c.type_inv.blocks i).fits)
-          (λ i. (c.type_inv.buffers i).fits)
-          (sym c.sound.ensures ∙ c.if-not-sound.false) _ c.find.ensures
+    (λ i. (c.type_inv.buffers i).fits)
+    (sym c.sound.ensures ∙ c.if-not-sound.false) _ c.find.ensures

@@ -1,5 +1,4 @@
 use Rattle.looking.specs.Shown.{status_shown}
-use borrow.Author.Rules.{rules}
 use Rattle.looking.proofs.status.Goals as goal
 
 pub returns-in-Refused : goal.returns-in-Refused

@@ -1,6 +1,5 @@
 use Rattle.segment.specs.Fields.{file_words}
 use Rattle.midst.specs.File.{file_row_words}
-use borrow.Author.Rules.{rules}
 use Rattle.midst.proofs.put_file.Goals as goal
 
 pub returns : goal.returns

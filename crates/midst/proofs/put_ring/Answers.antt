@@ -1,7 +1,6 @@
 use Rattle.words.specs.Word.{Bytes}
 use mathlib.Core.Path.{refl}
 use native.Mathlib.Omega.{arith}
-use borrow.Author.Rules.{rules}
 use Rattle.midst.proofs.Own.{ring-back}
 use Rattle.midst.proofs.put_ring.Goals as goal
 

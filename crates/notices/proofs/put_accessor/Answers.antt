@@ -1,6 +1,5 @@
 use Rattle.texts.proofs.Runs.{◌then◌}
 use Rattle.notices.specs.Lines.{accessor_line, row_line}
-use borrow.Author.Rules.{rules}
 use Rattle.notices.proofs.put_accessor.Goals as goal
 
 pub returns : goal.returns

@@ -1,7 +1,6 @@
 use Rattle.texts.proofs.Runs.{◌then◌}
 use Rattle.texts.specs.Spell.{spell}
 use Rattle.notices.specs.Lines.{lf, blocks_text}
-use borrow.Author.Rules.{rules}
 use Rattle.notices.proofs.put_blocks.Goals as goal
 
 pub returns : goal.returns

@@ -1,7 +1,6 @@
 use native.Mathlib.Omega.{arith}
 use Rattle.texts.proofs.Runs.{◌then◌, put-within}
 use Rattle.notices.specs.Lines.{geometry_line}
-use borrow.Author.Rules.{rules}
 use Rattle.notices.proofs.put_geometry.Goals as goal
 
 pub returns : goal.returns

@@ -2,7 +2,6 @@ use Rattle.notices.specs.Lines.{left_text}
 use Rattle.texts.specs.Spell.{spell}
 use Rattle.texts.proofs.Runs.{◌then◌, put-within}
 use native.Mathlib.Omega.{arith}
-use borrow.Author.Rules.{rules}
 use Rattle.notices.proofs.put_left.Goals as goal
 
 pub returns-in-Untimed : goal.returns-in-Untimed

@@ -2,7 +2,6 @@ use Rattle.notices.specs.Lines.{lf, request_line}
 use Rattle.texts.specs.Spell.{spell}
 use Rattle.texts.proofs.Runs.{◌then◌, put-none, put-within}
 use native.Mathlib.Omega.{arith}
-use borrow.Author.Rules.{rules}
 use Rattle.notices.proofs.put_request.Goals as goal
 
 pub returns-in-Idle : goal.returns-in-Idle

@@ -3,7 +3,6 @@ use Rattle.texts.specs.Spell.{spell}
 use Rattle.texts.proofs.Runs.{◌then◌, put-within}
 use borrow.Author.Tests.{eq-eqb, ne_eqb}
 use native.Mathlib.Omega.{arith}
-use borrow.Author.Rules.{rules}
 use Rattle.notices.proofs.put_side.Goals as goal
 
 pub returns-then-row-eq-WRITER : goal.returns-then-row-eq-WRITER

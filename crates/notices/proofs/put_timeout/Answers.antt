@@ -2,7 +2,6 @@ use Rattle.notices.specs.Lines.{timeout_text}
 use Rattle.texts.specs.Spell.{spell}
 use Rattle.texts.proofs.Runs.{◌then◌, put-none}
 use borrow.Author.Tests.{eq-eqb, ne_eqb}
-use borrow.Author.Rules.{rules}
 use Rattle.notices.proofs.put_timeout.Goals as goal
 
 pub returns-then-seconds-eq0 : goal.returns-then-seconds-eq0

@@ -1,7 +1,6 @@
 use Rattle.words.specs.Word.{Bytes}
 use native.Mathlib.Omega.{arith}
 use Rattle.opening.proofs.Builds.{build-file, build-numbers, build-room, build-sizes, build-done}
-use borrow.Author.Rules.{rules}
 use Rattle.opening.proofs.build.Goals as goal
 
 pub data_blocks-count-requires-clause-le_records : goal.data_blocks-count-requires-clause-le_records

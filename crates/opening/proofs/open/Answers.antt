@@ -1,5 +1,4 @@
 use Rattle.opening.proofs.Judged.{asks-reader, each-writer, reader-brings, writer-brings}
-use borrow.Author.Rules.{rules}
 use Rattle.opening.proofs.open.Goals as goal
 
 pub open_reader-requires : goal.open_reader-requires

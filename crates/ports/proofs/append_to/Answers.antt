@@ -1,4 +1,3 @@
-use borrow.Author.Rules.{rules}
 use Rattle.ports.specs.Slots.{append}
 use Rattle.ports.proofs.append_to.Goals as goal
 

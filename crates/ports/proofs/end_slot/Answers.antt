@@ -1,9 +1,6 @@
-use Prim.Native.Nat.{◌<◌}
-use mathlib.Core.Path.{◌≡◌, refl, ◌∙◌, sym}
+use mathlib.Core.Path.{◌≡◌, ◌∙◌, sym}
 use native.Mathlib.Omega.{arith}
 use borrow.Author.Rules.{rules}
-use Rattle.rules.specs.Limits.{entries}
-use Rattle.segment.specs.Layout.{file_rows}
 use Rattle.ports.specs.Slots.{end_slot}
 use Rattle.ports.proofs.Steps.{end-stop, end_step}
 use Rattle.ports.proofs.end_slot.Goals as goal
@@ -12,14 +9,13 @@ pub returns-then-e-ge-ENTRIES : goal.returns-then-e-ge-ENTRIES
 returns-then-e-ge-ENTRIES c = (sym (c.loop-n.invariant.1 ∙ end-stop _ _ _ c.get-e.ensures _ c.if-e-ge-ENTRIES.true), search rules)
 
 pub loop-n-preserved : goal.loop-n-preserved
-loop-n-preserved c =
-    (
-      search rules,
-      rw c.link_at-p.ensures.0
-          (c.loop-n.invariant.1
-          ∙ end_step _ _ _ c.get-e.ensures _ c.loop-n-test.true
-          c.if-e-ge-ENTRIES.false),
-    )
+loop-n-preserved c = (
+  search rules,
+  rw c.link_at-p.ensures.0
+      (c.loop-n.invariant.1
+      ∙ end_step _ _ _ c.get-e.ensures _ c.loop-n-test.true
+      c.if-e-ge-ENTRIES.false),
+)
 
 pub returns : goal.returns
 unfolding end_slot

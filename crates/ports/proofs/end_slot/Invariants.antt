@@ -1,11 +1,8 @@
 use Prim.Native.Nat.{◌<◌}
-use mathlib.Core.Path.{◌≡◌, refl, ◌∙◌, sym}
-use native.Mathlib.Omega.{arith}
-use borrow.Author.Rules.{rules}
+use mathlib.Core.Path.{◌≡◌}
 use Rattle.rules.specs.Limits.{entries}
 use Rattle.segment.specs.Layout.{file_rows}
 use Rattle.ports.specs.Slots.{end_slot}
-use Rattle.ports.proofs.Steps.{end-stop, end_step}
 use Rattle.ports.proofs.end_slot.Given as goal
 
 abbrev pub invariant-loop-n : goal.invariant-loop-n

@@ -1,4 +1,3 @@
-use borrow.Author.Rules.{rules}
 use Rattle.ports.specs.Slots.{insert}
 use Rattle.ports.proofs.insert_at.Goals as goal
 

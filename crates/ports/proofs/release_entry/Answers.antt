@@ -1,4 +1,3 @@
-use borrow.Author.Rules.{rules}
 use Rattle.segment.specs.Fields.{entry_words}
 use Rattle.ports.specs.Slots.{released}
 use Rattle.ports.proofs.release_entry.Goals as goal

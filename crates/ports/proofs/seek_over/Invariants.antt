@@ -1,13 +1,8 @@
 use Prim.Native.Nat.{◌<◌}
-use mathlib.Core.Path.{◌≡◌, refl, ◌∙◌, sym}
-use native.Mathlib.Omega.{arith}
-use borrow.Author.Rules.{rules}
-use borrow.Author.Tests.{lt-ltb, le-ltb}
+use mathlib.Core.Path.{◌≡◌}
 use Rattle.rules.specs.Limits.{entries}
 use Rattle.segment.specs.Layout.{file_rows}
-use Rattle.segment.specs.Fields.{entry_at, entry_of}
 use Rattle.ports.specs.Slots.{seek, over}
-use Rattle.ports.proofs.Steps.{seek_stop, seek-here, seek-step}
 use Rattle.ports.proofs.seek_over.Given as goal
 
 abbrev pub invariant-loop-n : goal.invariant-loop-n

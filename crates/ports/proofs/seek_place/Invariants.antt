@@ -1,13 +1,8 @@
 use Prim.Native.Nat.{◌<◌}
-use mathlib.Core.Path.{◌≡◌, refl, ◌∙◌, sym}
-use native.Mathlib.Omega.{arith}
-use borrow.Author.Rules.{rules}
-use borrow.Author.Tests.{eq-eqb, ne_eqb}
+use mathlib.Core.Path.{◌≡◌}
 use Rattle.rules.specs.Limits.{entries}
 use Rattle.segment.specs.Layout.{file_rows}
-use Rattle.segment.specs.Fields.{entry_at, entry_of}
 use Rattle.ports.specs.Slots.{seek, has}
-use Rattle.ports.proofs.Steps.{seek_stop, seek-here, seek-step}
 use Rattle.ports.proofs.seek_place.Given as goal
 
 abbrev pub invariant-loop-n : goal.invariant-loop-n

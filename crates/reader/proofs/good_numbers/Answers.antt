@@ -1,8 +1,6 @@
 use mathlib.Core.Path.{sym, ◌∙◌}
-use borrow.Author.Tests.{not-true, not-false}
 use Rattle.geometry.proofs.Sizes.{in-range-fits}
 use Rattle.reader.proofs.Heads.{numbers-range, numbers-share, numbers-held, numbers-room}
-use borrow.Author.Rules.{rules}
 use Rattle.reader.proofs.good_numbers.Goals as goal
 
 pub returns-then-not-in_range : goal.returns-then-not-in_range

@@ -1,6 +1,5 @@
 use mathlib.Core.Path.{sym}
 use Rattle.reader.proofs.Records.{rec-short, rec-type, rec-id, rec-size}
-use borrow.Author.Rules.{rules}
 use Rattle.reader.proofs.good_record.Goals as goal
 
 pub returns-then-frame-lt-RECORD_HEAD : goal.returns-then-frame-lt-RECORD_HEAD

@@ -1,12 +1,7 @@
 use Prim.Native.Nat.{◌≤◌}
-use mathlib.Core.Path.{◌≡◌, refl, sym, ◌∙◌}
-use native.Mathlib.Omega.{arith}
+use mathlib.Core.Path.{◌≡◌}
 use lib.ListN.{length}
-use borrow.Author.Tests.{not-true, not-false}
-use borrow.Author.Rules.{rules}
 use Rattle.reader.specs.Sheets.{good_from}
-use Rattle.reader.proofs.Records.{from_end}
-use Rattle.reader.proofs.Rounds.{round-on, round-bad}
 use Rattle.reader.proofs.good_records.Given as goal
 
 abbrev pub invariant-loop-left : goal.invariant-loop-left

@@ -1,7 +1,5 @@
 use mathlib.Core.Path.{sym, ◌∙◌}
-use borrow.Author.Tests.{not-true, not-false}
 use Rattle.reader.proofs.Heads.{says-short, says_other, says-bad, says-good}
-use borrow.Author.Rules.{rules}
 use Rattle.reader.proofs.head_of.Goals as goal
 
 pub returns-then-frame-ne-HEAD_BYTES : goal.returns-then-frame-ne-HEAD_BYTES

@@ -1,6 +1,5 @@
 use mathlib.Core.Path.{sym, ◌∙◌}
 use Rattle.reader.proofs.Sheets.{sheet-none, sheet-some}
-use borrow.Author.Rules.{rules}
 use Rattle.reader.proofs.is_sheet.Goals as goal
 
 pub returns-then-head-eq0 : goal.returns-then-head-eq0

@@ -1,6 +1,5 @@
 use borrow.Author.Tests.{eq-eqb, ne_eqb}
 use Rattle.reader.specs.Sheets.{most_size}
-use borrow.Author.Rules.{rules}
 use Rattle.reader.proofs.most_size.Goals as goal
 
 pub returns-then-typ-eq-DATA : goal.returns-then-typ-eq-DATA

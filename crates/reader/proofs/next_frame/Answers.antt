@@ -2,7 +2,6 @@ use lib.ListN.{length}
 use native.Mathlib.Omega.{arith}
 use mathlib.Core.Path.{sym, ap}
 use Rattle.reader.proofs.Frames.{next-line, next-none, next-is}
-use borrow.Author.Rules.{rules}
 use Rattle.reader.proofs.next_frame.Goals as goal
 
 pub returns-then-end-text-clause-next : goal.returns-then-end-text-clause-next

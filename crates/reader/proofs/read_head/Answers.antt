@@ -1,6 +1,5 @@
 use native.Mathlib.Omega.{arith}
 use Rattle.reader.proofs.Heads.{head_read, head-within}
-use borrow.Author.Rules.{rules}
 use Rattle.reader.proofs.read_head.Goals as goal
 
 pub returns-clause-value : goal.returns-clause-value

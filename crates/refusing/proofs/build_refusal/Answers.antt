@@ -1,7 +1,6 @@
 use Rattle.geometry.proofs.Sizes.{in-range-is, in-range-fits}
 use Rattle.refusing.proofs.Tests.{held, failed}
 use Rattle.refusing.specs.Verdicts.{build_refusal}
-use borrow.Author.Rules.{rules}
 use Rattle.refusing.proofs.build_refusal.Goals as goal
 
 pub returns-then-not-in_range : goal.returns-then-not-in_range

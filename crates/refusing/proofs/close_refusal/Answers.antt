@@ -1,5 +1,4 @@
 use Rattle.refusing.specs.Verdicts.{close_refusal}
-use borrow.Author.Rules.{rules}
 use Rattle.refusing.proofs.close_refusal.Goals as goal
 
 pub returns-in-Nothing : goal.returns-in-Nothing

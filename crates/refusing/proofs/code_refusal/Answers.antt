@@ -1,5 +1,4 @@
 use Rattle.refusing.specs.Verdicts.{code_refusal}
-use borrow.Author.Rules.{rules}
 use Rattle.refusing.proofs.code_refusal.Goals as goal
 
 pub returns : goal.returns

@@ -1,6 +1,5 @@
 use mathlib.Core.Path.{ap, ◌∙◌}
 use Rattle.refusing.specs.Verdicts.{control_refusal, while_free}
-use borrow.Author.Rules.{rules}
 use Rattle.refusing.proofs.control_refusal.Goals as goal
 
 pub returns-in-Timeout : goal.returns-in-Timeout

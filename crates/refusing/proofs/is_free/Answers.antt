@@ -1,5 +1,4 @@
 use Rattle.refusing.specs.Verdicts.{free}
-use borrow.Author.Rules.{rules}
 use Rattle.refusing.proofs.is_free.Goals as goal
 
 pub returns-in-Nothing : goal.returns-in-Nothing

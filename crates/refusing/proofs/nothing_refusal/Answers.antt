@@ -1,5 +1,4 @@
 use Rattle.refusing.specs.Verdicts.{nothing_refusal}
-use borrow.Author.Rules.{rules}
 use Rattle.refusing.proofs.nothing_refusal.Goals as goal
 
 pub returns-then-is_free : goal.returns-then-is_free

@@ -1,7 +1,6 @@
 use Rattle.refusing.proofs.Tests.{held, failed}
 use borrow.Author.Tests.{eq-eqb, ne_eqb}
 use Rattle.refusing.specs.Verdicts.{read_refusal, while_free}
-use borrow.Author.Rules.{rules}
 use Rattle.refusing.proofs.read_refusal.Goals as goal
 
 pub returns-then-not-is_free : goal.returns-then-not-is_free

@@ -1,6 +1,5 @@
 use borrow.Author.Tests.{eq-eqb, ne_eqb}
 use Rattle.refusing.specs.Verdicts.{reader_refusal}
-use borrow.Author.Rules.{rules}
 use Rattle.refusing.proofs.reader_refusal.Goals as goal
 
 pub returns-then-side-eq-WRITER : goal.returns-then-side-eq-WRITER

@@ -1,5 +1,4 @@
 use Rattle.refusing.specs.Verdicts.{while_free}
-use borrow.Author.Rules.{rules}
 use Rattle.refusing.proofs.while_free.Goals as goal
 
 pub returns-then-is_free : goal.returns-then-is_free

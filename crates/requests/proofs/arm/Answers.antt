@@ -1,6 +1,5 @@
 use Rattle.segment.specs.Fields.{entry_words}
 use Rattle.requests.specs.Moves.{armed}
-use borrow.Author.Rules.{rules}
 use Rattle.requests.proofs.arm.Goals as goal
 
 pub returns : goal.returns

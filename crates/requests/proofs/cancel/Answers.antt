@@ -1,5 +1,4 @@
 use Rattle.requests.specs.Moves.{cancelled}
-use borrow.Author.Rules.{rules}
 use Rattle.requests.proofs.cancel.Goals as goal
 
 pub returns : goal.returns

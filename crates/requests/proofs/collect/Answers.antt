@@ -1,5 +1,4 @@
 use Rattle.requests.specs.Moves.{collected}
-use borrow.Author.Rules.{rules}
 use Rattle.requests.proofs.collect.Goals as goal
 
 pub returns : goal.returns

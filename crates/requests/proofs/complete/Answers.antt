@@ -1,5 +1,4 @@
 use Rattle.requests.specs.Moves.{completed}
-use borrow.Author.Rules.{rules}
 use Rattle.requests.proofs.complete.Goals as goal
 
 pub returns : goal.returns

@@ -1,6 +1,5 @@
 use borrow.Author.Tests.{lt-ltb, le-ltb}
 use Rattle.requests.specs.Moves.{disarmed}
-use borrow.Author.Rules.{rules}
 use Rattle.requests.proofs.disarm.Goals as goal
 
 pub returns-then-e-lt-ENTRIES : goal.returns-then-e-lt-ENTRIES

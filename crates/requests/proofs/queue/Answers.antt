@@ -1,5 +1,4 @@
 use Rattle.requests.specs.Moves.{queued}
-use borrow.Author.Rules.{rules}
 use Rattle.requests.proofs.queue.Goals as goal
 
 pub returns : goal.returns

@@ -1,6 +1,5 @@
 use mathlib.Core.Path.{refl}
 use Rattle.requests.specs.Moves.{slot_of, entry_of, out}
-use borrow.Author.Rules.{rules}
 use Rattle.requests.proofs.take_out.Goals as goal
 
 pub returns : goal.returns

@@ -1,6 +1,5 @@
 use borrow.Author.Tests.{eq-eqb, ne_eqb}
 use Rattle.requests.specs.Moves.{waiting}
-use borrow.Author.Rules.{rules}
 use Rattle.requests.proofs.wait.Goals as goal
 
 pub returns-then-seconds-ne0 : goal.returns-then-seconds-ne0

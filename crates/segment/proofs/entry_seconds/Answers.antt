@@ -1,6 +1,5 @@
 use mathlib.Core.Path.{sym, ◌∙◌}
 use native.Mathlib.Omega.{arith}
-use borrow.Author.Rules.{rules}
 use Rattle.segment.specs.Layout.{data_words}
 use Rattle.segment.specs.Table.{data_of}
 use Rattle.segment.specs.Fields.{entry_at, entry_of}

@@ -1,4 +1,3 @@
-use borrow.Author.Rules.{rules}
 use Rattle.segment.specs.Table.{nth}
 use Rattle.segment.proofs.get.Goals as goal
 

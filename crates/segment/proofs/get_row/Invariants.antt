@@ -1,12 +1,8 @@
 use Prim.Native.Nat.{◌-◌, ◌≤◌}
-use mathlib.Core.Path.{◌≡◌, refl, ◌∙◌}
-use native.Mathlib.Omega.{arith}
+use mathlib.Core.Path.{◌≡◌}
 use lib.ListN.{length}
 use lib.Seq.{sets}
-use borrow.Author.Rules.{rules}
-use Rattle.words.proofs.Parts.{sets-whole}
 use Rattle.segment.specs.Table.{row}
-use Rattle.segment.proofs.Rows.{length-row, row-turn}
 use Rattle.segment.proofs.get_row.Given as goal
 
 abbrev pub invariant-loop-i : goal.invariant-loop-i

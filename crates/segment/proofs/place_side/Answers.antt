@@ -1,6 +1,5 @@
 use mathlib.Core.Path.{sym, ◌∙◌}
 use native.Mathlib.Omega.{arith}
-use borrow.Author.Rules.{rules}
 use Rattle.segment.specs.Layout.{place_width}
 use Rattle.segment.specs.Fields.{place_at, place_row_of}
 use Rattle.segment.proofs.Rows.{row_at}

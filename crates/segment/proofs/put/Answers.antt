@@ -1,4 +1,3 @@
-use borrow.Author.Rules.{rules}
 use Rattle.segment.specs.Table.{put_nth}
 use Rattle.segment.proofs.put.Goals as goal
 

@@ -1,7 +1,6 @@
-use Prim.Native.Nat.{◌+◌, ◌-◌, ◌≤◌}
-use mathlib.Core.Path.{◌≡◌, refl, ◌∙◌}
-use native.Mathlib.Omega.{arith}
-use lib.ListN.{length, drop, drop_of_length-le}
+use Prim.Native.Nat.{◌-◌}
+use mathlib.Core.Path.{◌∙◌}
+use lib.ListN.{drop_of_length-le}
 use borrow.Author.Rules.{rules}
 use Rattle.segment.specs.Table.{fill}
 use Rattle.segment.proofs.Rows.{fill-turn}

@@ -1,6 +1,5 @@
 use Prim.Native.Nat.{ℕ}
 use mathlib.Core.Path.{ap, ◌∙◌}
-use borrow.Author.Rules.{rules}
 use Rattle.segment.specs.Layout.{data_words}
 use Rattle.segment.specs.Table.{row, data_of}
 use Rattle.segment.specs.Fields.{entry_at, entry_of}

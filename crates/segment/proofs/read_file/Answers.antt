@@ -1,6 +1,5 @@
 use Prim.Native.Nat.{ℕ}
 use mathlib.Core.Path.{ap, ◌∙◌}
-use borrow.Author.Rules.{rules}
 use Rattle.segment.specs.Layout.{file_width}
 use Rattle.segment.specs.Table.{row}
 use Rattle.segment.specs.Fields.{file_at, file_row_of}

@@ -1,6 +1,5 @@
 use Prim.Native.Nat.{ℕ}
 use mathlib.Core.Path.{ap, ◌∙◌}
-use borrow.Author.Rules.{rules}
 use Rattle.segment.specs.Layout.{place_width}
 use Rattle.segment.specs.Table.{row}
 use Rattle.segment.specs.Fields.{place_at, place_row_of}

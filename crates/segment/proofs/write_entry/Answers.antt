@@ -1,4 +1,3 @@
-use borrow.Author.Rules.{rules}
 use Rattle.segment.specs.Table.{put_data}
 use Rattle.segment.specs.Fields.{entry_words}
 use Rattle.segment.proofs.write_entry.Goals as goal

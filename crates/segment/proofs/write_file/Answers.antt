@@ -1,4 +1,3 @@
-use borrow.Author.Rules.{rules}
 use Rattle.segment.specs.Fields.{file_words}
 use Rattle.segment.proofs.write_file.Goals as goal
 

@@ -1,4 +1,3 @@
-use borrow.Author.Rules.{rules}
 use Rattle.segment.specs.Fields.{place_words}
 use Rattle.segment.proofs.write_place.Goals as goal
 

@@ -2,12 +2,10 @@ use Rattle.words.specs.Word.{Bytes}
 use native.Mathlib.Omega.{arith}
 use Rattle.settling.proofs.Loops.{nobody-settles}
 use Rattle.settling.proofs.Outs.{mid-out}
-use borrow.Author.Rules.{rules}
 use Rattle.settling.proofs.conclude.Goals as goal
 
 pub returns : goal.returns
 returns c = λ o b M B r.
-    
     mid-out (nobody-settles (omega (arith, c.get-2.ensures, c.if-get-lt-ENTRIES-2.false)) (omega (arith, c.get.ensures, c.if-get-lt-ENTRIES.false)) M) B _
     c.put_file.ensures (unfold Bytes in λ i. (c.type_inv.segment i).fits)
     (unfold Bytes in λ i. (c.type_inv.blocks i).fits)

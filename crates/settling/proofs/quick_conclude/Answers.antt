@@ -2,7 +2,6 @@ use Rattle.words.specs.Word.{Bytes}
 use native.Mathlib.Omega.{arith}
 use Rattle.settling.proofs.Loops.{nobody-settles}
 use Rattle.settling.proofs.Outs.{mid-out}
-use borrow.Author.Rules.{rules}
 use Rattle.settling.proofs.quick_conclude.Goals as goal
 
 pub returns-then-get-ge-ENTRIES-2 : goal.returns-then-get-ge-ENTRIES-2

@@ -1,7 +1,6 @@
-use mathlib.Core.Path.{◌≡◌, refl, ◌∙◌}
+use mathlib.Core.Path.{◌≡◌}
 use lib.ListN.{length}
 use Rattle.settling.specs.Turns.{Beside, Comes, waiting}
-use Rattle.settling.proofs.Loops.{comes-here, comes-amid, read_again, read-less, after-amid, after-beside, write_again, write-less, beside-again, at_rest}
 use Rattle.memory.specs.Memories.{memories}
 use Rattle.settling.proofs.settle.Given as goal
 

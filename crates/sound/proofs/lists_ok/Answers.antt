@@ -1,7 +1,6 @@
 use mathlib.Core.Path.{sym, ◌∙◌}
 use Rattle.sound.proofs.Steps.{well, ill}
 use Rattle.sound.proofs.Whole.{lists-off, lists-on}
-use borrow.Author.Rules.{rules}
 use Rattle.sound.proofs.lists_ok.Goals as goal
 use mathlib.Core.Path.{ap}
 use mathlib.Core.Bool.{not}

@@ -1,7 +1,6 @@
 use borrow.Author.Tests.{eq-eqb, ne_eqb}
 use Rattle.sound.specs.Sound.{soundly}
 use Rattle.sound.proofs.Steps.{held, failed}
-use borrow.Author.Rules.{rules}
 use Rattle.sound.proofs.sound.Goals as goal
 use mathlib.Core.Path.{ap}
 use mathlib.Core.Bool.{not}

@@ -1,6 +1,5 @@
 use Rattle.store.proofs.Fetches.{says_none, says_some}
 use Rattle.records.proofs.cursor.Laws.{stands-ranged}
-use borrow.Author.Rules.{rules}
 use Rattle.store.proofs.fetch.Goals as goal
 
 pub returns-then-ring-eq0-clause-is : goal.returns-then-ring-eq0-clause-is

@@ -1,6 +1,5 @@
 use Rattle.rules.specs.Geometry.{capacity}
 use Rattle.store.specs.Door.{fits_ring}
-use borrow.Author.Rules.{rules}
 use Rattle.store.proofs.fits.Goals as goal
 
 pub returns : goal.returns

@@ -1,6 +1,5 @@
 use Rattle.store.proofs.Purges.{purge-keeps}
 use Rattle.store.proofs.Puts.{in-hand}
-use borrow.Author.Rules.{rules}
 use Rattle.store.proofs.purge.Goals as goal
 
 pub returns-clause-keeps : goal.returns-clause-keeps

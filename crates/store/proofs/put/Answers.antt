@@ -1,5 +1,4 @@
 use Rattle.store.proofs.Puts.{in-hand, put_keeps}
-use borrow.Author.Rules.{rules}
 use Rattle.store.proofs.put.Goals as goal
 
 pub returns-clause-keeps : goal.returns-clause-keeps

@@ -1,5 +1,4 @@
 use Rattle.store.specs.Door.{taken_ring}
-use borrow.Author.Rules.{rules}
 use Rattle.store.proofs.taken.Goals as goal
 
 pub returns-then-keep : goal.returns-then-keep

@@ -1,6 +1,5 @@
 use Rattle.texts.specs.Numbers.{counted}
 use Rattle.texts.proofs.Runs.{◌then◌}
-use borrow.Author.Rules.{rules}
 use Rattle.texts.proofs.put_counted.Goals as goal
 
 pub returns : goal.returns

@@ -1,5 +1,4 @@
 use Rattle.texts.specs.Numbers.{one_digit}
-use borrow.Author.Rules.{rules}
 use Rattle.texts.proofs.Runs.{put_as}
 use mathlib.Core.Path.{ap}
 use mathlib.Core.List.{[], ◌∷◌}

@@ -1,7 +1,6 @@
 use borrow.Author.Tests.{eq-eqb, ne_eqb}
 use Rattle.texts.specs.Numbers.{ending}
 use Rattle.texts.proofs.Runs.{put-none}
-use borrow.Author.Rules.{rules}
 use Rattle.texts.proofs.put_ending.Goals as goal
 
 pub returns-then-n-eq1 : goal.returns-then-n-eq1

@@ -1,5 +1,4 @@
 use Rattle.texts.proofs.Numbers.{number_put}
-use borrow.Author.Rules.{rules}
 use Rattle.texts.proofs.put_number.Goals as goal
 
 pub returns : goal.returns

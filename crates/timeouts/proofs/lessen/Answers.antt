@@ -1,10 +1,6 @@
-use Prim.Native.Nat.{◌<◌}
-use mathlib.Core.Path.{◌≡◌, refl, sym, ◌∙◌}
+use mathlib.Core.Path.{◌≡◌, sym, ◌∙◌}
 use native.Mathlib.Omega.{arith}
-use lib.ListN.{length}
 use borrow.Author.Rules.{rules}
-use Rattle.rules.specs.Limits.{entries}
-use Rattle.segment.specs.Layout.{timer_list, segment_bytes, file_rows}
 use Rattle.timeouts.specs.Late.{less_all}
 use Rattle.timeouts.proofs.Steps.{less-stop, less-step}
 use Rattle.timeouts.proofs.lessen.Goals as goal
@@ -14,13 +10,12 @@ returns-then-e-ge-ENTRIES c =
     sym (c.loop-n.invariant.2 ∙ less-stop _ _ _ c.get-e.ensures _ _ c.if-e-ge-ENTRIES.true)
 
 pub loop-n-preserved : goal.loop-n-preserved
-loop-n-preserved c =
-    (
-      search rules,
-      search rules,
-      rw (c.link_at-p.ensures.0, c.lose.ensures)
-          (c.loop-n.invariant.2 ∙ less-step _ _ _ c.get-e.ensures _ _ c.loop-n-test.true c.if-e-ge-ENTRIES.false),
-    )
+loop-n-preserved c = (
+  search rules,
+  search rules,
+  rw (c.link_at-p.ensures.0, c.lose.ensures)
+      (c.loop-n.invariant.2 ∙ less-step _ _ _ c.get-e.ensures _ _ c.loop-n-test.true c.if-e-ge-ENTRIES.false),
+)
 
 pub returns : goal.returns
 unfolding less_all

@@ -1,12 +1,9 @@
 use Prim.Native.Nat.{◌<◌}
-use mathlib.Core.Path.{◌≡◌, refl, sym, ◌∙◌}
-use native.Mathlib.Omega.{arith}
+use mathlib.Core.Path.{◌≡◌}
 use lib.ListN.{length}
-use borrow.Author.Rules.{rules}
 use Rattle.rules.specs.Limits.{entries}
 use Rattle.segment.specs.Layout.{timer_list, segment_bytes, file_rows}
 use Rattle.timeouts.specs.Late.{less_all}
-use Rattle.timeouts.proofs.Steps.{less-stop, less-step}
 use Rattle.timeouts.proofs.lessen.Given as goal
 
 abbrev pub invariant-loop-n : goal.invariant-loop-n

@@ -1,6 +1,5 @@
 use Rattle.segment.specs.Fields.{entry_words}
 use Rattle.timeouts.specs.Late.{less}
-use borrow.Author.Rules.{rules}
 use Rattle.timeouts.proofs.lose.Goals as goal
 
 pub returns : goal.returns

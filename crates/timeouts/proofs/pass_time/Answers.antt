@@ -2,7 +2,6 @@ use native.Mathlib.Omega.{arith}
 use Rattle.words.specs.Word.{Bytes}
 use Rattle.timeouts.proofs.Begins.{stage-begin}
 use Rattle.timeouts.proofs.Ends.{time-stands}
-use borrow.Author.Rules.{rules}
 use Rattle.timeouts.proofs.pass_time.Goals as goal
 
 pub run_due-requires-clause-stage : goal.run_due-requires-clause-stage
@@ -13,8 +12,8 @@ pub returns-clause-stands : goal.returns-clause-stands
 unfolding Bytes
 returns-clause-stands c =
     λ d s blocks S.
-          time-stands S (c.run_due.ensures d s (stage-begin S)) _ c.lessen.ensures
-          (λ i. omega (arith, c.type_inv.segment i)) (λ i. omega (arith, c.type_inv.buffers i))
+    time-stands S (c.run_due.ensures d s (stage-begin S)) _ c.lessen.ensures
+    (λ i. omega (arith, c.type_inv.segment i)) (λ i. omega (arith, c.type_inv.buffers i))
 
 pub returns-clause-others : goal.returns-clause-others
 unfolding Bytes

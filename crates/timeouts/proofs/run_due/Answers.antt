@@ -1,12 +1,5 @@
-use mathlib.Core.Path.{◌≡◌}
 use native.Mathlib.Omega.{arith}
-use lib.ListN.{length}
 use borrow.Author.Rules.{rules}
-use Rattle.rules.specs.Desk.{Desk}
-use Rattle.rules.specs.Allocation.{Alloc}
-use Rattle.segment.specs.Layout.{segment_bytes}
-use Rattle.buffers.specs.Buffer.{buffers_bytes}
-use Rattle.timeouts.specs.Stage.{Stage, Reached}
 use Rattle.timeouts.proofs.Reaches.{reached-start, stop-spent, stop-none, stop-late, goes_on}
 use Rattle.timeouts.proofs.run_due.Goals as goal
 
@@ -32,15 +25,14 @@ time_out-requires-clause-place_lt_desk_places c =
     (g.0, g.1)
 
 pub loop-n-preserved : goal.loop-n-preserved
-loop-n-preserved c =
-    (
-      search rules,
-      search rules,
-      rw (c.time_out.ensures.0, c.time_out.ensures.1)
-          (λ d s S.
-          (goes_on (c.loop-n.invariant.2 d s S) _ c.get-e.ensures c.if-e-ge-ENTRIES.false _ c.entry_seconds.ensures c.if-seconds-entry_seconds.false _
-          c.entry_place-place.ensures).2),
-    )
+loop-n-preserved c = (
+  search rules,
+  search rules,
+  rw (c.time_out.ensures.0, c.time_out.ensures.1)
+      (λ d s S.
+      (goes_on (c.loop-n.invariant.2 d s S) _ c.get-e.ensures c.if-e-ge-ENTRIES.false _ c.entry_seconds.ensures c.if-seconds-entry_seconds.false _
+      c.entry_place-place.ensures).2),
+)
 
 pub returns : goal.returns
 returns c = λ d s S. stop-spent (c.loop-n.invariant.2 d s S) (omega arith)

@@ -1,13 +1,10 @@
 use mathlib.Core.Path.{◌≡◌}
-use native.Mathlib.Omega.{arith}
 use lib.ListN.{length}
-use borrow.Author.Rules.{rules}
 use Rattle.rules.specs.Desk.{Desk}
 use Rattle.rules.specs.Allocation.{Alloc}
 use Rattle.segment.specs.Layout.{segment_bytes}
 use Rattle.buffers.specs.Buffer.{buffers_bytes}
 use Rattle.timeouts.specs.Stage.{Stage, Reached}
-use Rattle.timeouts.proofs.Reaches.{reached-start, stop-spent, stop-none, stop-late, goes_on}
 use Rattle.timeouts.proofs.run_due.Given as goal
 
 abbrev pub invariant-loop-n : goal.invariant-loop-n

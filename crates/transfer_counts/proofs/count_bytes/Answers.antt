@@ -2,7 +2,6 @@ use mathlib.Core.Path.{sym, ◌∙◌}
 use native.Mathlib.Omega.{arith}
 use borrow.Author.Tests.{ltb-true, ltb-false}
 use Rattle.rules.specs.TransferCounts.{in_words, count_bytes}
-use borrow.Author.Rules.{rules}
 use Rattle.transfer_counts.proofs.count_bytes.Goals as goal
 
 pub returns-then-in_words-clause-value : goal.returns-then-in_words-clause-value

@@ -1,6 +1,5 @@
 use native.Mathlib.Omega.{arith}
 use Rattle.rules.specs.TransferCounts.{log_of}
-use borrow.Author.Rules.{rules}
 use Rattle.transfer_counts.proofs.log_of.Goals as goal
 
 pub returns-then-by_words : goal.returns-then-by_words

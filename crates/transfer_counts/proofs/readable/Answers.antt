@@ -1,6 +1,5 @@
 use mathlib.Core.Path.{sym, ◌∙◌}
 use Rattle.rules.specs.TransferCounts.{readable}
-use borrow.Author.Rules.{rules}
 use Rattle.transfer_counts.proofs.readable.Goals as goal
 
 pub returns-then-in_words : goal.returns-then-in_words

@@ -1,20 +1,19 @@
-use Prim.Native.Nat.{◌+◌, ◌-◌, ◌≤◌}
-use mathlib.Core.Path.{◌≡◌, refl, ◌∙◌}
+use Prim.Native.Nat.{◌+◌, ◌-◌}
+use mathlib.Core.Path.{◌∙◌}
 use native.Mathlib.Omega.{arith}
-use lib.ListN.{length, take, drop, length-drop}
-use lib.Seq.{sets, take_all}
+use lib.ListN.{length, drop, length-drop}
+use lib.Seq.{take_all}
 use borrow.Author.Rules.{rules}
 use Rattle.words.proofs.Parts.{sets_over}
 use Rattle.words.proofs.Runs.{sets-run}
 use Rattle.words.proofs.copy.Goals as goal
 
 pub loop-i-preserved : goal.loop-i-preserved
-loop-i-preserved c =
-    (
-      search rules,
-      c.store_run.ensures ∙ rw c.loop-i.invariant.1 (sets-run c.args.s.now c.args.from.now c.args.at c.loop-i.i 16 (c.loop-i.i + 16 - c.loop-i.i) (omega arith) (omega arith)),
-      search rules,
-    )
+loop-i-preserved c = (
+  search rules,
+  c.store_run.ensures ∙ rw c.loop-i.invariant.1 (sets-run c.args.s.now c.args.from.now c.args.at c.loop-i.i 16 (c.loop-i.i + 16 - c.loop-i.i) (omega arith) (omega arith)),
+  search rules,
+)
 
 pub returns : goal.returns
 returns c =

@@ -1,10 +1,7 @@
-use Prim.Native.Nat.{◌+◌, ◌-◌, ◌≤◌}
-use mathlib.Core.Path.{◌≡◌}
+use Prim.Native.Nat.{◌-◌}
 use native.Mathlib.Omega.{arith}
-use Rattle.words.specs.Word.{quiet}
-use Rattle.words.proofs.Ors.{Sofar, or_left, sofar-one, sofar-on, sofar-over}
+use Rattle.words.proofs.Ors.{or_left, sofar-one, sofar-on, sofar-over}
 use Rattle.words.proofs.Joins.{eight-start, eight-step, part-bad, last-bad, last-holds}
-use borrow.Author.Rules.{rules}
 use Rattle.words.proofs.quiet.Goals as goal
 
 pub loop-i-init : goal.loop-i-init

@@ -1,10 +1,7 @@
 use Prim.Native.Nat.{◌+◌, ◌-◌, ◌≤◌}
 use mathlib.Core.Path.{◌≡◌}
-use native.Mathlib.Omega.{arith}
 use Rattle.words.specs.Word.{quiet}
-use Rattle.words.proofs.Ors.{Sofar, or_left, sofar-one, sofar-on, sofar-over}
-use Rattle.words.proofs.Joins.{eight-start, eight-step, part-bad, last-bad, last-holds}
-use borrow.Author.Rules.{rules}
+use Rattle.words.proofs.Ors.{Sofar}
 use Rattle.words.proofs.quiet.Given as goal
 
 abbrev pub invariant-loop-i : goal.invariant-loop-i

@@ -1,10 +1,7 @@
-use Prim.Native.Nat.{◌+◌}
-use mathlib.Core.Path.{◌≡◌, refl}
+use mathlib.Core.Path.{refl}
 use native.Mathlib.Omega.{arith}
-use Rattle.words.specs.Word.{quiet}
 use Rattle.words.proofs.Zeros.{quiet_step, quiet-bad, quiet-end}
-use Rattle.words.proofs.Ors.{Sofar, sofar-start, sofar-on, sofar-end}
-use borrow.Author.Rules.{rules}
+use Rattle.words.proofs.Ors.{sofar-start, sofar-on, sofar-end}
 use Rattle.words.proofs.quiet_bytes.Goals as goal
 
 pub loop-left-init : goal.loop-left-init

@@ -1,10 +1,7 @@
 use Prim.Native.Nat.{◌+◌}
-use mathlib.Core.Path.{◌≡◌, refl}
-use native.Mathlib.Omega.{arith}
+use mathlib.Core.Path.{◌≡◌}
 use Rattle.words.specs.Word.{quiet}
-use Rattle.words.proofs.Zeros.{quiet_step, quiet-bad, quiet-end}
-use Rattle.words.proofs.Ors.{Sofar, sofar-start, sofar-on, sofar-end}
-use borrow.Author.Rules.{rules}
+use Rattle.words.proofs.Ors.{Sofar}
 use Rattle.words.proofs.quiet_bytes.Given as goal
 
 abbrev pub invariant-loop-left : goal.invariant-loop-left

@@ -1,7 +1,6 @@
 use native.Mathlib.Omega.{arith}
 use Rattle.words.proofs.Ors.{or_right, sofar-one, sofar-also, sofar-over}
 use Rattle.words.proofs.Joins.{part_step, part-bad, last-bad, last-holds}
-use borrow.Author.Rules.{rules}
 use Rattle.words.proofs.quiet_few.Goals as goal
 
 pub returns : goal.returns

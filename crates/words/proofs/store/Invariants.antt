@@ -1,10 +1,7 @@
 use Prim.Native.Nat.{◌-◌, ◌≤◌}
-use mathlib.Core.Path.{◌≡◌, refl, ◌∙◌}
-use native.Mathlib.Omega.{arith}
+use mathlib.Core.Path.{◌≡◌}
 use lib.ListN.{length, take}
-use lib.Seq.{sets, take_all}
-use borrow.Author.Rules.{rules}
-use Rattle.words.proofs.Runs.{sets_more}
+use lib.Seq.{sets}
 use Rattle.words.proofs.store.Given as goal
 
 abbrev pub invariant-loop-i : goal.invariant-loop-i

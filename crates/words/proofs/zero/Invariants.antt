@@ -1,11 +1,8 @@
 use Prim.Native.Nat.{◌-◌, ◌≤◌}
-use mathlib.Core.Path.{◌≡◌, refl, ◌∙◌}
-use native.Mathlib.Omega.{arith}
+use mathlib.Core.Path.{◌≡◌}
 use lib.ListN.{length, take}
-use lib.Seq.{sets, take_all}
-use borrow.Author.Rules.{rules}
+use lib.Seq.{sets}
 use Rattle.words.specs.Word.{zeros}
-use Rattle.words.proofs.Runs.{length-zeros, zeros-more}
 use Rattle.words.proofs.zero.Given as goal
 
 abbrev pub invariant-loop-i : goal.invariant-loop-i

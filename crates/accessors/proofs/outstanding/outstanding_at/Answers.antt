@@ -3,7 +3,6 @@ use Rattle.rules.specs.Limits.{entries}
 use Rattle.ports.proofs.Steps.{seek_stop}
 use Rattle.accessors.specs.Outstanding.{outstanding_at}
 use Rattle.accessors.proofs.Waits.{entry-there, none-there, port-shows, shows-waiting, shows_nothing}
-use borrow.Author.Rules.{rules}
 use Rattle.accessors.proofs.outstanding.outstanding_at.Goals as goal
 
 pub returns-then-get-lt-ENTRIES : goal.returns-then-get-lt-ENTRIES

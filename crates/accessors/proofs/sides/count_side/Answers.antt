@@ -1,11 +1,7 @@
-use borrow.Author.Rules.{rules}
 use Rattle.accessors.proofs.Turns.{side-turn, side-end}
-use Rattle.accessors.specs.Sides.{sides_from, count_side}
-use Rattle.rules.specs.Limits.{places}
 use native.Mathlib.Omega.{arith}
 use mathlib.Core.Logic.{inl, inr}
-use mathlib.Core.Path.{◌≡◌, sym, ◌∙◌}
-use Prim.Native.Nat.{◌+◌, ◌≤◌, ◌*◌}
+use mathlib.Core.Path.{sym, ◌∙◌}
 use Rattle.accessors.proofs.sides.count_side.Goals as goal
 use Rattle.accessors.proofs.sides.count_side.Goals.{then-place_side-side, else-place_side-side}
 

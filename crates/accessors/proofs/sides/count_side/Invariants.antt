@@ -1,10 +1,6 @@
-use borrow.Author.Rules.{rules}
-use Rattle.accessors.proofs.Turns.{side-turn, side-end}
 use Rattle.accessors.specs.Sides.{sides_from, count_side}
 use Rattle.rules.specs.Limits.{places}
-use native.Mathlib.Omega.{arith}
-use mathlib.Core.Logic.{⊎_elim, inl, inr}
-use mathlib.Core.Path.{◌≡◌, sym, ◌∙◌}
+use mathlib.Core.Path.{◌≡◌}
 use Prim.Native.Nat.{◌+◌, ◌≤◌, ◌*◌}
 use Rattle.accessors.proofs.sides.count_side.Given as goal
 

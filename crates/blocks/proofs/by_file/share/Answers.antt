@@ -1,5 +1,4 @@
 use Rattle.words.proofs.Parts.{span}
-use borrow.Author.Rules.{rules}
 use Rattle.blocks.proofs.by_file.share.Goals as goal
 
 pub returns : goal.returns

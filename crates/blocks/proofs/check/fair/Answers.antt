@@ -1,7 +1,6 @@
 use native.Mathlib.Omega.{arith}
 use Rattle.shares.specs.Back.{next}
 use Rattle.blocks.proofs.check.Laws.{unfair, fair-bare, fair-even, fair-odd}
-use borrow.Author.Rules.{rules}
 use Rattle.blocks.proofs.check.fair.Goals as goal
 
 pub returns-then-p-e : goal.returns-then-p-e

@@ -1,5 +1,4 @@
-use Rattle.blocks.proofs.check.Laws.{holds-off, holds_on}
-use borrow.Author.Rules.{rules}
+use Rattle.blocks.proofs.check.Laws.{holds_on}
 use Rattle.blocks.proofs.check.holds.Goals as goal
 
 pub returns : goal.returns

@@ -1,7 +1,4 @@
-use Prim.Native.Nat.{◌≤◌}
-use mathlib.Core.Path.{◌≡◌, refl, sym, ◌∙◌}
-use borrow.Author.Tests.{not-true, not-false}
-use Rattle.shares.specs.Laid.{walk}
+use mathlib.Core.Path.{sym, ◌∙◌}
 use Rattle.shares.proofs.Laid.{fair-says}
 use Rattle.blocks.proofs.check.Laws.{walk_step, walk-bad, walk_end}
 use borrow.Author.Rules.{rules}

@@ -1,10 +1,6 @@
 use Prim.Native.Nat.{◌≤◌}
-use mathlib.Core.Path.{◌≡◌, refl, sym, ◌∙◌}
-use borrow.Author.Tests.{not-true, not-false}
+use mathlib.Core.Path.{◌≡◌}
 use Rattle.shares.specs.Laid.{walk}
-use Rattle.shares.proofs.Laid.{fair-says}
-use Rattle.blocks.proofs.check.Laws.{walk_step, walk-bad, walk_end}
-use borrow.Author.Rules.{rules}
 use Rattle.blocks.proofs.check.one_by_one.Given as goal
 
 abbrev pub invariant-loop-left : goal.invariant-loop-left

@@ -1,6 +1,5 @@
-use borrow.Author.Tests.{lt-ltb, le-ltb, not-true, not-false}
+use borrow.Author.Tests.{lt-ltb, le-ltb}
 use Rattle.shares.specs.Sound.{sound}
-use borrow.Author.Rules.{rules}
 use Rattle.blocks.proofs.check.sound.Goals as goal
 
 pub returns-then-ring : goal.returns-then-ring

@@ -1,9 +1,5 @@
-use Prim.Native.Nat.{◌+◌, ◌≤◌, ◌<◌}
-use mathlib.Core.Path.{◌≡◌, refl, sym, ◌∙◌}
+use mathlib.Core.Path.{sym, ◌∙◌}
 use native.Mathlib.Omega.{arith}
-use borrow.Author.Tests.{not-true, not-false}
-use Rattle.shares.specs.Sound.{sweep}
-use Rattle.ring.specs.Ring.{geo}
 use Rattle.ring.proofs.Laws.{wrapped-less}
 use Rattle.blocks.proofs.check.Laws.{sweep-done, sweep-end, sweep-room, sweep-bad, sweep-step}
 use borrow.Author.Rules.{rules}
@@ -26,15 +22,14 @@ returns-then-not-holds c =
     (sym c.holds.ensures ∙ c.if-not-holds.true))
 
 pub loop-n-preserved : goal.loop-n-preserved
-loop-n-preserved c =
-    (
-      c.loop-n.invariant.0
-          ∙ sweep-step _ _ _ _ _ _ _ c.loop-n-test.true c.if-left-eq0.false c.loop-n.invariant.1
-          c.block_span.ensures.value c.least-count.ensures _ c.wrapped-block.ensures
-          (sym c.holds.ensures ∙ c.if-not-holds.false),
-      rw c.wrapped-block.ensures (wrapped-less _ _ (omega arith)),
-      omega arith,
-    )
+loop-n-preserved c = (
+  c.loop-n.invariant.0
+      ∙ sweep-step _ _ _ _ _ _ _ c.loop-n-test.true c.if-left-eq0.false c.loop-n.invariant.1
+      c.block_span.ensures.value c.least-count.ensures _ c.wrapped-block.ensures
+      (sym c.holds.ensures ∙ c.if-not-holds.false),
+  rw c.wrapped-block.ensures (wrapped-less _ _ (omega arith)),
+  omega arith,
+)
 
 pub returns : goal.returns
 returns c = sym (c.loop-n.invariant.0 ∙ sweep-end _ _ _ _ _ c.loop-n-test.false)

@@ -1,12 +1,7 @@
 use Prim.Native.Nat.{◌+◌, ◌≤◌, ◌<◌}
-use mathlib.Core.Path.{◌≡◌, refl, sym, ◌∙◌}
-use native.Mathlib.Omega.{arith}
-use borrow.Author.Tests.{not-true, not-false}
+use mathlib.Core.Path.{◌≡◌}
 use Rattle.shares.specs.Sound.{sweep}
 use Rattle.ring.specs.Ring.{geo}
-use Rattle.ring.proofs.Laws.{wrapped-less}
-use Rattle.blocks.proofs.check.Laws.{sweep-done, sweep-end, sweep-room, sweep-bad, sweep-step}
-use borrow.Author.Rules.{rules}
 use Rattle.blocks.proofs.check.sweep.Given as goal
 
 abbrev pub invariant-loop-n : goal.invariant-loop-n

@@ -1,9 +1,5 @@
-use mathlib.Core.Bool.{false≢true}
-use mathlib.Core.Path.{sym, ◌∙◌}
-use native.Mathlib.Omega.{arith}
-use borrow.Author.Tests.{ltb-true, ne_eqb}
-use borrow.Author.Rules.{rules}
-use Rattle.blocks.proofs.quick.Laws.{Passed, passed_none, passed-room, passed-one, passed-all}
+use borrow.Author.Tests.{ltb-true}
+use Rattle.blocks.proofs.quick.Laws.{passed-one, passed-all}
 use Rattle.blocks.proofs.quick.all_whole.Goals as goal
 
 pub loop-left-preserved : goal.loop-left-preserved

@@ -1,9 +1,4 @@
-use mathlib.Core.Bool.{false≢true}
-use mathlib.Core.Path.{sym, ◌∙◌}
-use native.Mathlib.Omega.{arith}
-use borrow.Author.Tests.{ltb-true, ne_eqb}
-use borrow.Author.Rules.{rules}
-use Rattle.blocks.proofs.quick.Laws.{Passed, passed_none, passed-room, passed-one, passed-all}
+use Rattle.blocks.proofs.quick.Laws.{Passed}
 use Rattle.blocks.proofs.quick.all_whole.Given as goal
 
 abbrev pub invariant-loop-left : goal.invariant-loop-left

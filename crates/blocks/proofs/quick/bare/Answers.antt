@@ -1,8 +1,6 @@
-use mathlib.Core.Bool.{false≢true}
 use mathlib.Core.Path.{sym, ◌∙◌}
 use native.Mathlib.Omega.{arith}
 use borrow.Author.Tests.{ltb-true}
-use borrow.Author.Rules.{rules}
 use Rattle.blocks.proofs.quick.Laws.{bare-fair}
 use Rattle.blocks.proofs.quick.bare.Goals as goal
 

@@ -1,8 +1,5 @@
-use native.Mathlib.Omega.{arith}
 use Prim.Native.Nat.{◌-◌}
-use borrow.Author.Tests.{not-false}
-use borrow.Author.Rules.{rules}
-use Rattle.blocks.proofs.quick.Laws.{Skipped, skipped-none, skipped-one}
+use Rattle.blocks.proofs.quick.Laws.{skipped-one}
 use Rattle.blocks.proofs.quick.bare_first.Goals as goal
 
 pub loop-k-preserved : goal.loop-k-preserved

@@ -1,8 +1,5 @@
-use native.Mathlib.Omega.{arith}
 use Prim.Native.Nat.{◌-◌}
-use borrow.Author.Tests.{not-false}
-use borrow.Author.Rules.{rules}
-use Rattle.blocks.proofs.quick.Laws.{Skipped, skipped-none, skipped-one}
+use Rattle.blocks.proofs.quick.Laws.{Skipped}
 use Rattle.blocks.proofs.quick.bare_first.Given as goal
 
 abbrev pub invariant-loop-k : goal.invariant-loop-k

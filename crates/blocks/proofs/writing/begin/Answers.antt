@@ -1,5 +1,4 @@
 use Rattle.blocks.proofs.writing.Laws.{begun-written, begun-before}
-use borrow.Author.Rules.{rules}
 use Rattle.blocks.proofs.writing.begin.Goals as goal
 
 pub returns-then-index-ne0 : goal.returns-then-index-ne0

@@ -1,6 +1,5 @@
 use borrow.Author.Tests.{eq-eqb, ne_eqb}
 use Rattle.rules.specs.Store.{pad}
-use borrow.Author.Rules.{rules}
 use Rattle.blocks.proofs.writing.pad_record.Goals as goal
 
 pub returns-then-n-eq0 : goal.returns-then-n-eq0

@@ -1,5 +1,4 @@
 use Rattle.blocks.proofs.writing.Laws.{record-written}
-use borrow.Author.Rules.{rules}
 use Rattle.blocks.proofs.writing.write_record.Goals as goal
 
 pub returns : goal.returns

@@ -1,6 +1,5 @@
 use Rattle.board.specs.Found.{first_in}
 use borrow.Author.Tests.{lt-ltb, le-ltb, eq-eqb, ne_eqb}
-use borrow.Author.Rules.{rules}
 use Rattle.board.proofs.outstanding.first_at.Goals as goal
 
 pub returns-then-e-ge-ENTRIES : goal.returns-then-e-ge-ENTRIES

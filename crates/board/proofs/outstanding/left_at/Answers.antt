@@ -1,6 +1,5 @@
 use Rattle.board.specs.Found.{left_in}
 use borrow.Author.Tests.{lt-ltb, le-ltb}
-use borrow.Author.Rules.{rules}
 use Rattle.board.proofs.outstanding.left_at.Goals as goal
 
 pub returns-then-e-ge-ENTRIES : goal.returns-then-e-ge-ENTRIES

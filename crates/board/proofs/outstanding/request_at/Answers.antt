@@ -1,6 +1,5 @@
 use Rattle.board.specs.Found.{request_at}
 use borrow.Author.Tests.{lt-ltb, le-ltb}
-use borrow.Author.Rules.{rules}
 use Rattle.board.proofs.outstanding.request_at.Goals as goal
 
 pub returns-then-e-lt-ENTRIES : goal.returns-then-e-lt-ENTRIES

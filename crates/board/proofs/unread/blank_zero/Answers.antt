@@ -1,6 +1,4 @@
 use mathlib.Core.Path.{sym, ◌∙◌}
-use borrow.Author.Rules.{rules}
-use borrow.Author.Tests.{not-true, not-false}
 use Rattle.memory.specs.Swept.{file_swept}
 use Rattle.board.proofs.unread.blank_zero.Goals as goal
 

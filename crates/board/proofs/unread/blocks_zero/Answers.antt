@@ -1,9 +1,6 @@
-use Prim.Native.Nat.{◌+◌}
-use mathlib.Core.Path.{◌≡◌, refl, sym, ◌∙◌}
+use mathlib.Core.Path.{◌≡◌, sym, ◌∙◌}
 use native.Mathlib.Omega.{arith}
-use borrow.Author.Rules.{rules}
 use Rattle.shares.specs.Tails.{tail_zero, blocks_zero}
-use Rattle.ring.specs.Ring.{geo}
 use Rattle.sound.proofs.Steps.{held, failed}
 use Rattle.board.proofs.Swept.{blocks-bad, blocks-on}
 use Rattle.board.proofs.unread.blocks_zero.Goals as goal

@@ -1,11 +1,7 @@
 use Prim.Native.Nat.{◌+◌}
-use mathlib.Core.Path.{◌≡◌, refl, sym, ◌∙◌}
-use native.Mathlib.Omega.{arith}
-use borrow.Author.Rules.{rules}
-use Rattle.shares.specs.Tails.{tail_zero, blocks_zero}
+use mathlib.Core.Path.{◌≡◌}
+use Rattle.shares.specs.Tails.{blocks_zero}
 use Rattle.ring.specs.Ring.{geo}
-use Rattle.sound.proofs.Steps.{held, failed}
-use Rattle.board.proofs.Swept.{blocks-bad, blocks-on}
 use Rattle.board.proofs.unread.blocks_zero.Given as goal
 
 abbrev pub invariant-loop-n : goal.invariant-loop-n

@@ -1,6 +1,4 @@
 use mathlib.Core.Path.{sym, ◌∙◌}
-use borrow.Author.Rules.{rules}
-use borrow.Author.Tests.{not-true, not-false}
 use Rattle.board.specs.Swept.{built_zero}
 use Rattle.board.proofs.unread.built_zero.Goals as goal
 

@@ -1,4 +1,3 @@
-use borrow.Author.Rules.{rules}
 use Rattle.words.proofs.Parts.{span}
 use Rattle.memory.specs.Stands.{buffers_at}
 use Rattle.board.proofs.unread.file_buffers.Goals as goal

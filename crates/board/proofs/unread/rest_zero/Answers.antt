@@ -1,6 +1,5 @@
 use mathlib.Core.Path.{sym}
 use native.Mathlib.Omega.{arith}
-use borrow.Author.Rules.{rules}
 use Rattle.words.proofs.Zeros.{quiet-end}
 use Rattle.board.specs.Swept.{rest_zero}
 use Rattle.board.proofs.unread.rest_zero.Goals as goal

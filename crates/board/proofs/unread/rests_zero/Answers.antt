@@ -1,11 +1,9 @@
-use Prim.Native.Nat.{◌-◌, ◌≤◌}
-use mathlib.Core.Path.{◌≡◌, refl, sym}
+use Prim.Native.Nat.{◌-◌}
+use mathlib.Core.Path.{refl, sym}
 use mathlib.Core.Bool.{true}
 use native.Mathlib.Omega.{arith}
-use borrow.Author.Rules.{rules}
-use Rattle.rules.specs.Limits.{places}
 use Rattle.sound.proofs.Steps.{held, failed}
-use Rattle.board.specs.Swept.{every, size_at, rest_zero, rests_at}
+use Rattle.board.specs.Swept.{every, rest_zero, rests_at}
 use Rattle.board.proofs.Swept.{every-on, every-bad, every-end}
 use Rattle.board.proofs.unread.rests_zero.Goals as goal
 use mathlib.Core.Path.{ap}

@@ -1,4 +1,3 @@
-use borrow.Author.Rules.{rules}
 use borrow.Author.Tests.{eq-eqb, ne_eqb}
 use Rattle.board.specs.Swept.{size_on}
 use Rattle.board.proofs.unread.size_at.Goals as goal

@@ -1,4 +1,3 @@
-use borrow.Author.Rules.{rules}
 use Rattle.board.specs.Swept.{size_of}
 use Rattle.board.proofs.unread.size_of.Goals as goal
 

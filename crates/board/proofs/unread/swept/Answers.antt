@@ -1,10 +1,7 @@
-use Prim.Native.Nat.{◌-◌, ◌≤◌}
-use mathlib.Core.Path.{◌≡◌, refl, sym, ◌∙◌}
+use Prim.Native.Nat.{◌-◌}
+use mathlib.Core.Path.{refl, sym, ◌∙◌}
 use mathlib.Core.Bool.{true}
 use native.Mathlib.Omega.{arith}
-use borrow.Author.Rules.{rules}
-use Rattle.rules.specs.Limits.{files}
-use Rattle.memory.specs.Memories.{memories}
 use Rattle.sound.proofs.Steps.{held, failed}
 use Rattle.board.specs.Swept.{every, file_zero, files_zero}
 use Rattle.board.proofs.Swept.{every-on, every-bad, every-end, swept-is}

@@ -1,7 +1,5 @@
 use mathlib.Core.Path.{sym, ◌∙◌}
 use native.Mathlib.Omega.{arith}
-use borrow.Author.Rules.{rules}
-use borrow.Author.Tests.{not-true, not-false}
 use Rattle.shares.specs.Tails.{tails_zero}
 use Rattle.board.proofs.Swept.{end-inside}
 use Rattle.board.proofs.unread.tails_zero.Goals as goal

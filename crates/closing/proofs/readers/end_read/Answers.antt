@@ -1,6 +1,5 @@
 use Rattle.closing.specs.Walk.{end_words}
 use Rattle.segment.specs.Fields.{entry_words}
-use borrow.Author.Rules.{rules}
 use Rattle.closing.proofs.readers.end_read.Goals as goal
 
 pub returns-clause-segment : goal.returns-clause-segment

@@ -1,10 +1,7 @@
-use lib.ListN.{length}
-use mathlib.Core.Path.{◌≡◌, refl, ◌∙◌}
+use mathlib.Core.Path.{refl, ◌∙◌}
 use native.Mathlib.Omega.{arith}
-use borrow.Author.Rules.{rules}
-use Rattle.closing.proofs.Ends.{gone-size, walked-size, walked-stops}
+use Rattle.closing.proofs.Ends.{walked-size, walked-stops}
 use Rattle.closing.proofs.Walks.{walk-begin, walk-stop, walk-done}
-use Rattle.closing.specs.Leaving.{Walked}
 use Rattle.closing.proofs.readers.end_readers.Goals as goal
 
 pub loop-left-init : goal.loop-left-init
@@ -25,12 +22,11 @@ pass-slot-requires c =
     (omega (arith, c.if-e-ge-ENTRIES.false))
 
 pub loop-left-preserved : goal.loop-left-preserved
-loop-left-preserved c =
-    (
-      λ n blocks x o b M. c.pass-slot.ensures n _ blocks x o b _ (c.loop-left.invariant.0 n blocks x o b M),
-      c.pass-slot.auto.segment ∙ c.loop-left.invariant.1,
-      c.pass-slot.auto.buffers ∙ c.loop-left.invariant.2,
-    )
+loop-left-preserved c = (
+  λ n blocks x o b M. c.pass-slot.ensures n _ blocks x o b _ (c.loop-left.invariant.0 n blocks x o b M),
+  c.pass-slot.auto.segment ∙ c.loop-left.invariant.1,
+  c.pass-slot.auto.buffers ∙ c.loop-left.invariant.2,
+)
 
 pub returns : goal.returns
 returns c = λ n blocks x o b M. walk-done (c.loop-left.invariant.0 n blocks x o b M) (omega (arith, c.loop-left-test.false))

@@ -1,9 +1,5 @@
 use lib.ListN.{length}
-use mathlib.Core.Path.{◌≡◌, refl, ◌∙◌}
-use native.Mathlib.Omega.{arith}
-use borrow.Author.Rules.{rules}
-use Rattle.closing.proofs.Ends.{gone-size, walked-size, walked-stops}
-use Rattle.closing.proofs.Walks.{walk-begin, walk-stop, walk-done}
+use mathlib.Core.Path.{◌≡◌}
 use Rattle.closing.specs.Leaving.{Walked}
 use Rattle.closing.proofs.readers.end_readers.Given as goal
 

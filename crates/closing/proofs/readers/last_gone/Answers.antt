@@ -1,6 +1,4 @@
 use Rattle.closing.proofs.Ends.{gone-size, gone-counts, last-ends, last-not}
-use borrow.Author.Tests.{not-true, not-false}
-use borrow.Author.Rules.{rules}
 use Rattle.closing.proofs.readers.last_gone.Goals as goal
 
 pub has_writer-requires : goal.has_writer-requires

@@ -1,5 +1,4 @@
 use Rattle.closing.proofs.Ends.{stop-size, stop-place, stays, ends}
-use borrow.Author.Rules.{rules}
 use Rattle.closing.proofs.readers.pass.Goals as goal
 
 pub read_place-row-requires-clause-i_lt_desk_places : goal.read_place-row-requires-clause-i_lt_desk_places

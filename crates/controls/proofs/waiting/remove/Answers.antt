@@ -1,5 +1,4 @@
 use Rattle.controls.proofs.Removes.{completed-stays, absent-stays, found-goes}
-use borrow.Author.Rules.{rules}
 use Rattle.controls.proofs.waiting.remove.Goals as goal
 
 pub returns-then-get-lt-ENTRIES-clause-waits : goal.returns-then-get-lt-ENTRIES-clause-waits

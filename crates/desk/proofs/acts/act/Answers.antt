@@ -4,7 +4,6 @@ use Rattle.kinds.specs.declared.Frame.TheVariants as what
 use Rattle.judges.specs.Refused.{purges_by}
 use native.Mathlib.Omega.{arith}
 use mathlib.Core.Path.{ap, ◌∙◌}
-use borrow.Author.Rules.{rules}
 use Rattle.desk.proofs.acts.act.Goals as goal
 
 pub build-requires : goal.build-requires
@@ -55,12 +54,11 @@ control-requires c =
     )
 
 pub collect-requires-clause-by_index : goal.collect-requires-clause-by_index
-collect-requires-clause-by_index c =
-    (
-        _,
-        c.requires.event_lent.0,
-        ok-collect _ c.requires.unrefused _ _ (c.requires.event_lent.2 ∙ ap what.Event c.in-Collect.is),
-      )
+collect-requires-clause-by_index c = (
+  _,
+  c.requires.event_lent.0,
+  ok-collect _ c.requires.unrefused _ _ (c.requires.event_lent.2 ∙ ap what.Event c.in-Collect.is),
+)
 
 pub close-requires : goal.close-requires
 close-requires c =

@@ -1,6 +1,5 @@
 use Rattle.rules.specs.Desk.{frame_asks}
 use Rattle.desk.proofs.Numbers.{shape-number}
-use borrow.Author.Rules.{rules}
 use Rattle.desk.proofs.refusals.number_of.Goals as goal
 
 pub returns-in-Code : goal.returns-in-Code

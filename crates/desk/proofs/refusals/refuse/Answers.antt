@@ -1,6 +1,5 @@
 use Rattle.desk.specs.Refusals.{Refusal}
 use Rattle.desk.proofs.Refuses.{no_code}
-use borrow.Author.Rules.{rules}
 use Rattle.desk.proofs.refusals.refuse.Goals as goal
 
 pub returns-in_default : goal.returns-in_default

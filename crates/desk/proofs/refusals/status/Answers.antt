@@ -1,5 +1,4 @@
 use Rattle.rules.specs.Answers.{answer_bytes}
-use borrow.Author.Rules.{rules}
 use Rattle.desk.proofs.refusals.status.Goals as goal
 
 pub returns : goal.returns

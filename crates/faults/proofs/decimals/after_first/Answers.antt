@@ -1,7 +1,6 @@
-use Prim.Native.Nat.{◌<◌, ◌≤◌, ◌-◌}
+use Prim.Native.Nat.{◌-◌}
 use mathlib.Core.Path.{◌≡◌}
 use native.Mathlib.Omega.{arith}
-use borrow.Author.Rules.{rules}
 use Rattle.faults.specs.Decimals.{tens}
 use Rattle.faults.proofs.Powers.{tens-more}
 use Rattle.faults.proofs.decimals.after_first.Goals as goal

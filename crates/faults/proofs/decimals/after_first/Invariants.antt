@@ -1,9 +1,5 @@
 use Prim.Native.Nat.{◌<◌, ◌≤◌, ◌-◌}
-use mathlib.Core.Path.{◌≡◌}
-use native.Mathlib.Omega.{arith}
-use borrow.Author.Rules.{rules}
 use Rattle.faults.specs.Decimals.{tens}
-use Rattle.faults.proofs.Powers.{tens-more}
 use Rattle.faults.proofs.decimals.after_first.Given as goal
 
 abbrev pub invariant-loop-k : goal.invariant-loop-k

@@ -1,7 +1,6 @@
-use Prim.Native.Nat.{◌≤◌, ◌-◌}
-use mathlib.Core.Path.{◌≡◌, refl}
+use Prim.Native.Nat.{◌-◌}
+use mathlib.Core.Path.{refl}
 use native.Mathlib.Omega.{arith}
-use borrow.Author.Rules.{rules}
 use Rattle.faults.specs.Decimals.{tens}
 use Rattle.faults.proofs.Powers.{tens-more, tens-most}
 use Rattle.faults.proofs.decimals.power.Goals as goal

@@ -1,11 +1,9 @@
-use Prim.Native.Nat.{◌<◌, ◌≤◌, ℕ, ◌+◌, ◌-◌, ◌*◌}
+use Prim.Native.Nat.{ℕ, ◌+◌, ◌-◌, ◌*◌}
 use mathlib.Core.Path.{◌≡◌, refl, ap, sym, ◌∙◌}
 use native.Mathlib.Omega.{arith}
-use lib.ListN.{length, length-set}
-use lib.Seq.{sets}
-use borrow.Author.Rules.{rules}
-use Rattle.faults.specs.Decimals.{tens, most_places}
-use Rattle.faults.proofs.Powers.{tens-more, last_digits, digit-put, none_left, decimal-put}
+use lib.ListN.{length-set}
+use Rattle.faults.specs.Decimals.{tens}
+use Rattle.faults.proofs.Powers.{tens-more, digit-put, none_left, decimal-put}
 use Rattle.faults.proofs.decimals.put_decimal.Goals as goal
 
 pub loop-left-init : goal.loop-left-init

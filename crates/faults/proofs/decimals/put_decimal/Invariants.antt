@@ -1,11 +1,9 @@
-use Prim.Native.Nat.{◌<◌, ◌≤◌, ℕ, ◌+◌, ◌-◌, ◌*◌}
-use mathlib.Core.Path.{◌≡◌, refl, ap, sym, ◌∙◌}
-use native.Mathlib.Omega.{arith}
-use lib.ListN.{length, length-set}
+use Prim.Native.Nat.{◌<◌, ◌≤◌, ◌+◌, ◌-◌}
+use mathlib.Core.Path.{◌≡◌}
+use lib.ListN.{length}
 use lib.Seq.{sets}
-use borrow.Author.Rules.{rules}
 use Rattle.faults.specs.Decimals.{tens, most_places}
-use Rattle.faults.proofs.Powers.{tens-more, last_digits, digit-put, none_left, decimal-put}
+use Rattle.faults.proofs.Powers.{last_digits}
 use Rattle.faults.proofs.decimals.put_decimal.Given as goal
 
 abbrev pub invariant-loop-left : goal.invariant-loop-left

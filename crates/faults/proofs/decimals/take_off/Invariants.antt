@@ -1,7 +1,5 @@
 use Prim.Native.Nat.{◌+◌, ◌*◌, ◌≤◌}
 use mathlib.Core.Path.{◌≡◌}
-use native.Mathlib.Omega.{arith}
-use Rattle.faults.proofs.Powers.{off-once, off-few}
 use Rattle.faults.proofs.decimals.take_off.Given as goal
 
 abbrev pub invariant-loop-rest : goal.invariant-loop-rest

@@ -1,10 +1,8 @@
-use Prim.Native.Nat.{◌≤◌, ◌-◌}
-use mathlib.Core.Path.{◌≡◌, sym, ◌∙◌}
-use lib.ListN.{length, drop}
+use Prim.Native.Nat.{◌-◌}
+use mathlib.Core.Path.{sym, ◌∙◌}
 use native.Mathlib.Omega.{arith}
 use borrow.Author.Rules.{rules}
-use borrow.Author.Tests.{not-true, not-false}
-use Rattle.faults.specs.Faults.{most_digits, fault_after, fault_of}
+use Rattle.faults.specs.Faults.{fault_of}
 use Rattle.faults.proofs.Steps.{at-digit, at_long, at-strange, at-end}
 use Rattle.faults.proofs.reading.fault_of.Goals as goal
 

@@ -1,11 +1,7 @@
 use Prim.Native.Nat.{◌≤◌, ◌-◌}
-use mathlib.Core.Path.{◌≡◌, sym, ◌∙◌}
+use mathlib.Core.Path.{◌≡◌}
 use lib.ListN.{length, drop}
-use native.Mathlib.Omega.{arith}
-use borrow.Author.Rules.{rules}
-use borrow.Author.Tests.{not-true, not-false}
 use Rattle.faults.specs.Faults.{most_digits, fault_after, fault_of}
-use Rattle.faults.proofs.Steps.{at-digit, at_long, at-strange, at-end}
 use Rattle.faults.proofs.reading.fault_of.Given as goal
 
 abbrev pub invariant-loop-i : goal.invariant-loop-i

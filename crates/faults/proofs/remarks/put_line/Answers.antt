@@ -1,7 +1,6 @@
 use Rattle.texts.specs.Spell.{spell}
 use Rattle.texts.proofs.Runs.{◌then◌}
 use Rattle.faults.specs.Remarks.{remark_line}
-use borrow.Author.Rules.{rules}
 use Rattle.faults.proofs.remarks.put_line.Goals as goal
 
 pub returns : goal.returns

@@ -2,7 +2,6 @@ use Rattle.texts.specs.Spell.{spell}
 use Rattle.texts.proofs.Runs.{put-none, put-within}
 use Rattle.faults.specs.Remarks.{reason, reason_room}
 use native.Mathlib.Omega.{arith}
-use borrow.Author.Rules.{rules}
 use Rattle.faults.proofs.remarks.put_reason.Goals as goal
 
 pub returns-in-Nothing : goal.returns-in-Nothing

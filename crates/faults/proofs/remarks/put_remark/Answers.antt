@@ -1,6 +1,5 @@
 use Rattle.texts.proofs.Runs.{put-none}
 use Rattle.faults.specs.Remarks.{remark}
-use borrow.Author.Rules.{rules}
 use Rattle.faults.proofs.remarks.put_remark.Goals as goal
 
 pub returns-then-is_told : goal.returns-then-is_told

@@ -1,4 +1,3 @@
-use borrow.Author.Rules.{rules}
 use Rattle.faults.specs.Heard.{hears}
 use Rattle.faults.proofs.telling.hear.Goals as goal
 

@@ -1,4 +1,3 @@
-use borrow.Author.Rules.{rules}
 use Rattle.faults.specs.Heard.{knows}
 use Rattle.faults.proofs.telling.is_told.Goals as goal
 

@@ -1,4 +1,3 @@
-use borrow.Author.Rules.{rules}
 use Rattle.faults.specs.Heard.{tells}
 use Rattle.faults.proofs.telling.mark.Goals as goal
 

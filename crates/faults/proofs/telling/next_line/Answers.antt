@@ -1,4 +1,3 @@
-use borrow.Author.Rules.{rules}
 use borrow.Author.Tests.{lt-ltb, le-ltb}
 use Rattle.faults.specs.Heard.{next_line}
 use Rattle.faults.proofs.telling.next_line.Goals as goal

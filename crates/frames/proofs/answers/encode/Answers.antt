@@ -1,6 +1,4 @@
-use native.Mathlib.Omega.{arith}
 use Rattle.rules.specs.Answers.{answer_bytes}
-use borrow.Author.Rules.{rules}
 use Rattle.frames.proofs.answers.encode.Goals as goal
 
 pub returns-in-Built-clause-size : goal.returns-in-Built-clause-size

@@ -1,7 +1,6 @@
 use borrow.Author.Tests.{ne_eqb}
 use Rattle.rules.specs.Frames.{frame_of}
 use Rattle.frames.proofs.Empty.{first-none}
-use borrow.Author.Rules.{rules}
 use Rattle.frames.proofs.decoding.decode.Goals as goal
 
 pub returns-then-frame-eq0 : goal.returns-then-frame-eq0

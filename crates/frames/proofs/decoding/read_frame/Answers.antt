@@ -1,6 +1,5 @@
 use borrow.Author.Tests.{eq-eqb, ne_eqb}
 use Rattle.rules.specs.Frames.{of_length, frame_of}
-use borrow.Author.Rules.{rules}
 use Rattle.frames.proofs.decoding.read_frame.Goals as goal
 
 pub returns-then-frame-eq-WRITE_HEAD : goal.returns-then-frame-eq-WRITE_HEAD

@@ -6,7 +6,6 @@ use Rattle.words.specs.Word.{word_at}
 use Rattle.rules.specs.TransferCounts.{count_bytes}
 use borrow.Author.Tests.{eq-eqb, ne_eqb}
 use Rattle.rules.specs.Frames.{of_length, frame_of}
-use borrow.Author.Rules.{rules}
 use Rattle.frames.proofs.decoding.write_frame.Goals as goal
 
 pub returns-then-n-lt-WRITE_HEAD : goal.returns-then-n-lt-WRITE_HEAD

@@ -1,6 +1,4 @@
-use Rattle.judges.proofs.Refused.{sound-size}
 use Rattle.judges.proofs.Said.{code-refused, code-said}
-use borrow.Author.Rules.{rules}
 use Rattle.judges.proofs.control_codes.judge_code.Goals as goal
 
 pub returns-in-Refused : goal.returns-in-Refused

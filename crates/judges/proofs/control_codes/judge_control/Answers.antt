@@ -1,6 +1,4 @@
-use Rattle.judges.proofs.Refused.{sound-size}
 use Rattle.judges.proofs.Said.{control-refused, control-said}
-use borrow.Author.Rules.{rules}
 use Rattle.judges.proofs.control_codes.judge_control.Goals as goal
 
 pub returns-in-Refused : goal.returns-in-Refused

@@ -1,6 +1,4 @@
-use Rattle.judges.proofs.Refused.{sound-size}
 use Rattle.judges.proofs.Said.{close-refused, close-said}
-use borrow.Author.Rules.{rules}
 use Rattle.judges.proofs.on_accessors.judge_close.Goals as goal
 
 pub returns-in-Refused : goal.returns-in-Refused

@@ -1,6 +1,4 @@
-use Rattle.judges.proofs.Refused.{sound-size}
 use Rattle.judges.proofs.Said.{write-refused, write-said}
-use borrow.Author.Rules.{rules}
 use Rattle.judges.proofs.on_accessors.judge_write.Goals as goal
 
 pub returns-in-Refused : goal.returns-in-Refused

@@ -1,6 +1,4 @@
-use Rattle.judges.proofs.Refused.{sound-size}
 use Rattle.judges.proofs.Files.{high-refused, build-built, build-said}
-use borrow.Author.Rules.{rules}
 use Rattle.judges.proofs.on_files.judge_build.Goals as goal
 
 pub returns-then-file-ge-FILES : goal.returns-then-file-ge-FILES

@@ -1,4 +1,3 @@
-use Rattle.judges.proofs.Refused.{sound-size}
 use Rattle.judges.proofs.Files.{counts-unbuilt, counts-built}
 use Rattle.judges.proofs.on_files.judge_counts.Goals as goal
 

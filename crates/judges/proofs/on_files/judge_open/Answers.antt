@@ -1,8 +1,3 @@
-use mathlib.Core.Path.{sym}
-use mathlib.Core.Bool.{and-false}
-use borrow.Author.Rules.{rules}
-use Rattle.accessors.specs.Sides.{purges_at}
-use Rattle.judges.proofs.Refused.{sound-size}
 use Rattle.accessors.proofs.Names.{words-low}
 use Rattle.judges.proofs.Files.{open-unbuilt, open-built}
 use Rattle.judges.proofs.on_files.judge_open.Goals as goal

@@ -1,14 +1,11 @@
 use Prim.Native.Nat.{ℕ}
 use mathlib.Core.Path.{◌≡◌, sym, ◌∙◌}
-use mathlib.Core.Bool.{true, false, cond, and-true, and-false}
-use native.Mathlib.Omega.{arith}
-use borrow.Author.Rules.{rules}
+use mathlib.Core.Bool.{true, false, cond, and-true}
 use lib.Dec.{ltb, leb}
 use Rattle.rules.specs.Limits.{places}
 use Rattle.rules.specs.State.{Built}
 use Rattle.rules.specs.Requests.{opened}
 use Rattle.rules.specs.Open.{room_to_open}
-use Rattle.accessors.specs.Shown.{Shown}
 use Rattle.accessors.specs.Sides.{purges_at}
 use Rattle.refusing.proofs.Tests.{held, failed}
 use Rattle.judges.specs.Verdicts.{forbidden, open_refusal}
@@ -17,8 +14,6 @@ use Rattle.judges.proofs.Together.{purge-known}
 use Rattle.judges.proofs.Turns.{is-nought, not-nought}
 use Rattle.refusing.specs.Verdicts.{modes_in_range}
 use Rattle.judges.proofs.on_files.open_refusal.Goals as goal
-use mathlib.Core.Path.{ap}
-use mathlib.Core.Bool.{not}
 
 -- the refusal number of a writer's open that has a place, of any open that has a place, and of one that the sharing allows
 abbrev room_refusal : ℕ → Built → ℕ

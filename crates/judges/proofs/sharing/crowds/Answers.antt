@@ -1,7 +1,6 @@
 use mathlib.Core.Path.{◌∙◌}
-use borrow.Author.Tests.{lt-ltb, le-ltb}
+use borrow.Author.Tests.{lt-ltb}
 use Rattle.judges.proofs.Together as together
-use borrow.Author.Rules.{rules}
 use Rattle.judges.proofs.sharing.crowds.Goals as goal
 
 pub returns-then-access-gt0 : goal.returns-then-access-gt0

@@ -1,7 +1,6 @@
 use borrow.Author.Tests.{le-ltb}
 use Rattle.rules.specs.Open.{crowded}
 use Rattle.judges.proofs.Together as together
-use borrow.Author.Rules.{rules}
 use Rattle.judges.proofs.sharing.crowds_readers.Goals as goal
 
 pub returns-then-share-ge-MANY : goal.returns-then-share-ge-MANY

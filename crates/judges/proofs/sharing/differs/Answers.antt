@@ -1,6 +1,5 @@
 use borrow.Author.Tests.{eq-eqb, ne_eqb}
 use Rattle.judges.specs.Sharing.{differs}
-use borrow.Author.Rules.{rules}
 use Rattle.judges.proofs.sharing.differs.Goals as goal
 
 pub returns-then-row-eq-CLOSED : goal.returns-then-row-eq-CLOSED

@@ -1,5 +1,4 @@
 use Rattle.judges.proofs.Together as together
-use borrow.Author.Rules.{rules}
 use Rattle.judges.proofs.sharing.forbids.Goals as goal
 
 pub returns-then-multi-eq-NO_MULTI : goal.returns-then-multi-eq-NO_MULTI

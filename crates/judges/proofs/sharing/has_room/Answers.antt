@@ -1,10 +1,7 @@
 use lib.Dec.{leb}
 use Prim.Native.Nat.{◌+◌, ◌*◌}
 use mathlib.Core.Path.{ap, ◌∙◌}
-use Rattle.geometry.proofs.Sizes.{product-most}
-use native.Mathlib.Omega.{arith}
 use Rattle.judges.proofs.Together as together
-use borrow.Author.Rules.{rules}
 use Rattle.judges.proofs.sharing.has_room.Goals as goal
 
 pub returns : goal.returns

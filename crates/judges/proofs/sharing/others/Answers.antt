@@ -1,10 +1,6 @@
 use Rattle.judges.proofs.Turns.{others-here, others-step, others-end}
-use Rattle.judges.specs.Sharing.{others_from}
-use Rattle.rules.specs.Limits.{places}
 use native.Mathlib.Omega.{arith}
-use mathlib.Core.Path.{◌≡◌, refl, sym, ◌∙◌}
-use Prim.Native.Nat.{◌+◌, ◌*◌}
-use borrow.Author.Rules.{rules}
+use mathlib.Core.Path.{sym, ◌∙◌}
 use Rattle.judges.proofs.sharing.others.Goals as goal
 
 pub returns-then-differs : goal.returns-then-differs

@@ -1,10 +1,7 @@
-use Rattle.judges.proofs.Turns.{others-here, others-step, others-end}
 use Rattle.judges.specs.Sharing.{others_from}
 use Rattle.rules.specs.Limits.{places}
-use native.Mathlib.Omega.{arith}
-use mathlib.Core.Path.{◌≡◌, refl, sym, ◌∙◌}
+use mathlib.Core.Path.{◌≡◌}
 use Prim.Native.Nat.{◌+◌, ◌*◌}
-use borrow.Author.Rules.{rules}
 use Rattle.judges.proofs.sharing.others.Given as goal
 
 abbrev pub invariant-loop-left : goal.invariant-loop-left

@@ -1,8 +1,6 @@
 use Prim.Native.Nat.{◌+◌}
 use mathlib.Core.Path.{sym, ◌∙◌, ap}
-use native.Mathlib.Omega.{arith}
 use Rattle.judges.proofs.Together as together
-use borrow.Author.Rules.{rules}
 use Rattle.judges.proofs.sharing.used_after.Goals as goal
 
 pub returns-then-purges-clause-value : goal.returns-then-purges-clause-value
@@ -12,5 +10,5 @@ returns-then-purges-clause-value c =
 pub returns-clause-value : goal.returns-clause-value
 returns-clause-value c =
     λ b S access k.
-      ap (λ r. r.spent + r.held) c.read_file-row.ensures
-      ∙ together.used-kept _ _ b S access (sym k ∙ c.if-purges.false)
+    ap (λ r. r.spent + r.held) c.read_file-row.ensures
+    ∙ together.used-kept _ _ b S access (sym k ∙ c.if-purges.false)

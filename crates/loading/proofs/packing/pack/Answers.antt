@@ -75,7 +75,7 @@ returns c =
     let all : c.loop-left.left ≤ 0 = omega arith in
     let h = c.read_head-head in (
       pack-file c.args.text.now h.result h.ensures.value s e c.args.blocks.now c.begin-ring.new.blocks c.args.f c.requires.1 c.requires.0 c.begin-ring.ensures.1
-      c.loop-left.reader.at c.loop-left.left c.loop-left.ring c.loop-left.blocks c.loop-left.invariant.packs all,
+          c.loop-left.reader.at c.loop-left.left c.loop-left.ring c.loop-left.blocks c.loop-left.invariant.packs all,
       pack-blocks c.args.text.now h.result h.ensures.value s e c.args.blocks.now c.begin-ring.new.blocks c.args.f c.requires.1 c.requires.0 c.begin-ring.ensures.1
-      c.loop-left.reader.at c.loop-left.left c.loop-left.ring c.loop-left.blocks c.loop-left.invariant.packs all,
+          c.loop-left.reader.at c.loop-left.left c.loop-left.ring c.loop-left.blocks c.loop-left.invariant.packs all,
     )

@@ -1,5 +1,5 @@
 use mathlib.Core.Path.{◌≡◌}
-use Prim.Native.Nat.{ℕ, ◌≤◌}
+use Prim.Native.Nat.{◌≤◌}
 use lib.ListN.{length}
 use Rattle.loading.proofs.Packs.{Packs, whole_of}
 use Rattle.loading.proofs.Packed.{geo_of_head}

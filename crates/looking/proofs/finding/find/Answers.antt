@@ -1,5 +1,4 @@
-use Rattle.looking.proofs.Readers.{refused-finds, opens}
-use borrow.Author.Rules.{rules}
+use Rattle.looking.proofs.Readers.{refused-finds}
 use Rattle.looking.proofs.finding.find.Goals as goal
 
 pub returns-in-Refused : goal.returns-in-Refused

@@ -1,7 +1,6 @@
 use mathlib.Core.Bool.{false≢true}
 use mathlib.Core.Path.{sym, ◌∙◌}
 use Rattle.looking.proofs.Readers.{writer-finds, reader-file, waiting-finds}
-use borrow.Author.Rules.{rules}
 use Rattle.looking.proofs.finding.of_accessor.Goals as goal
 
 pub returns-then-side-eq-WRITER : goal.returns-then-side-eq-WRITER

@@ -1,7 +1,6 @@
 use Rattle.looking.proofs.Readers.{reader-file, reader-fit, port-low, ended-finds, brought-finds}
 use Rattle.rules.specs.Allocation.{place_of}
 use native.Mathlib.Omega.{arith}
-use borrow.Author.Rules.{rules}
 use Rattle.looking.proofs.finding.of_completed.Goals as goal
 
 pub overflow_mul-place : goal.overflow_mul-place

@@ -1,6 +1,5 @@
 use Rattle.looking.proofs.Files.{file-asks, body-inside, file-found, file-empty}
 use native.Mathlib.Omega.{arith}
-use borrow.Author.Rules.{rules}
 use Rattle.looking.proofs.finding.of_file.Goals as goal
 
 pub oldest-found-requires : goal.oldest-found-requires

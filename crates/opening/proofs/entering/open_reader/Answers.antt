@@ -1,5 +1,4 @@
-use Rattle.opening.proofs.Enters.{each_at, each-file, each-sizes, place-low, reader-in, reader-done}
-use borrow.Author.Rules.{rules}
+use Rattle.opening.proofs.Enters.{each_at, each-sizes, place-low, reader-in, reader-done}
 use Rattle.opening.proofs.entering.open_reader.Goals as goal
 
 pub enter-requires : goal.enter-requires

@@ -1,5 +1,4 @@
-use Rattle.opening.proofs.Enters.{each_at, each-file, each-sizes, place-low, row-ranged, writer-ready, writer_in, writer-done}
-use borrow.Author.Rules.{rules}
+use Rattle.opening.proofs.Enters.{each_at, each-sizes, place-low, row-ranged, writer-ready, writer_in, writer-done}
 use Rattle.opening.proofs.entering.open_writer.Goals as goal
 
 pub take-file-requires : goal.take-file-requires

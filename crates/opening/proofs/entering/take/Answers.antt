@@ -1,9 +1,4 @@
-use Rattle.midst.specs.declared.File.{File}
-use Rattle.ring.specs.Ring.{Ranged}
-use mathlib.Core.Path.{sym, subst}
-use borrow.Author.Tests.{not-true, not-false}
 use Rattle.opening.proofs.Purges.{taken-plain, taken-purged}
-use borrow.Author.Rules.{rules}
 use Rattle.opening.proofs.entering.take.Goals as goal
 
 pub returns-then-not-purges : goal.returns-then-not-purges

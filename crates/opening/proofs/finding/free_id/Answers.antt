@@ -1,11 +1,6 @@
-use Prim.Native.Nat.{◌+◌}
-use mathlib.Core.Path.{◌≡◌, refl, sym, ◌∙◌}
+use mathlib.Core.Path.{sym, ◌∙◌}
 use native.Mathlib.Omega.{arith}
-use Rattle.rules.specs.Limits.{places}
-use Rattle.opening.specs.Finding.{id_from, next_id}
 use Rattle.opening.proofs.Turns.{id-here, id-on, id-end}
-use borrow.Author.Tests.{not-true, not-false}
-use borrow.Author.Rules.{rules}
 use Rattle.opening.proofs.finding.free_id.Goals as goal
 
 pub returns-then-not-id_held : goal.returns-then-not-id_held

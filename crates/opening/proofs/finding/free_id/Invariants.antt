@@ -1,11 +1,7 @@
 use Prim.Native.Nat.{◌+◌}
-use mathlib.Core.Path.{◌≡◌, refl, sym, ◌∙◌}
-use native.Mathlib.Omega.{arith}
+use mathlib.Core.Path.{◌≡◌}
 use Rattle.rules.specs.Limits.{places}
 use Rattle.opening.specs.Finding.{id_from, next_id}
-use Rattle.opening.proofs.Turns.{id-here, id-on, id-end}
-use borrow.Author.Tests.{not-true, not-false}
-use borrow.Author.Rules.{rules}
 use Rattle.opening.proofs.finding.free_id.Given as goal
 
 abbrev pub invariant-loop-left : goal.invariant-loop-left

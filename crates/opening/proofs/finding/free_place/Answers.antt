@@ -1,10 +1,6 @@
-use Prim.Native.Nat.{◌+◌, ◌≤◌, ◌*◌}
-use mathlib.Core.Path.{◌≡◌, sym, ◌∙◌}
+use mathlib.Core.Path.{sym, ◌∙◌}
 use native.Mathlib.Omega.{arith}
-use Rattle.rules.specs.Limits.{places}
-use Rattle.opening.specs.Finding.{free_from, free_place}
 use Rattle.opening.proofs.Turns.{free-here, free_on, free-end}
-use borrow.Author.Rules.{rules}
 use Rattle.opening.proofs.finding.free_place.Goals as goal
 
 pub returns-then-place_side-eq-CLOSED : goal.returns-then-place_side-eq-CLOSED

@@ -1,10 +1,7 @@
 use Prim.Native.Nat.{◌+◌, ◌≤◌, ◌*◌}
-use mathlib.Core.Path.{◌≡◌, sym, ◌∙◌}
-use native.Mathlib.Omega.{arith}
+use mathlib.Core.Path.{◌≡◌}
 use Rattle.rules.specs.Limits.{places}
 use Rattle.opening.specs.Finding.{free_from, free_place}
-use Rattle.opening.proofs.Turns.{free-here, free_on, free-end}
-use borrow.Author.Rules.{rules}
 use Rattle.opening.proofs.finding.free_place.Given as goal
 
 abbrev pub invariant-loop-left : goal.invariant-loop-left

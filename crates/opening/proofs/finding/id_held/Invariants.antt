@@ -1,10 +1,7 @@
 use Prim.Native.Nat.{◌+◌, ◌*◌}
-use mathlib.Core.Path.{◌≡◌, refl, sym, ◌∙◌}
-use native.Mathlib.Omega.{arith}
+use mathlib.Core.Path.{◌≡◌}
 use Rattle.rules.specs.Limits.{places}
 use Rattle.opening.specs.Finding.{held_from, id_held}
-use Rattle.opening.proofs.Turns.{held-here, held_on, held-end}
-use borrow.Author.Rules.{rules}
 use Rattle.opening.proofs.finding.id_held.Given as goal
 
 abbrev pub invariant-loop-left : goal.invariant-loop-left

@@ -1,9 +1,7 @@
 use Rattle.records.proofs.cursor.Laws.{head-made, head-behind, stands-full}
-use Rattle.ring.proofs.Held.{held-long, held-ranged}
-use Prim.Native.Nat.{◌+◌, ◌*◌}
+use Rattle.ring.proofs.Held.{held-long}
+use Prim.Native.Nat.{◌+◌}
 use mathlib.Core.Path.{refl, sym, ◌∙◌}
-use native.Mathlib.Omega.{arith}
-use native.Mathlib.Nat.{mul-le-mul_right}
 use borrow.Author.Tests.{eqb-true}
 use borrow.Author.Rules.{rules}
 use Rattle.records.proofs.cursor.first.Goals as goal

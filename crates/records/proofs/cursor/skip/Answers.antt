@@ -1,7 +1,6 @@
 use Prim.Native.Nat.{ℕ, ◌+◌, ◌≤◌, ◌<◌}
-use mathlib.Core.Path.{◌≡◌, refl, sym, ◌∙◌}
+use mathlib.Core.Path.{sym, ◌∙◌}
 use native.Mathlib.Omega.{arith}
-use Rattle.shares.specs.Places.{skip}
 use Rattle.records.specs.Cursor.{Behind}
 use Rattle.records.proofs.cursor.Laws.{skip_step, skip-within, skip-end}
 use borrow.Author.Rules.{rules}

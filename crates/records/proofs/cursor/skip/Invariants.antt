@@ -1,10 +1,7 @@
-use Prim.Native.Nat.{ℕ, ◌+◌, ◌≤◌, ◌<◌}
-use mathlib.Core.Path.{◌≡◌, refl, sym, ◌∙◌}
-use native.Mathlib.Omega.{arith}
+use Prim.Native.Nat.{ℕ, ◌≤◌}
+use mathlib.Core.Path.{◌≡◌}
 use Rattle.shares.specs.Places.{skip}
 use Rattle.records.specs.Cursor.{Behind}
-use Rattle.records.proofs.cursor.Laws.{skip_step, skip-within, skip-end}
-use borrow.Author.Rules.{rules}
 use Rattle.records.proofs.cursor.skip.Given as goal
 
 abbrev pub invariant-loop-left : goal.invariant-loop-left

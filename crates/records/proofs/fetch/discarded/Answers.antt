@@ -2,7 +2,7 @@ use native.Mathlib.Omega.{arith}
 use mathlib.Core.Path.{refl, sym, ◌∙◌}
 use Rattle.ring.proofs.Laws.{advanced-held}
 use Rattle.records.proofs.cursor.Laws.{stands-readable, stands-long}
-use Rattle.records.proofs.fetch.Search.{Search, search-start, search-end, search-stop, search-next}
+use Rattle.records.proofs.fetch.Search.{search-start, search-end, search-stop, search-next}
 use Rattle.records.proofs.fetch.discarded.Goals as goal
 
 pub loop-cursor-init : goal.loop-cursor-init
@@ -30,7 +30,6 @@ returns-then-get-eq-DATA-clause-oldest c =
 
 pub loop-cursor-smaller : goal.loop-cursor-smaller
 loop-cursor-smaller c =
-    
     rw (
       c.next-cursor.ensures.ring,
       advanced-held c.loop-cursor.cursor.ring c.loop-cursor-test.true,
@@ -38,8 +37,6 @@ loop-cursor-smaller c =
 
 pub loop-cursor-preserved : goal.loop-cursor-preserved
 loop-cursor-preserved c =
-    
-    
     search-next _ _ _ c.requires.held _ c.loop-cursor.invariant c.loop-cursor-test.true
     (λ z. c.if-get-eq-DATA.false (c.get.ensures ∙ z)) _ c.next-cursor.ensures.ring
     c.next-cursor.ensures.stands

@@ -1,8 +1,4 @@
-use native.Mathlib.Omega.{arith}
-use mathlib.Core.Path.{refl, sym, ◌∙◌}
-use Rattle.ring.proofs.Laws.{advanced-held}
-use Rattle.records.proofs.cursor.Laws.{stands-readable, stands-long}
-use Rattle.records.proofs.fetch.Search.{Search, search-start, search-end, search-stop, search-next}
+use Rattle.records.proofs.fetch.Search.{Search}
 use Rattle.records.proofs.fetch.discarded.Given as goal
 
 abbrev pub invariant-loop-cursor : goal.invariant-loop-cursor

@@ -1,5 +1,4 @@
 use Rattle.records.proofs.fetch.Parts.{part-handed}
-use borrow.Author.Rules.{rules}
 use Rattle.records.proofs.fetch.handed.Goals as goal
 
 pub returns : goal.returns

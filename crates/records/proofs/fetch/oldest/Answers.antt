@@ -1,6 +1,6 @@
 use mathlib.Core.Path.{sym, ◌∙◌}
 use Rattle.records.proofs.cursor.Laws.{stands-readable}
-use Rattle.records.proofs.fetch.Search.{shown-at, shown-none, at_same, at_none}
+use Rattle.records.proofs.fetch.Search.{shown-at, shown-none, at_same}
 use Rattle.records.proofs.fetch.oldest.Goals as goal
 
 pub returns-then-cursor-gt0-clause-place : goal.returns-then-cursor-gt0-clause-place

@@ -1,5 +1,4 @@
 use Rattle.records.proofs.reading.Framed.{frame_made}
-use borrow.Author.Rules.{rules}
 use Rattle.records.proofs.reading.frame.Goals as goal
 
 pub returns : goal.returns

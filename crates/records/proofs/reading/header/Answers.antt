@@ -1,5 +1,4 @@
 use Rattle.records.proofs.reading.Laws.{header_made}
-use borrow.Author.Rules.{rules}
 use Rattle.records.proofs.reading.header.Goals as goal
 
 pub returns : goal.returns

@@ -1,5 +1,4 @@
 use Rattle.records.proofs.reading.Laws.{next-made}
-use borrow.Author.Rules.{rules}
 use Rattle.records.proofs.reading.next.Goals as goal
 
 pub returns-clause-value : goal.returns-clause-value

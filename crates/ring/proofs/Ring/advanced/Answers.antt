@@ -1,6 +1,5 @@
 use borrow.Author.Tests.{le-leb, lt-leb, eq-eqb, ne_eqb}
 use Rattle.ring.specs.Ring.{advanced}
-use borrow.Author.Rules.{rules}
 use Rattle.ring.proofs.Ring.advanced.Goals as goal
 
 pub returns-then-self-le1 : goal.returns-then-self-le1

@@ -1,7 +1,5 @@
-use native.Mathlib.Omega.{arith}
 use Rattle.ring.specs.Ring.{place}
-use Rattle.ring.proofs.Laws.{rounds, place_inside}
-use borrow.Author.Rules.{rules}
+use Rattle.ring.proofs.Laws.{place_inside}
 use Rattle.ring.proofs.Ring.place.Goals as goal
 
 pub returns-clause-value : goal.returns-clause-value

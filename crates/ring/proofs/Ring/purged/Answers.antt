@@ -1,5 +1,4 @@
 use Rattle.ring.proofs.Laws.{purged-start, purged-begun}
-use borrow.Author.Rules.{rules}
 use Rattle.ring.proofs.Ring.purged.Goals as goal
 
 pub returns-then-tail-eq0 : goal.returns-then-tail-eq0

@@ -1,6 +1,5 @@
 use mathlib.Core.Path.{ap, ◌∙◌}
 use Rattle.ring.specs.Ring.{place, tail}
-use borrow.Author.Rules.{rules}
 use Rattle.ring.proofs.Ring.tail.Goals as goal
 
 pub returns-clause-value : goal.returns-clause-value

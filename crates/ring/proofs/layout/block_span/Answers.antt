@@ -1,5 +1,4 @@
 use Rattle.ring.proofs.layout.Laws.{span-made, span-inside}
-use borrow.Author.Rules.{rules}
 use Rattle.ring.proofs.layout.block_span.Goals as goal
 
 pub returns-clause-value : goal.returns-clause-value

@@ -1,5 +1,4 @@
 use Rattle.rules.specs.Sheet.{head_frame}
-use borrow.Author.Rules.{rules}
 use Rattle.saving.proofs.writing.head_frame.Goals as goal
 
 pub returns : goal.returns

@@ -1,8 +1,4 @@
-use native.Mathlib.Omega.{arith}
-use borrow.Author.Rules.{rules}
-use Rattle.ring.proofs.Laws.{advanced-held}
-use Rattle.records.proofs.cursor.Laws.{stands-ranged, stands-readable}
-use Rattle.saving.proofs.writing.Records.{Measured, measured-start, measured-on, measured-end, turn_low}
+use Rattle.saving.proofs.writing.Records.{Measured}
 use Rattle.saving.proofs.writing.sheet_length.Given as goal
 
 abbrev pub invariant-loop-cursor : goal.invariant-loop-cursor

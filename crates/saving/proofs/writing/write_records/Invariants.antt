@@ -1,7 +1,4 @@
-use native.Mathlib.Omega.{arith}
-use Rattle.ring.proofs.Laws.{advanced-held}
-use Rattle.records.proofs.cursor.Laws.{stands-readable}
-use Rattle.saving.proofs.writing.Records.{Written, written_start, written_on, written-end, turn-room}
+use Rattle.saving.proofs.writing.Records.{Written}
 use Rattle.saving.proofs.writing.write_records.Given as goal
 
 abbrev pub invariant-loop-cursor : goal.invariant-loop-cursor

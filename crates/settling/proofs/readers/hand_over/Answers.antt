@@ -1,7 +1,5 @@
 use Rattle.segment.specs.Fields.{entry_words}
 use Rattle.settling.specs.Turns.{read_words}
-use native.Mathlib.Omega.{arith}
-use borrow.Author.Rules.{rules}
 use Rattle.settling.proofs.readers.hand_over.Goals as goal
 
 pub returns-clause-segment : goal.returns-clause-segment

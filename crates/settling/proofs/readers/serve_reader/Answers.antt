@@ -1,15 +1,11 @@
 use Rattle.settling.proofs.ReadTurns.{Seen, turn-nobody, turn-nothing, handed-short, served}
 use Rattle.settling.proofs.FirstReader.{reader-of, reader-under}
 use Rattle.store.proofs.Hands.{fine-stored, hand-held}
-use Rattle.midst.proofs.Begins.{mid-lengths}
 use Rattle.segment.specs.Layout.{read_queue}
 use Rattle.segment.specs.Table.{nth}
 use Rattle.rules.specs.Limits.{entries}
 use borrow.Author.Tests.{not-true, not-false}
-use native.Mathlib.Omega.{arith}
 use Prim.Native.Nat.{◌<◌}
-use mathlib.Core.Path.{refl}
-use borrow.Author.Rules.{rules}
 use Rattle.settling.proofs.readers.serve_reader.Goals as goal
 use Rattle.settling.proofs.readers.serve_reader.Goals.{After-fetch-found}
 
@@ -33,7 +29,7 @@ returns-then-e-ge-ENTRIES c = λ o b M. turn-nobody M _ c.get-e.ensures c.if-e-g
 pub read_place-row-requires-clause-i_lt_desk_places : goal.read_place-row-requires-clause-i_lt_desk_places
 read_place-row-requires-clause-i_lt_desk_places c =
     reader-under c.requires.2 (reader-of c.requires.2 (rw (← c.get-e.ensures) c.if-e-ge-ENTRIES.false)) _ _
-          c.get-e.ensures c.read_entry-m.ensures
+    c.get-e.ensures c.read_entry-m.ensures
 
 pub fetch-found-requires-clause-held : goal.fetch-found-requires-clause-held
 fetch-found-requires-clause-held c =
@@ -48,12 +44,11 @@ pub hand_over-requires-clause-place_lt_desk_places : goal.hand_over-requires-cla
 hand_over-requires-clause-place_lt_desk_places c =
     let M = c.requires.2 in
     let v = seen (goal.at.hand_over-requires-clause-place_lt_desk_places c).After-fetch-found in
-    let r = reader-of M (somebody (goal.at.hand_over-requires-clause-place_lt_desk_places c).After-fetch-found) in
-    (
-        reader-under M r _ _ v.first v.entry,
-        handed-short M r v (not-false _ c.if-not-found.false) _ c.share.ensures _ c.handed-bytes.ensures,
-        somebody (goal.at.hand_over-requires-clause-place_lt_desk_places c).After-fetch-found,
-      )
+    let r = reader-of M (somebody (goal.at.hand_over-requires-clause-place_lt_desk_places c).After-fetch-found) in (
+      reader-under M r _ _ v.first v.entry,
+      handed-short M r v (not-false _ c.if-not-found.false) _ c.share.ensures _ c.handed-bytes.ensures,
+      somebody (goal.at.hand_over-requires-clause-place_lt_desk_places c).After-fetch-found,
+    )
 
 pub returns : goal.returns
 returns c =

@@ -2,12 +2,9 @@ use Rattle.settling.proofs.WriteTurns.{turn-nobody, turn-full, data-ready, serve
 use Rattle.settling.proofs.FirstWriter.{writer_of, writer-under, writer-size}
 use Rattle.store.proofs.Hands.{fine-stored, hand-ranged}
 use Rattle.settling.proofs.Beside.{count_most}
-use Rattle.midst.proofs.Begins.{mid-lengths}
-use borrow.Author.Tests.{not-true, not-false}
 use native.Mathlib.Omega.{arith}
-use mathlib.Core.Path.{◌≡◌, refl}
+use mathlib.Core.Path.{◌≡◌}
 use Rattle.accessors.specs.Sides.{count_side}
-use borrow.Author.Rules.{rules}
 use Rattle.settling.proofs.writers.serve_writer.Goals as goal
 use Rattle.settling.proofs.writers.serve_writer.Goals.{Else-e-ge-ENTRIES}
 
@@ -32,17 +29,16 @@ pub read_place-row-requires-clause-i_lt_desk_places : goal.read_place-row-requir
 read_place-row-requires-clause-i_lt_desk_places c =
     let M = c.requires.0.2 in
     writer-under M (writer_of M (rw (← c.get-e.ensures) c.if-e-ge-ENTRIES.false)) _ _ c.get-e.ensures
-          c.read_entry-m.ensures
+    c.read_entry-m.ensures
 
 pub take-next-requires-clause-place_lt_desk_places : goal.take-next-requires-clause-place_lt_desk_places
 take-next-requires-clause-place_lt_desk_places c =
     let M = c.requires.0.2 in
-    let r = writer_of M (rw (← c.get-e.ensures) c.if-e-ge-ENTRIES.false) in
-    (
-          writer-under M r _ _ c.get-e.ensures c.read_entry-m.ensures,
-          writer-size M r _ _ c.get-e.ensures c.read_entry-m.ensures,
-          rw (← c.get-e.ensures) c.if-e-ge-ENTRIES.false,
-        )
+    let r = writer_of M (rw (← c.get-e.ensures) c.if-e-ge-ENTRIES.false) in (
+      writer-under M r _ _ c.get-e.ensures c.read_entry-m.ensures,
+      writer-size M r _ _ c.get-e.ensures c.read_entry-m.ensures,
+      rw (← c.get-e.ensures) c.if-e-ge-ENTRIES.false,
+    )
 
 pub take-next-requires-clause-ready : goal.take-next-requires-clause-ready
 take-next-requires-clause-ready c =

@@ -1,7 +1,5 @@
 use Rattle.segment.specs.Fields.{entry_words}
 use Rattle.settling.specs.Turns.{wrote_words}
-use native.Mathlib.Omega.{arith}
-use borrow.Author.Rules.{rules}
 use Rattle.settling.proofs.writers.take.Goals as goal
 
 pub returns-clause-put : goal.returns-clause-put

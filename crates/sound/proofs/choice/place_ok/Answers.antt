@@ -1,13 +1,10 @@
-use Prim.Native.Nat.{ℕ}
-use mathlib.Core.Path.{◌≡◌, ◌∙◌}
+use mathlib.Core.Path.{◌∙◌}
 use mathlib.Core.Logic.{⊎_elim}
 use native.Mathlib.Omega.{arith}
-use borrow.Author.Tests.{eqb-true}
 use Rattle.segment.specs.Layout.{place_row_at}
-use Rattle.sound.specs.Rows.{place_word, place_ok}
+use Rattle.sound.specs.Rows.{place_word}
 use Rattle.sound.proofs.Steps.{held}
 use Rattle.sound.proofs.quick.Settings.{good_side, closed-row, open_row, switches-off, switches-first, a-reader}
-use borrow.Author.Rules.{rules}
 use Rattle.sound.proofs.choice.place_ok.Goals as goal
 use mathlib.Core.Path.{ap}
 use mathlib.Core.Bool.{not}

@@ -1,7 +1,5 @@
-use Prim.Native.Nat.{◌+◌}
-use mathlib.Core.Path.{◌≡◌, refl, sym, ◌∙◌}
+use mathlib.Core.Path.{◌≡◌, sym, ◌∙◌}
 use native.Mathlib.Omega.{arith}
-use borrow.Author.Rules.{rules}
 use Rattle.sound.specs.Rows.{places_ok}
 use Rattle.sound.proofs.Steps.{held, failed, places-bad, places-step}
 use Rattle.sound.proofs.choice.places_ok.Goals as goal

@@ -1,9 +1,6 @@
 use Prim.Native.Nat.{◌+◌}
-use mathlib.Core.Path.{◌≡◌, refl, sym, ◌∙◌}
-use native.Mathlib.Omega.{arith}
-use borrow.Author.Rules.{rules}
+use mathlib.Core.Path.{◌≡◌}
 use Rattle.sound.specs.Rows.{places_ok}
-use Rattle.sound.proofs.Steps.{held, failed, places-bad, places-step}
 use Rattle.sound.proofs.choice.places_ok.Given as goal
 
 abbrev pub invariant-loop-left : goal.invariant-loop-left

@@ -1,5 +1,4 @@
 use Rattle.sound.specs.Walks.{free_entry}
-use borrow.Author.Rules.{rules}
 use Rattle.sound.proofs.entries.free_entry.Goals as goal
 
 pub returns : goal.returns

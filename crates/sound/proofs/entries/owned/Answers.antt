@@ -3,7 +3,6 @@ use borrow.Author.Tests.{lt-ltb, le-ltb, eq-eqb, ne_eqb}
 use Rattle.sound.specs.Rows.{side_at}
 use Rattle.sound.specs.Walks.{entry_word, place_in}
 use Rattle.sound.specs.Parts.{owned}
-use borrow.Author.Rules.{rules}
 use Rattle.sound.proofs.entries.owned.Goals as goal
 
 pub returns-then-i : goal.returns-then-i

@@ -4,7 +4,6 @@ use Rattle.laws.specs.Bounds.{least_refusal}
 use Rattle.sound.specs.Rows.{side_at}
 use Rattle.sound.specs.Walks.{entry_word, place_in, size_in, port_entry}
 use Rattle.sound.proofs.Steps.{held, failed}
-use borrow.Author.Rules.{rules}
 use Rattle.sound.proofs.entries.port_entry.Goals as goal
 use mathlib.Core.Path.{ap}
 use mathlib.Core.Bool.{not}

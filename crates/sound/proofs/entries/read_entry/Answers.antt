@@ -3,7 +3,6 @@ use borrow.Author.Tests.{le-leb, lt-leb}
 use Rattle.sound.specs.Walks.{entry_word, read_entry}
 use Rattle.sound.specs.Parts.{owned}
 use Rattle.sound.proofs.Steps.{held, failed}
-use borrow.Author.Rules.{rules}
 use Rattle.sound.proofs.entries.read_entry.Goals as goal
 use mathlib.Core.Path.{ap}
 use mathlib.Core.Bool.{not}

@@ -2,7 +2,6 @@ use mathlib.Core.Bool.{and-false}
 use borrow.Author.Tests.{lt-ltb, le-ltb, le-leb, lt-leb, eq-eqb, ne_eqb}
 use Rattle.sound.specs.Walks.{entry_word, place_in, timer_entry}
 use Rattle.sound.proofs.Steps.{held, failed}
-use borrow.Author.Rules.{rules}
 use Rattle.sound.proofs.entries.timer_entry.Goals as goal
 use mathlib.Core.Path.{ap}
 use mathlib.Core.Bool.{not}

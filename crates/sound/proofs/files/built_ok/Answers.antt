@@ -1,7 +1,6 @@
 use Rattle.sound.specs.Rows.{geo_at}
 use Rattle.sound.specs.Sound.{built_ok}
-use Rattle.sound.proofs.Steps.{held, failed, and_first}
-use borrow.Author.Rules.{rules}
+use Rattle.sound.proofs.Steps.{held, failed}
 use Rattle.sound.proofs.files.built_ok.Goals as goal
 use mathlib.Core.Path.{ap}
 use mathlib.Core.Bool.{not}

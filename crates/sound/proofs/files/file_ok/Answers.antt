@@ -1,6 +1,5 @@
 use mathlib.Core.Path.{sym, ◌∙◌}
 use Rattle.sound.proofs.Geometries.{built-file, unbuilt-file}
-use borrow.Author.Rules.{rules}
 use Rattle.sound.proofs.files.file_ok.Goals as goal
 
 pub returns-then-file_word-ge1 : goal.returns-then-file_word-ge1

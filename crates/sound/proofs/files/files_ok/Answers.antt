@@ -1,8 +1,5 @@
-use Prim.Native.Nat.{◌+◌}
-use mathlib.Core.Path.{◌≡◌, refl, sym, ◌∙◌}
+use mathlib.Core.Path.{◌≡◌, sym, ◌∙◌}
 use native.Mathlib.Omega.{arith}
-use borrow.Author.Rules.{rules}
-use Rattle.rules.specs.Limits.{files}
 use Rattle.sound.specs.Sound.{files_ok}
 use Rattle.sound.proofs.Steps.{held, failed}
 use Rattle.sound.proofs.Geometries.{files-bad, files-step}

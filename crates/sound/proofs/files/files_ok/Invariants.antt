@@ -1,11 +1,7 @@
 use Prim.Native.Nat.{◌+◌}
-use mathlib.Core.Path.{◌≡◌, refl, sym, ◌∙◌}
-use native.Mathlib.Omega.{arith}
-use borrow.Author.Rules.{rules}
+use mathlib.Core.Path.{◌≡◌}
 use Rattle.rules.specs.Limits.{files}
 use Rattle.sound.specs.Sound.{files_ok}
-use Rattle.sound.proofs.Steps.{held, failed}
-use Rattle.sound.proofs.Geometries.{files-bad, files-step}
 use Rattle.sound.proofs.files.files_ok.Given as goal
 
 abbrev pub invariant-loop-left : goal.invariant-loop-left

@@ -1,9 +1,6 @@
 use mathlib.Core.Path.{sym}
-use native.Mathlib.Omega.{arith}
 use borrow.Author.Tests.{le-leb, lt-leb}
 use Rattle.rules.specs.Geometry.{capacity}
-use Rattle.sound.proofs.Geometries.{few-places}
-use borrow.Author.Rules.{rules}
 use Rattle.sound.proofs.files.room_ok.Goals as goal
 
 pub returns-then-ample : goal.returns-then-ample

@@ -1,8 +1,6 @@
-use mathlib.Core.Bool.{and-false}
-use borrow.Author.Tests.{eq-eqb, ne_eqb}
+use borrow.Author.Tests.{eq-eqb}
 use Rattle.sound.specs.Rows.{geo_at}
 use Rattle.sound.proofs.Steps.{held, failed}
-use borrow.Author.Rules.{rules}
 use Rattle.sound.proofs.files.rows_ok.Goals as goal
 use mathlib.Core.Path.{ap}
 use mathlib.Core.Bool.{not}

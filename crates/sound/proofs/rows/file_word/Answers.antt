@@ -1,5 +1,4 @@
 use Rattle.sound.specs.Rows.{file_word}
-use borrow.Author.Rules.{rules}
 use Rattle.sound.proofs.rows.file_word.Goals as goal
 
 pub returns : goal.returns

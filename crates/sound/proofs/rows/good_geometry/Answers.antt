@@ -1,10 +1,7 @@
 use mathlib.Core.Bool.{and-false}
-use native.Mathlib.Omega.{arith}
 use borrow.Author.Tests.{le-leb, lt-leb}
 use Rattle.rules.specs.Geometry.{within, capacity}
-use Rattle.geometry.proofs.Sizes.{product-most}
 use Rattle.sound.specs.Rows.{good_geo}
-use borrow.Author.Rules.{rules}
 use Rattle.sound.proofs.rows.good_geometry.Goals as goal
 
 pub returns-then-words-lt1 : goal.returns-then-words-lt1

@@ -2,7 +2,6 @@ use mathlib.Core.Bool.{and-false}
 use borrow.Author.Tests.{le-leb, lt-leb}
 use Rattle.sound.specs.Rows.{side_at, good_place}
 use Rattle.sound.proofs.Steps.{held, failed}
-use borrow.Author.Rules.{rules}
 use Rattle.sound.proofs.rows.good_place.Goals as goal
 use mathlib.Core.Path.{ap}
 use mathlib.Core.Bool.{not}

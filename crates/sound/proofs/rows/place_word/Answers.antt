@@ -1,5 +1,4 @@
 use Rattle.sound.specs.Rows.{place_word}
-use borrow.Author.Rules.{rules}
 use Rattle.sound.proofs.rows.place_word.Goals as goal
 
 pub returns : goal.returns

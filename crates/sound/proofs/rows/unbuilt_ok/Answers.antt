@@ -1,6 +1,5 @@
 use Rattle.sound.specs.Rows.{unbuilt_ok}
 use Rattle.sound.proofs.Steps.{held, failed}
-use borrow.Author.Rules.{rules}
 use Rattle.sound.proofs.rows.unbuilt_ok.Goals as goal
 use mathlib.Core.Path.{ap}
 use mathlib.Core.Bool.{not}

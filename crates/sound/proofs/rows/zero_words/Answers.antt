@@ -1,6 +1,5 @@
 use mathlib.Core.Path.{◌∙◌}
 use Rattle.sound.proofs.Bytes.{zero-bytes}
-use borrow.Author.Rules.{rules}
 use Rattle.sound.proofs.rows.zero_words.Goals as goal
 
 pub returns : goal.returns

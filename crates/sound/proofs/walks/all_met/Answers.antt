@@ -1,11 +1,8 @@
 use native.Mathlib.Omega.{arith}
 use mathlib.Core.Path.{◌≡◌}
-use borrow.Author.Rules.{rules}
-use Prim.Native.Nat.{◌≤◌}
-use Rattle.rules.specs.Limits.{entries}
 use Rattle.sound.specs.Walks.{all_met}
 use Rattle.sound.proofs.Steps.{met-bad, met-step}
-use Rattle.words.proofs.Ors.{Sofar, sofar-start, sofar-on, sofar-end, xor_same}
+use Rattle.words.proofs.Ors.{sofar-start, sofar-on, sofar-end, xor_same}
 use Rattle.sound.proofs.walks.all_met.Goals as goal
 
 pub loop-n-init : goal.loop-n-init

@@ -1,11 +1,7 @@
-use native.Mathlib.Omega.{arith}
-use mathlib.Core.Path.{◌≡◌}
-use borrow.Author.Rules.{rules}
 use Prim.Native.Nat.{◌≤◌}
 use Rattle.rules.specs.Limits.{entries}
 use Rattle.sound.specs.Walks.{all_met}
-use Rattle.sound.proofs.Steps.{met-bad, met-step}
-use Rattle.words.proofs.Ors.{Sofar, sofar-start, sofar-on, sofar-end, xor_same}
+use Rattle.words.proofs.Ors.{Sofar}
 use Rattle.sound.proofs.walks.all_met.Given as goal
 
 abbrev pub invariant-loop-n : goal.invariant-loop-n

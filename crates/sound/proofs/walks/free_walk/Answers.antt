@@ -1,10 +1,5 @@
-use borrow.Author.Rules.{rules}
-use mathlib.Core.Path.{◌≡◌, refl, sym, ◌∙◌}
+use mathlib.Core.Path.{◌≡◌, sym, ◌∙◌}
 use native.Mathlib.Omega.{arith}
-use mathlib.Core.List.{List}
-use Prim.Native.Nat.{ℕ, ◌+◌, ◌≤◌, ◌<◌}
-use Rattle.rules.specs.Limits.{entries}
-use Rattle.segment.specs.Layout.{file_rows}
 use Rattle.sound.specs.Walks.{free_walk}
 use Rattle.sound.proofs.Steps.{held, failed, free-end, met-before, unfit, both-held}
 use Rattle.sound.proofs.quick.Onward.{slot-holds, low_byte, high_byte, end_low, from-bad, from-good}
@@ -48,18 +43,17 @@ returns-then-not-free_entry c =
     (unfit c.if-seen-e-ne0.false (failed c.free_entry.ensures (ap not c.if-not-free_entry.true))))
 
 pub loop-left-preserved : goal.loop-left-preserved
-loop-left-preserved c =
-    (
-      omega arith,
-      omega arith,
-      omega arith,
-      λ b.
-          c.loop-left.invariant.3 b
-          ∙ slot-holds _ _ b _ _ _ (low_byte _ _ _ c.number-v.ensures.0 c.if-s-p-ne0.false) c.loop-left-test.true c.if-v-ge-ENTRY_COUNT.false
-          ∙ c.in_order-e.ensures.3 b
-          ∙ from-good _ _ b _ _
-          (both-held c.if-seen-e-ne0.false (held c.free_entry.ensures (ap not c.if-not-free_entry.false))),
-    )
+loop-left-preserved c = (
+  omega arith,
+  omega arith,
+  omega arith,
+  λ b.
+      c.loop-left.invariant.3 b
+      ∙ slot-holds _ _ b _ _ _ (low_byte _ _ _ c.number-v.ensures.0 c.if-s-p-ne0.false) c.loop-left-test.true c.if-v-ge-ENTRY_COUNT.false
+      ∙ c.in_order-e.ensures.3 b
+      ∙ from-good _ _ b _ _
+      (both-held c.if-seen-e-ne0.false (held c.free_entry.ensures (ap not c.if-not-free_entry.false))),
+)
 
 pub returns : goal.returns
 unfolding free_walk

@@ -1,13 +1,9 @@
-use borrow.Author.Rules.{rules}
-use mathlib.Core.Path.{◌≡◌, refl, sym, ◌∙◌}
-use native.Mathlib.Omega.{arith}
+use mathlib.Core.Path.{◌≡◌}
 use mathlib.Core.List.{List}
 use Prim.Native.Nat.{ℕ, ◌+◌, ◌≤◌, ◌<◌}
 use Rattle.rules.specs.Limits.{entries}
 use Rattle.segment.specs.Layout.{file_rows}
 use Rattle.sound.specs.Walks.{free_walk}
-use Rattle.sound.proofs.Steps.{held, failed, free-end, met-before, unfit, both-held}
-use Rattle.sound.proofs.quick.Onward.{slot-holds, low_byte, high_byte, end_low, from-bad, from-good}
 use Rattle.sound.proofs.walks.free_walk.Given as goal
 
 abbrev pub invariant-loop-left : goal.invariant-loop-left

@@ -1,7 +1,6 @@
 use borrow.Author.Tests.{eq-eqb, ne_eqb}
 use mathlib.Core.Path.{sym}
 use Rattle.sound.proofs.Steps.{held, failed, port-end, port-bad, port-good}
-use borrow.Author.Rules.{rules}
 use Rattle.sound.proofs.walks.port_walk.Goals as goal
 use mathlib.Core.Path.{ap}
 use mathlib.Core.Bool.{not}

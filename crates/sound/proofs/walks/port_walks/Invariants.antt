@@ -1,10 +1,7 @@
-use native.Mathlib.Omega.{arith}
-use borrow.Author.Rules.{rules}
-use mathlib.Core.Path.{◌≡◌, refl, sym, ◌∙◌}
-use Prim.Native.Nat.{◌+◌, ◌-◌, ◌≤◌}
+use mathlib.Core.Path.{◌≡◌}
+use Prim.Native.Nat.{◌-◌, ◌≤◌}
 use Rattle.segment.specs.Layout.{desk_places}
 use Rattle.sound.specs.Walks.{port_walks}
-use Rattle.sound.proofs.Steps.{well, ill, ports-bad, ports-step}
 use Rattle.sound.proofs.walks.port_walks.Given as goal
 
 abbrev pub invariant-loop-i : goal.invariant-loop-i

@@ -1,9 +1,5 @@
 use native.Mathlib.Omega.{arith}
-use borrow.Author.Rules.{rules}
-use mathlib.Core.Path.{◌≡◌, refl, sym, ◌∙◌}
-use Prim.Native.Nat.{◌+◌, ◌<◌}
-use Rattle.rules.specs.Limits.{entries}
-use Rattle.segment.specs.Layout.{file_rows}
+use mathlib.Core.Path.{◌≡◌, sym, ◌∙◌}
 use Rattle.sound.specs.Walks.{entry_word, place_in, queue_walk}
 use Rattle.sound.proofs.Steps.{held, failed, queue-end, queue-bad, queue-step, queue-place, met-before, unfit, both-held}
 use Rattle.sound.proofs.walks.queue_walk.Goals as goal
@@ -40,14 +36,13 @@ bounds-busy-i c =
 
 pub loop-left-preserved : goal.loop-left-preserved
 unfolding place_in entry_word
-loop-left-preserved c =
-    (
-      omega arith,
-      rw c.get-i.ensures
-          (c.loop-left.invariant.1
-          ∙ queue-step _ _ _ _ _ _ _ c.get-v.ensures _ c.loop-left-test.true c.if-v-ge-ENTRIES.false
-          (both-held c.if-seen-e-ne0.false (held c.queue_entry.ensures (ap not c.if-not-queue_entry.false)))),
-    )
+loop-left-preserved c = (
+  omega arith,
+  rw c.get-i.ensures
+      (c.loop-left.invariant.1
+      ∙ queue-step _ _ _ _ _ _ _ c.get-v.ensures _ c.loop-left-test.true c.if-v-ge-ENTRIES.false
+      (both-held c.if-seen-e-ne0.false (held c.queue_entry.ensures (ap not c.if-not-queue_entry.false)))),
+)
 
 pub returns : goal.returns
 unfolding queue_walk

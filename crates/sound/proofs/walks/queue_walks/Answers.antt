@@ -1,7 +1,6 @@
 use native.Mathlib.Omega.{arith}
-use borrow.Author.Rules.{rules}
-use mathlib.Core.Path.{◌≡◌, refl, sym, ◌∙◌}
-use Prim.Native.Nat.{◌+◌, ◌-◌, ◌≤◌}
+use mathlib.Core.Path.{◌≡◌, sym, ◌∙◌}
+use Prim.Native.Nat.{◌+◌, ◌-◌}
 use Rattle.sound.specs.Walks.{queue_walks}
 use Rattle.sound.proofs.Steps.{well, ill, queues-bad, queues-step}
 use Rattle.sound.proofs.walks.queue_walks.Goals as goal

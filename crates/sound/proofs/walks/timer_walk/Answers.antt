@@ -1,9 +1,5 @@
 use native.Mathlib.Omega.{arith}
-use borrow.Author.Rules.{rules}
-use mathlib.Core.Path.{◌≡◌, refl, sym, ◌∙◌}
-use Prim.Native.Nat.{◌+◌, ◌<◌}
-use Rattle.rules.specs.Limits.{entries}
-use Rattle.segment.specs.Layout.{file_rows}
+use mathlib.Core.Path.{◌≡◌, sym, ◌∙◌}
 use Rattle.sound.specs.Walks.{entry_word, place_in, timer_walk}
 use Rattle.sound.proofs.Steps.{held, failed, timer-end, timer-bad, timer-step, timer-place, met-before, unfit, both-held}
 use Rattle.sound.proofs.walks.timer_walk.Goals as goal
@@ -38,15 +34,14 @@ bounds-busy-i c =
 
 pub loop-left-preserved : goal.loop-left-preserved
 unfolding place_in entry_word
-loop-left-preserved c =
-    (
-      omega arith,
-      rw (c.get-i.ensures, c.get-low.ensures)
-          (c.loop-left.invariant.1
-          ∙ timer-step _ _ _ _ _ _ c.get-v.ensures _ c.loop-left-test.true c.if-v-ge-ENTRIES.false
-          (both-held c.if-seen-e-ne0.false
-          (held c.timer_entry.ensures (ap not c.if-not-timer_entry.false)))),
-    )
+loop-left-preserved c = (
+  omega arith,
+  rw (c.get-i.ensures, c.get-low.ensures)
+      (c.loop-left.invariant.1
+      ∙ timer-step _ _ _ _ _ _ c.get-v.ensures _ c.loop-left-test.true c.if-v-ge-ENTRIES.false
+      (both-held c.if-seen-e-ne0.false
+      (held c.timer_entry.ensures (ap not c.if-not-timer_entry.false)))),
+)
 
 pub returns : goal.returns
 unfolding timer_walk

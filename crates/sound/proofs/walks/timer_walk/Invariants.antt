@@ -1,11 +1,8 @@
-use native.Mathlib.Omega.{arith}
-use borrow.Author.Rules.{rules}
-use mathlib.Core.Path.{◌≡◌, refl, sym, ◌∙◌}
+use mathlib.Core.Path.{◌≡◌}
 use Prim.Native.Nat.{◌+◌, ◌<◌}
 use Rattle.rules.specs.Limits.{entries}
 use Rattle.segment.specs.Layout.{file_rows}
-use Rattle.sound.specs.Walks.{entry_word, place_in, timer_walk}
-use Rattle.sound.proofs.Steps.{held, failed, timer-end, timer-bad, timer-step, timer-place, met-before, unfit, both-held}
+use Rattle.sound.specs.Walks.{timer_walk}
 use Rattle.sound.proofs.walks.timer_walk.Given as goal
 
 abbrev pub invariant-loop-left : goal.invariant-loop-left

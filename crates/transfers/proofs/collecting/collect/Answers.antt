@@ -6,7 +6,6 @@ use Rattle.rules.specs.Limits.{answer_head}
 use Rattle.rules.specs.Allocation.{place_of}
 use Rattle.transfers.proofs.Collects.{Collecting, Seen, collect-fit, collect-waits, entry-status, entry-size, entry-ends, entry_gives}
 use native.Mathlib.Omega.{arith}
-use borrow.Author.Rules.{rules}
 use Rattle.memory.specs.Memories.{memories}
 use Rattle.transfers.proofs.collecting.collect.Goals as goal
 use Rattle.transfers.proofs.collecting.collect.Goals.{Start, After-read_entry-m}

@@ -3,11 +3,9 @@ use mathlib.Core.List.{List}
 use mathlib.Core.Path.{◌≡◌, refl, sym, ap, ◌∙◌}
 use Prim.Native.Nat.{ℕ}
 use native.Mathlib.Omega.{arith}
-use borrow.Author.Rules.{rules}
 use lib.Dec.{ltb}
 use Rattle.rules.specs.Desk.{Desk}
 use Rattle.rules.specs.Allocation.{Alloc, place_of}
-use Rattle.segment.specs.declared.PlaceRow.{PlaceRow}
 use Rattle.segment.specs.Fields.{place_at}
 use Rattle.accessors.specs.Sides.{count_side}
 use Rattle.memory.specs.Memories.{Memories, memories}
@@ -15,7 +13,7 @@ use Rattle.memory.specs.Fine.{StandsFor}
 use Rattle.transfers.specs.Rows.{begun_segment, may_wait_row}
 use Rattle.transfers.proofs.Fits.{Fit}
 use Rattle.transfers.proofs.Rests.{gave-of}
-use Rattle.transfers.proofs.Handing.{Reading, Fetches, Served, Unserved, read-fit, read_held, read-side, read-rowed, read_short, read-gives, read-free, read-waits, read-ends, read-counts}
+use Rattle.transfers.proofs.Handing.{Reading, Served, Unserved, read-fit, read_held, read-side, read-rowed, read_short, read-gives, read-free, read-waits, read-ends, read-counts}
 use Rattle.transfers.proofs.reading.read.Goals as goal
 use Rattle.transfers.proofs.reading.read.Goals.{Start, After-share, After-begin_read-2, After-may_wait}
 

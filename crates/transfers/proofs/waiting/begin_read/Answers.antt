@@ -1,7 +1,6 @@
 use Rattle.words.specs.Word.{Bytes}
 use Rattle.transfers.proofs.Spent.{read-begun}
 use native.Mathlib.Omega.{arith}
-use borrow.Author.Rules.{rules}
 use Rattle.transfers.proofs.waiting.begin_read.Goals as goal
 
 pub returns : goal.returns

@@ -1,7 +1,6 @@
 use Rattle.words.specs.Word.{Bytes}
 use Rattle.transfers.proofs.Spent.{write-begun}
 use native.Mathlib.Omega.{arith}
-use borrow.Author.Rules.{rules}
 use Rattle.transfers.proofs.waiting.begin_write.Goals as goal
 
 pub returns : goal.returns

@@ -1,7 +1,6 @@
 use native.Mathlib.Omega.{arith}
 use Rattle.transfers.specs.Rows.{write_entry}
 use Rattle.segment.specs.Fields.{entry_words}
-use borrow.Author.Rules.{rules}
 use Rattle.transfers.proofs.waiting.wait_write.Goals as goal
 
 pub wait-requires-clause-l_lt_list_count : goal.wait-requires-clause-l_lt_list_count

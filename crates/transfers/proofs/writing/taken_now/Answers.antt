@@ -1,7 +1,5 @@
 use Rattle.transfers.proofs.Tests.{admits-not, admits-any, admits-so}
 use Rattle.settling.proofs.Beside.{count_most}
-use mathlib.Core.Bool.{true≢false}
-use borrow.Author.Rules.{rules}
 use Rattle.transfers.proofs.writing.taken_now.Goals as goal
 
 pub returns-then-get-lt-ENTRIES-clause-done : goal.returns-then-get-lt-ENTRIES-clause-done

@@ -1,6 +1,5 @@
 use Rattle.words.proofs.Joins.{join-eight, after-four}
 use Rattle.words.proofs.Led.{led-eight, third-of-eight, last-of-eight}
-use borrow.Author.Rules.{rules}
 use Rattle.words.proofs.joined.eight.Goals as goal
 
 pub returns : goal.returns

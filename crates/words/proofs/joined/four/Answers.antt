@@ -1,7 +1,6 @@
 use native.Mathlib.Omega.{arith}
 use Rattle.words.proofs.Joins.{join-four, after_two}
 use Rattle.words.proofs.Led.{led-four, last-of-four}
-use borrow.Author.Rules.{rules}
 use Rattle.words.proofs.joined.four.Goals as goal
 
 pub returns : goal.returns

@@ -1,7 +1,6 @@
 use Rattle.words.proofs.Led.{led-two}
 use native.Mathlib.Omega.{arith}
 use Rattle.words.proofs.Joins.{one_byte, join-two}
-use borrow.Author.Rules.{rules}
 use Rattle.words.proofs.joined.two.Goals as goal
 
 pub returns : goal.returns

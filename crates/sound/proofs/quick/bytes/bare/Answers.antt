@@ -1,5 +1,4 @@
 use Rattle.sound.proofs.quick.Entry.{first-bad, second-bad, third}
-use borrow.Author.Rules.{rules}
 use Rattle.sound.proofs.quick.bytes.bare.Goals as goal
 
 pub returns-then-eight-ne0 : goal.returns-then-eight-ne0

@@ -1,6 +1,5 @@
 use mathlib.Core.Path.{◌∙◌}
 use Rattle.sound.proofs.Bytes.{zero-bytes}
-use borrow.Author.Rules.{rules}
 use Rattle.sound.proofs.quick.bytes.two_bare.Goals as goal
 
 pub returns : goal.returns

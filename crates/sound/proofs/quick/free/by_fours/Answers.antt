@@ -1,10 +1,7 @@
-use Prim.Native.Nat.{◌*◌, ◌-◌, ◌≤◌}
-use mathlib.Core.Path.{◌≡◌, refl, ◌∙◌}
+use Prim.Native.Nat.{◌-◌}
+use mathlib.Core.Path.{◌∙◌}
 use native.Mathlib.Omega.{arith}
-use Rattle.segment.specs.Layout.{link_at}
-use Rattle.sound.specs.quick.Ends.{ends_from}
 use Rattle.sound.proofs.quick.Ends.{ends-four, fewer-ends}
-use borrow.Author.Rules.{rules}
 use Rattle.sound.proofs.quick.free.by_fours.Goals as goal
 
 pub loop-last-preserved : goal.loop-last-preserved

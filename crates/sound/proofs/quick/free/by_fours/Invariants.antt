@@ -1,10 +1,7 @@
 use Prim.Native.Nat.{◌*◌, ◌-◌, ◌≤◌}
-use mathlib.Core.Path.{◌≡◌, refl, ◌∙◌}
-use native.Mathlib.Omega.{arith}
+use mathlib.Core.Path.{◌≡◌}
 use Rattle.segment.specs.Layout.{link_at}
 use Rattle.sound.specs.quick.Ends.{ends_from}
-use Rattle.sound.proofs.quick.Ends.{ends-four, fewer-ends}
-use borrow.Author.Rules.{rules}
 use Rattle.sound.proofs.quick.free.by_fours.Given as goal
 
 abbrev pub invariant-loop-last : goal.invariant-loop-last

@@ -1,13 +1,8 @@
-use Prim.Native.Nat.{◌≤◌, ◌<◌}
-use mathlib.Core.Path.{◌≡◌, refl, sym, ◌∙◌}
+use mathlib.Core.Path.{refl, sym, ◌∙◌}
 use native.Mathlib.Omega.{arith}
-use Rattle.rules.specs.Limits.{entries}
-use Rattle.segment.specs.Layout.{free_list, file_rows}
-use Rattle.sound.specs.quick.Ends.{free_ends}
 use Rattle.sound.proofs.Steps.{held, failed}
 use Rattle.sound.proofs.quick.Onward.{low_byte, high-place}
 use Rattle.sound.proofs.quick.Ends.{from-off, from_on, ends-off, ends_on, ends-nil, ends_next}
-use borrow.Author.Rules.{rules}
 use Rattle.sound.proofs.quick.free.walk.Goals as goal
 use mathlib.Core.Path.{ap}
 use mathlib.Core.Bool.{not}
@@ -52,16 +47,15 @@ returns-then-not-free_entry-2 c =
     ∙ from-off _ _ _ (failed c.free_entry-in-loop-left.ensures (ap not c.if-not-free_entry-2.true)))
 
 pub loop-left-preserved : goal.loop-left-preserved
-loop-left-preserved c =
-    (
-      omega arith,
-      omega arith,
-      omega arith,
-      c.loop-left.invariant.3
-          ∙ ends_on _ _ _ _ (low_byte _ _ _ c.number-v.ensures.0 c.if-s-p-ne0.false) c.loop-left-test.true c.if-v-ge-ENTRY_COUNT.false
-          ∙ c.along-e.ensures.3
-          ∙ from_on _ _ _ (held c.free_entry-in-loop-left.ensures (ap not c.if-not-free_entry-2.false)),
-    )
+loop-left-preserved c = (
+  omega arith,
+  omega arith,
+  omega arith,
+  c.loop-left.invariant.3
+      ∙ ends_on _ _ _ _ (low_byte _ _ _ c.number-v.ensures.0 c.if-s-p-ne0.false) c.loop-left-test.true c.if-v-ge-ENTRY_COUNT.false
+      ∙ c.along-e.ensures.3
+      ∙ from_on _ _ _ (held c.free_entry-in-loop-left.ensures (ap not c.if-not-free_entry-2.false)),
+)
 
 pub returns : goal.returns
 returns c = rw c.get.ensures (ends-nil _ _ _ c.loop-left-test.false ∙ sym c.loop-left.invariant.3)

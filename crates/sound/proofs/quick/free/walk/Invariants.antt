@@ -1,13 +1,8 @@
 use Prim.Native.Nat.{◌≤◌, ◌<◌}
-use mathlib.Core.Path.{◌≡◌, refl, sym, ◌∙◌}
-use native.Mathlib.Omega.{arith}
+use mathlib.Core.Path.{◌≡◌}
 use Rattle.rules.specs.Limits.{entries}
 use Rattle.segment.specs.Layout.{free_list, file_rows}
 use Rattle.sound.specs.quick.Ends.{free_ends}
-use Rattle.sound.proofs.Steps.{held, failed}
-use Rattle.sound.proofs.quick.Onward.{low_byte, high-place}
-use Rattle.sound.proofs.quick.Ends.{from-off, from_on, ends-off, ends_on, ends-nil, ends_next}
-use borrow.Author.Rules.{rules}
 use Rattle.sound.proofs.quick.free.walk.Given as goal
 
 abbrev pub invariant-loop-left : goal.invariant-loop-left

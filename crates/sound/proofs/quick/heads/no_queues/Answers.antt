@@ -3,7 +3,6 @@ use borrow.Author.Tests.{eq-eqb, ne_eqb}
 use Rattle.rules.specs.Limits.{files}
 use Rattle.segment.specs.Layout.{read_queues, write_queues}
 use Rattle.sound.proofs.quick.Nils.{queues-none}
-use borrow.Author.Rules.{rules}
 use Rattle.sound.proofs.quick.heads.no_queues.Goals as goal
 
 pub returns-then-side-eq-WRITER : goal.returns-then-side-eq-WRITER

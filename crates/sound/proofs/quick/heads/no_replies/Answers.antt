@@ -1,7 +1,6 @@
 use mathlib.Core.Path.{sym, ◌∙◌}
 use Rattle.segment.specs.Layout.{desk_places}
 use Rattle.sound.proofs.quick.Nils.{ports-none}
-use borrow.Author.Rules.{rules}
 use Rattle.sound.proofs.quick.heads.no_replies.Goals as goal
 
 pub returns : goal.returns

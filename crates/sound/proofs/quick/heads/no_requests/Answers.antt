@@ -1,6 +1,5 @@
 use mathlib.Core.Path.{sym, ◌∙◌}
 use Rattle.sound.proofs.quick.Nils.{lists-free}
-use borrow.Author.Rules.{rules}
 use Rattle.sound.proofs.quick.heads.no_requests.Goals as goal
 
 pub returns : goal.returns

@@ -1,9 +1,6 @@
 use native.Mathlib.Omega.{arith}
-use mathlib.Core.Path.{◌≡◌, refl}
-use borrow.Author.Rules.{rules}
-use Prim.Native.Nat.{◌+◌}
-use Rattle.sound.specs.quick.Ones.{ones}
-use Rattle.words.proofs.Ors.{Sofar, sofar-start, sofar-on, sofar-end, xor_same}
+use mathlib.Core.Path.{refl}
+use Rattle.words.proofs.Ors.{sofar-start, sofar-on, sofar-end, xor_same}
 use Rattle.sound.proofs.quick.Nils.{ones_step, ones-bad, ones-end}
 use Rattle.sound.proofs.quick.heads.ones.Goals as goal
 

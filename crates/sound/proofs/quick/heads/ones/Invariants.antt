@@ -1,10 +1,7 @@
-use native.Mathlib.Omega.{arith}
-use mathlib.Core.Path.{◌≡◌, refl}
-use borrow.Author.Rules.{rules}
+use mathlib.Core.Path.{◌≡◌}
 use Prim.Native.Nat.{◌+◌}
 use Rattle.sound.specs.quick.Ones.{ones}
-use Rattle.words.proofs.Ors.{Sofar, sofar-start, sofar-on, sofar-end, xor_same}
-use Rattle.sound.proofs.quick.Nils.{ones_step, ones-bad, ones-end}
+use Rattle.words.proofs.Ors.{Sofar}
 use Rattle.sound.proofs.quick.heads.ones.Given as goal
 
 abbrev pub invariant-loop-left : goal.invariant-loop-left

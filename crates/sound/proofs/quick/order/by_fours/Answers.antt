@@ -1,11 +1,7 @@
-use borrow.Author.Rules.{rules}
-use mathlib.Core.Path.{◌≡◌, refl, ◌∙◌}
+use mathlib.Core.Path.{◌∙◌}
 use native.Mathlib.Omega.{arith}
-use mathlib.Core.List.{List}
-use Prim.Native.Nat.{ℕ, ◌*◌, ◌-◌, ◌≤◌}
-use Rattle.segment.specs.Layout.{link_at}
-use Rattle.sound.specs.quick.Onward.{free_from}
-use Rattle.sound.proofs.quick.Onward.{stays, onto-four, fewer}
+use Prim.Native.Nat.{◌-◌}
+use Rattle.sound.proofs.quick.Onward.{onto-four, fewer}
 use Rattle.sound.proofs.quick.order.by_fours.Goals as goal
 
 pub loop-last-preserved : goal.loop-last-preserved

@@ -1,11 +1,8 @@
-use borrow.Author.Rules.{rules}
-use mathlib.Core.Path.{◌≡◌, refl, ◌∙◌}
-use native.Mathlib.Omega.{arith}
+use mathlib.Core.Path.{◌≡◌}
 use mathlib.Core.List.{List}
 use Prim.Native.Nat.{ℕ, ◌*◌, ◌-◌, ◌≤◌}
 use Rattle.segment.specs.Layout.{link_at}
 use Rattle.sound.specs.quick.Onward.{free_from}
-use Rattle.sound.proofs.quick.Onward.{stays, onto-four, fewer}
 use Rattle.sound.proofs.quick.order.by_fours.Given as goal
 
 abbrev pub invariant-loop-last : goal.invariant-loop-last

@@ -1,7 +1,6 @@
 use mathlib.Core.Path.{refl, ◌∙◌}
 use native.Mathlib.Omega.{arith}
-use Rattle.sound.proofs.quick.Onward.{stays, onto, fewer}
-use borrow.Author.Rules.{rules}
+use Rattle.sound.proofs.quick.Onward.{onto, fewer}
 use Rattle.sound.proofs.quick.order.by_one.Goals as goal
 
 pub returns : goal.returns

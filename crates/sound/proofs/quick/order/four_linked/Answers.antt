@@ -1,6 +1,5 @@
 use Rattle.words.proofs.Ors.{or_left, or_right}
 use Rattle.sound.proofs.quick.Onward.{four-of-two}
-use borrow.Author.Rules.{rules}
 use Rattle.sound.proofs.quick.order.four_linked.Goals as goal
 
 pub returns : goal.returns

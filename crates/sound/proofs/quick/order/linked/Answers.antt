@@ -1,5 +1,4 @@
 use Rattle.sound.proofs.quick.Onward.{led-twenty}
-use borrow.Author.Rules.{rules}
 use Rattle.sound.proofs.quick.order.linked.Goals as goal
 
 pub returns : goal.returns

@@ -1,5 +1,4 @@
 use Rattle.sound.proofs.quick.Onward.{led-forty}
-use borrow.Author.Rules.{rules}
 use Rattle.sound.proofs.quick.order.two_linked.Goals as goal
 
 pub returns : goal.returns

@@ -1,18 +1,13 @@
-use Prim.Native.Nat.{ℕ, ◌*◌, ◌<◌}
-use mathlib.Core.Path.{◌≡◌, refl, sym, ◌∙◌}
-use mathlib.Core.List.{List}
+use mathlib.Core.Path.{sym, ◌∙◌}
 use native.Mathlib.Omega.{arith}
-use Rattle.sound.specs.quick.Strides.{stops, strides, Table}
 use Rattle.sound.proofs.quick.Strides.{four-on, strides-zero}
-use borrow.Author.Rules.{rules}
 use Rattle.sound.proofs.quick.tables.by_fours.Goals as goal
 
 pub loop-left-preserved : goal.loop-left-preserved
-loop-left-preserved c =
-    (
-      omega (arith, c.requires.0 c.loop-left.at c.loop-left.invariant.0),
-      λ s t. c.loop-left.invariant.1 s t ∙ four-on s c.args.fours.now _ _ _ t c.loop-left.invariant.0 c.number-at.ensures.0 c.loop-left-test.true,
-    )
+loop-left-preserved c = (
+  omega (arith, c.requires.0 c.loop-left.at c.loop-left.invariant.0),
+  λ s t. c.loop-left.invariant.1 s t ∙ four-on s c.args.fours.now _ _ _ t c.loop-left.invariant.0 c.number-at.ensures.0 c.loop-left-test.true,
+)
 
 pub returns : goal.returns
 returns c =

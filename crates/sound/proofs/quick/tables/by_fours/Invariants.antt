@@ -1,10 +1,7 @@
 use Prim.Native.Nat.{ℕ, ◌*◌, ◌<◌}
-use mathlib.Core.Path.{◌≡◌, refl, sym, ◌∙◌}
+use mathlib.Core.Path.{◌≡◌}
 use mathlib.Core.List.{List}
-use native.Mathlib.Omega.{arith}
 use Rattle.sound.specs.quick.Strides.{stops, strides, Table}
-use Rattle.sound.proofs.quick.Strides.{four-on, strides-zero}
-use borrow.Author.Rules.{rules}
 use Rattle.sound.proofs.quick.tables.by_fours.Given as goal
 
 abbrev pub invariant-loop-left : goal.invariant-loop-left

@@ -4,7 +4,6 @@ use Rattle.segment.specs.Layout.{free_list}
 use Rattle.sound.proofs.Steps.{held, failed}
 use Rattle.sound.proofs.quick.Ends.{ends-off}
 use Rattle.sound.proofs.quick.Strides.{table-closed, table-twice, not-bare, by-strides}
-use borrow.Author.Rules.{rules}
 use Rattle.sound.proofs.quick.tables.by_tables.Goals as goal
 use mathlib.Core.Path.{ap}
 use mathlib.Core.Bool.{not}

@@ -1,6 +1,5 @@
 use Rattle.sound.proofs.quick.Strides.{eighteen}
 use Prim.Native.Nat.{◌/◌}
-use borrow.Author.Rules.{rules}
 use Rattle.sound.proofs.quick.tables.contents.Goals as goal
 
 pub returns : goal.returns

@@ -1,8 +1,5 @@
-use Prim.Native.Nat.{◌<◌}
 use native.Mathlib.Omega.{arith}
-use Rattle.sound.specs.quick.Strides.{stops}
 use Rattle.sound.proofs.quick.Strides.{tables-lead, far-off, far-on}
-use borrow.Author.Rules.{rules}
 use Rattle.sound.proofs.quick.tables.ends.Goals as goal
 
 pub returns-then-last-ge-ENTRY_COUNT : goal.returns-then-last-ge-ENTRY_COUNT

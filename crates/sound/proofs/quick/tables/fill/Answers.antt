@@ -1,12 +1,11 @@
-use Prim.Native.Nat.{ℕ, ◌-◌, ◌≤◌, ◌<◌}
+use Prim.Native.Nat.{ℕ, ◌-◌, ◌<◌}
 use mathlib.Core.Path.{◌≡◌, refl, ◌∙◌}
 use native.Mathlib.Omega.{arith}
-use lib.ListN.{length, get_or, set, length-set}
+use lib.ListN.{get_or, set, length-set}
 use Rattle.rules.specs.Limits.{entries}
-use Rattle.words.proofs.Ors.{Sofar, sofar-start, sofar-on, sofar-end}
-use Rattle.sound.specs.quick.Strides.{stops, stride, bare_from}
+use Rattle.words.proofs.Ors.{sofar-start, sofar-on, sofar-end}
+use Rattle.sound.specs.quick.Strides.{stride}
 use Rattle.sound.proofs.quick.Strides.{table_on, table-one, stride-of, stride-self, free_of, bare-on, bare-off, bare-end}
-use borrow.Author.Rules.{rules}
 use Rattle.sound.proofs.quick.tables.fill.Goals as goal
 
 pub loop-e-init : goal.loop-e-init

@@ -1,12 +1,9 @@
 use Prim.Native.Nat.{ℕ, ◌-◌, ◌≤◌, ◌<◌}
-use mathlib.Core.Path.{◌≡◌, refl, ◌∙◌}
-use native.Mathlib.Omega.{arith}
-use lib.ListN.{length, get_or, set, length-set}
+use mathlib.Core.Path.{◌≡◌}
+use lib.ListN.{length, get_or}
 use Rattle.rules.specs.Limits.{entries}
-use Rattle.words.proofs.Ors.{Sofar, sofar-start, sofar-on, sofar-end}
+use Rattle.words.proofs.Ors.{Sofar}
 use Rattle.sound.specs.quick.Strides.{stops, stride, bare_from}
-use Rattle.sound.proofs.quick.Strides.{table_on, table-one, stride-of, stride-self, free_of, bare-on, bare-off, bare-end}
-use borrow.Author.Rules.{rules}
 use Rattle.sound.proofs.quick.tables.fill.Given as goal
 
 abbrev pub invariant-loop-e : goal.invariant-loop-e

@@ -1,6 +1,5 @@
 use mathlib.Core.Path.{sym}
 use Rattle.sound.proofs.quick.Strides.{leads-entry, leads-end, leads-astray}
-use borrow.Author.Rules.{rules}
 use Rattle.sound.proofs.quick.tables.lead.Goals as goal
 
 pub returns-then-link-lt-ENTRIES : goal.returns-then-link-lt-ENTRIES

@@ -1,6 +1,5 @@
 use Prim.Native.Nat.{◌*◌, ◌-◌, ◌≤◌}
 use Rattle.rules.specs.Limits.{entries}
-use borrow.Author.Rules.{rules}
 use Rattle.sound.proofs.quick.tables.scattered.Given as goal
 
 abbrev pub invariant-loop-e : goal.invariant-loop-e

@@ -1,10 +1,7 @@
 use Prim.Native.Nat.{ℕ, ◌-◌, ◌≤◌, ◌<◌}
-use mathlib.Core.Path.{◌≡◌, ap, ◌∙◌}
-use native.Mathlib.Omega.{arith}
-use lib.ListN.{length, get_or, length-set}
+use mathlib.Core.Path.{◌≡◌}
+use lib.ListN.{length, get_or}
 use Rattle.sound.specs.quick.Strides.{stops}
-use Rattle.sound.proofs.quick.Strides.{table_on}
-use borrow.Author.Rules.{rules}
 use Rattle.sound.proofs.quick.tables.twice.Given as goal
 
 abbrev pub invariant-loop-k : goal.invariant-loop-k
