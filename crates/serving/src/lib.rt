@@ -15,13 +15,14 @@ ghost use Rattle.serving.specs.Told.{said, answers, Heard, Told};
 ghost use Rattle.memory.specs.Memories.{was, left};
 ghost use Rattle.memory.specs.Fine.{StandsFor};
 
-use std::io::{Read, Result, Write};
+use std::io;
+use std::io::{Read, Write};
 
 // The most bytes of input that are read at once.
 const IN_BYTES: usize = 65536;
 
 // Writes bytes, and sees to it that they are not kept back.
-fn write_now<O: Write>(output: &mut O, bytes: &[u8]) -> Result<()>
+fn write_now<O: Write>(output: &mut O, bytes: &[u8]) -> io::Result<()>
     ensures { OnOk result (Appends (O.contents output.old) (O.contents output.new) bytes.now) }
 {
     output.write_all(bytes)?;
@@ -158,9 +159,9 @@ fn answer_all<I: Read, O: Write, E: Write>(
     aloud: bool,
 ) -> bool
     requires { (length line.old ≡ most_held) × (length out.old ≡ out_bytes) }
-    ensures told { result ≡ true → 0 < length chunk.old → (d : Desk) (s : Alloc) → StandsFor (was segment.old blocks.old buffers.old) d s → Told (I.remaining input.old) (I.remaining input.new) (O.contents output.old) (O.contents output.new) aloud (begun d s) (left segment.new blocks.new buffers.new) }
     ensures served { Served (was segment.old blocks.old buffers.old) (left segment.new blocks.new buffers.new) }
     ensures kept { Kept (was segment.old blocks.old buffers.old) (left segment.new blocks.new buffers.new) }
+    ensures told { result ≡ true → 0 < length chunk.old → (d : Desk) (s : Alloc) → StandsFor (was segment.old blocks.old buffers.old) d s → Told (I.remaining input.old) (I.remaining input.new) (O.contents output.old) (O.contents output.new) aloud (begun d s) (left segment.new blocks.new buffers.new) }
 {
     let mut held = 0;
     let mut reads = u64::MAX;
@@ -187,9 +188,9 @@ pub fn serve<I: Read, O: Write, E: Write>(
     buffers: &mut [u8],
     aloud: bool,
 ) -> bool
-    ensures told { result ≡ true → (d : Desk) (s : Alloc) → StandsFor (was segment.old blocks.old buffers.old) d s → Told (I.remaining input.old) (I.remaining input.new) (O.contents output.old) (O.contents output.new) aloud (begun d s) (left segment.new blocks.new buffers.new) }
     ensures served { Served (was segment.old blocks.old buffers.old) (left segment.new blocks.new buffers.new) }
     ensures kept { Kept (was segment.old blocks.old buffers.old) (left segment.new blocks.new buffers.new) }
+    ensures told { result ≡ true → (d : Desk) (s : Alloc) → StandsFor (was segment.old blocks.old buffers.old) d s → Told (I.remaining input.old) (I.remaining input.new) (O.contents output.old) (O.contents output.new) aloud (begun d s) (left segment.new blocks.new buffers.new) }
 {
     let mut line = [0u8; held::MOST_HELD];
     let mut out = [0u8; feeding::OUT_BYTES];
