@@ -27,7 +27,7 @@ const PATH_BYTES: usize = 4096;
 // Room for the system's words for an error: more than the longest have.
 const WORDS_BYTES: usize = 256;
 
-// The number of the system's error for bytes that are no text. No file has such bytes for its path here.
+// The number of the system's error for bytes that are no text: std opens only a path that is UTF-8.
 const NO_TEXT: i32 = 84;
 
 // The file's number, whether a sheet is named, and how many bytes of text the sheet has.
