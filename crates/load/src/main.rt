@@ -1,20 +1,24 @@
 // load FILE SHEET < SESSION: loads FILE of a fresh desk from SHEET, then answers the frames of standard input as the event program does.
-use arguments::{NO_FILE, TEXT_BYTES, refused};
-use kinds::limits::{BLOCKS_BYTES, BUFFERS_BYTES};
-use libc::STDERR_FILENO;
-use segment::layout::SEGMENT_BYTES;
+#![tactic(auto)]
 
-fn main() {
+use arguments::{NO_FILE, TEXT_BYTES, arguments, refused};
+use kinds::limits::{BLOCKS_BYTES, BUFFERS_BYTES};
+use segment::layout::SEGMENT_BYTES;
+use serving::serve;
+use std::io::Write;
+
+fn main(rt: HostRuntime) {
     let mut segment = [0u8; SEGMENT_BYTES];
     let mut blocks = [0u8; BLOCKS_BYTES];
     let mut buffers = [0u8; BUFFERS_BYTES];
     let mut text = [0u8; TEXT_BYTES];
-    let named = arguments::arguments(&mut text);
+    let mut errors = rt.stderr();
+    let named = arguments(&rt, &mut errors, &mut text);
     if named.file == NO_FILE {
         return;
     }
     if !named.sheet {
-        io::write_all(STDERR_FILENO, b"load FILE SHEET < SESSION\n");
+        let _ = errors.write_all(b"load FILE SHEET < SESSION\n");
         return;
     }
     fresh::fresh(&mut segment, &mut blocks, &mut buffers);
@@ -27,8 +31,16 @@ fn main() {
         &text[0..n],
     );
     if status != 0 {
-        refused(b"SHEET is not a sheet", status);
+        refused(&mut errors, b"SHEET is not a sheet", status);
         return;
     }
-    serving::serve(&mut segment, &mut blocks, &mut buffers, true);
+    serve(
+        &mut rt.stdin(),
+        &mut rt.stdout(),
+        &mut errors,
+        &mut segment,
+        &mut blocks,
+        &mut buffers,
+        true,
+    );
 }

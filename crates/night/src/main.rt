@@ -1,66 +1,95 @@
 // night < SESSION: sends the frames of standard input, one hexadecimal line each, to a fresh desk, and prints its board.
 // night SEGMENT BLOCKS BUFFERS: prints the board of the three memories that a host has dumped into these files.
-use arguments::refused;
+#![tactic(auto)]
+
+use arguments::{bytes_named, is_given, refused};
 use board::BOARD_ROOM;
 use kinds::limits::{BLOCKS_BYTES, BUFFERS_BYTES};
-use libc::{STDERR_FILENO, STDOUT_FILENO};
 use segment::layout::SEGMENT_BYTES;
+use serving::serve;
+use std::io::Write;
 
-// The number of words in a command that names three files.
-const NAMED: usize = 4;
-
-fn print_board(segment: &[u8], blocks: &[u8], buffers: &[u8]) {
+fn print_board<O: Write, E: Write>(
+    output: &mut O,
+    errors: &mut E,
+    segment: &[u8],
+    blocks: &[u8],
+    buffers: &[u8],
+) {
     let mut text = [0u8; BOARD_ROOM];
     let shown = board::board(segment, blocks, buffers, &mut text);
     if shown.status != 0 {
-        refused(b"these are not the memories of a desk", shown.status);
+        refused(
+            errors,
+            b"these are not the memories of a desk",
+            shown.status,
+        );
         return;
     }
     let n = shown.length;
-    if !io::write_all(STDOUT_FILENO, &text[0..n]) {
-        io::write_all(
-            STDERR_FILENO,
-            b"standard output cannot be written: the board is lost\n",
-        );
+    if output.write_all(&text[0..n]).is_err() {
+        let _ = errors.write_all(b"standard output cannot be written: the board is lost\n");
     }
 }
 
-fn of_session() {
+fn of_session(rt: &HostRuntime) {
     let mut segment = [0u8; SEGMENT_BYTES];
     let mut blocks = [0u8; BLOCKS_BYTES];
     let mut buffers = [0u8; BUFFERS_BYTES];
+    let mut output = rt.stdout();
+    let mut errors = rt.stderr();
     fresh::fresh(&mut segment, &mut blocks, &mut buffers);
-    serving::serve(&mut segment, &mut blocks, &mut buffers, false);
-    print_board(&segment, &blocks, &buffers);
+    serve(
+        &mut rt.stdin(),
+        &mut output,
+        &mut errors,
+        &mut segment,
+        &mut blocks,
+        &mut buffers,
+        false,
+    );
+    print_board(&mut output, &mut errors, &segment, &blocks, &buffers);
 }
 
 // Prints the board of the three named files. Asks for one byte more than each memory has, so that a file that is too long is noticed.
-fn of_files() {
+fn of_files(rt: &HostRuntime) {
     let mut segment = [0u8; SEGMENT_BYTES + 1];
     let mut blocks = [0u8; BLOCKS_BYTES + 1];
     let mut buffers = [0u8; BUFFERS_BYTES + 1];
-    let first = arguments::bytes_named(1, &mut segment);
+    let mut errors = rt.stderr();
+    let first = bytes_named(rt, &mut errors, 1, &mut segment);
     if !first.found {
         return;
     }
-    let second = arguments::bytes_named(2, &mut blocks);
+    let second = bytes_named(rt, &mut errors, 2, &mut blocks);
     if !second.found {
         return;
     }
-    let third = arguments::bytes_named(3, &mut buffers);
+    let third = bytes_named(rt, &mut errors, 3, &mut buffers);
     if !third.found {
         return;
     }
     let a = first.size;
     let b = second.size;
     let c = third.size;
-    print_board(&segment[0..a], &blocks[0..b], &buffers[0..c]);
+    print_board(
+        &mut rt.stdout(),
+        &mut errors,
+        &segment[0..a],
+        &blocks[0..b],
+        &buffers[0..c],
+    );
 }
 
-fn main() {
-    if os::arg_count() == NAMED {
-        of_files();
+// Whether the command names three files, and nothing more.
+fn names_files(rt: &HostRuntime) -> bool {
+    is_given(rt, 3) && !is_given(rt, 4)
+}
+
+fn main(rt: HostRuntime) {
+    if names_files(&rt) {
+        of_files(&rt);
         return;
     }
-    of_session();
+    of_session(&rt);
 }

@@ -3,3 +3,4 @@ pub mod Parts
 pub mod Steps
 pub mod Turns
 pub mod Whole
+pub mod Told

@@ -10,6 +10,7 @@ use loading::load;
 use looking::{look, look_status};
 use saving::{SHEET_ROOM, save};
 use segment::layout::SEGMENT_BYTES;
+use std::io::Write;
 
 // Where the number of a file stands in a line, and after it that of a reader, or a sheet.
 const FILE: usize = 2;
@@ -33,14 +34,29 @@ fn without_last(n: usize) -> usize {
 }
 
 // Saves, `? FILE`: the frames of the sheet are given.
-fn call_save(segment: &[u8], blocks: &[u8], buffers: &[u8], line: &[u8], at: Played) -> Played {
+fn call_save<O: Write>(
+    output: &mut O,
+    segment: &[u8],
+    blocks: &[u8],
+    buffers: &[u8],
+    line: &[u8],
+    at: Played,
+) -> Played {
     let mut sheet = [0u8; SHEET_ROOM];
     let saved = save(segment, blocks, buffers, number(line, FILE), &mut sheet);
-    judge_status(line, saved.status, &sheet, without_last(saved.length), at)
+    judge_status(
+        output,
+        line,
+        saved.status,
+        &sheet,
+        without_last(saved.length),
+        at,
+    )
 }
 
 // Looks, `@ FILE READER`: the bytes shown are given.
-fn call_look<'a>(
+fn call_look<'a, O: Write>(
+    output: &mut O,
     segment: &[u8],
     blocks: &'a [u8],
     buffers: &'a [u8],
@@ -53,7 +69,7 @@ fn call_look<'a>(
     let part = look(segment, blocks, buffers, file, reader);
     let n = hexadecimal::encode(part, &mut shown);
     let status = look_status(segment, blocks, buffers, file, reader);
-    judge_status(line, status, &shown, n, at)
+    judge_status(output, line, status, &shown, n, at)
 }
 
 // Writes the sheet whose frames stand in what is asked; returns where it ends.
@@ -67,7 +83,8 @@ fn put_sheet(asked: &[u8], out: &mut [u8]) -> usize
 }
 
 // Loads, `+ FILE FRAME ..`: nothing is given.
-fn call_load(
+fn call_load<O: Write>(
+    output: &mut O,
     segment: &mut [u8; SEGMENT_BYTES],
     blocks: &mut [u8; BLOCKS_BYTES],
     buffers: &mut [u8; BUFFERS_BYTES],
@@ -78,11 +95,12 @@ fn call_load(
     let asked = asked_end(line);
     let n = put_sheet(&line[0..asked], &mut sheet);
     let status = load(segment, blocks, buffers, number(line, FILE), &sheet[0..n]);
-    judge_status(line, status, &sheet, 0, at)
+    judge_status(output, line, status, &sheet, 0, at)
 }
 
 // Asks an event.
-fn call_event(
+fn call_event<O: Write>(
+    output: &mut O,
     segment: &mut [u8; SEGMENT_BYTES],
     blocks: &mut [u8; BLOCKS_BYTES],
     buffers: &mut [u8; BUFFERS_BYTES],
@@ -92,11 +110,12 @@ fn call_event(
     let mut told = [0u8; ANSWER_LINE];
     let asked = asked_end(line);
     let end = answer_line(segment, blocks, buffers, &line[0..asked], &mut told, 0);
-    judge(line, &told, end - 1, at)
+    judge(output, line, &told, end - 1, at)
 }
 
 // Begins a session on a fresh desk, `= NAME`.
-fn call_fresh(
+fn call_fresh<O: Write>(
+    output: &mut O,
     segment: &mut [u8; SEGMENT_BYTES],
     blocks: &mut [u8; BLOCKS_BYTES],
     buffers: &mut [u8; BUFFERS_BYTES],
@@ -104,11 +123,12 @@ fn call_fresh(
     at: Played,
 ) -> Played {
     fresh::fresh(segment, blocks, buffers);
-    begin(line, at)
+    begin(output, line, at)
 }
 
 // Asks what a line in digits asks, by its first byte.
-pub fn call(
+pub fn call<O: Write>(
+    output: &mut O,
     segment: &mut [u8; SEGMENT_BYTES],
     blocks: &mut [u8; BLOCKS_BYTES],
     buffers: &mut [u8; BUFFERS_BYTES],
@@ -116,12 +136,12 @@ pub fn call(
     at: Played,
 ) -> Played {
     match first(line) {
-        0 => end(at),
+        0 => end(output, at),
         b'-' => at,
-        b'=' => call_fresh(segment, blocks, buffers, line, at),
-        b'?' => call_save(segment, blocks, buffers, line, at),
-        b'+' => call_load(segment, blocks, buffers, line, at),
-        b'@' => call_look(segment, blocks, buffers, line, at),
-        _ => call_event(segment, blocks, buffers, line, at),
+        b'=' => call_fresh(output, segment, blocks, buffers, line, at),
+        b'?' => call_save(output, segment, blocks, buffers, line, at),
+        b'+' => call_load(output, segment, blocks, buffers, line, at),
+        b'@' => call_look(output, segment, blocks, buffers, line, at),
+        _ => call_event(output, segment, blocks, buffers, line, at),
     }
 }

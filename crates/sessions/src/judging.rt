@@ -2,10 +2,9 @@
 ghost use Rattle.std.specs.Prelude.{◌≤◌, length};
 
 use crate::text::{after, find, put, put_byte, put_replaced, within};
-use check::same;
 use hexadecimal::LF;
-use libc::STDOUT_FILENO;
 use saving::SHEET_ROOM;
+use std::io::Write;
 
 // Room for the two digits of a status, a space and a sheet.
 const TOLD: usize = 2 + 1 + SHEET_ROOM;
@@ -18,14 +17,14 @@ pub struct Played {
 }
 
 // Ends the session that went on, if there is one.
-pub fn end(at: Played) -> Played {
+pub fn end<O: Write>(output: &mut O, at: Played) -> Played {
     if !at.begun {
         return at;
     }
     if at.well {
-        io::write_all(STDOUT_FILENO, b": ok");
+        let _ = output.write_all(b": ok");
     }
-    io::write_all(STDOUT_FILENO, b"\n");
+    let _ = output.write_all(b"\n");
     Played {
         begun: false,
         well: true,
@@ -33,10 +32,10 @@ pub fn end(at: Played) -> Played {
 }
 
 // Begins a session: its name stands after two bytes of the line.
-pub fn begin(line: &[u8], at: Played) -> Played {
-    end(at);
+pub fn begin<O: Write>(output: &mut O, line: &[u8], at: Played) -> Played {
+    end(output, at);
     let name = within(line, 2);
-    io::write_all(STDOUT_FILENO, &line[name..]);
+    let _ = output.write_all(&line[name..]);
     Played {
         begun: true,
         well: true,
@@ -55,13 +54,13 @@ pub fn asked_end(line: &[u8]) -> usize
 }
 
 // Prints what differs.
-fn differ(asked: &[u8], told: &[u8], expected: &[u8]) -> Played {
-    io::write_all(STDOUT_FILENO, b"\n    ");
-    io::write_all(STDOUT_FILENO, asked);
-    io::write_all(STDOUT_FILENO, b" is answered ");
-    io::write_all(STDOUT_FILENO, told);
-    io::write_all(STDOUT_FILENO, b", not ");
-    io::write_all(STDOUT_FILENO, expected);
+fn differ<O: Write>(output: &mut O, asked: &[u8], told: &[u8], expected: &[u8]) -> Played {
+    let _ = output.write_all(b"\n    ");
+    let _ = output.write_all(asked);
+    let _ = output.write_all(b" is answered ");
+    let _ = output.write_all(told);
+    let _ = output.write_all(b", not ");
+    let _ = output.write_all(expected);
     Played {
         begun: true,
         well: false,
@@ -69,14 +68,14 @@ fn differ(asked: &[u8], told: &[u8], expected: &[u8]) -> Played {
 }
 
 // Compares what a line is told, the first n bytes, with what it says.
-pub fn judge(line: &[u8], told: &[u8], n: usize, at: Played) -> Played {
+pub fn judge<O: Write>(output: &mut O, line: &[u8], told: &[u8], n: usize, at: Played) -> Played {
     let asked = asked_end(line);
     let from = after(line, asked);
     let to = within(told, n);
-    if same(&told[0..to], &line[from..]) {
+    if &told[0..to] == &line[from..] {
         return at;
     }
-    differ(&line[0..asked], &told[0..to], &line[from..])
+    differ(output, &line[0..asked], &told[0..to], &line[from..])
 }
 
 // Writes a status, and after a space what is given, lines as words; returns where that ends.
@@ -90,9 +89,16 @@ fn put_status(status: u8, given: &[u8], out: &mut [u8]) -> usize {
 }
 
 // Compares what a line is told by a call that has no frame, a status and the first n of the bytes given, with what the line says.
-pub fn judge_status(line: &[u8], status: u8, given: &[u8], n: usize, at: Played) -> Played {
+pub fn judge_status<O: Write>(
+    output: &mut O,
+    line: &[u8],
+    status: u8,
+    given: &[u8],
+    n: usize,
+    at: Played,
+) -> Played {
     let mut told = [0u8; TOLD];
     let to = within(given, n);
     let end = put_status(status, &given[0..to], &mut told);
-    judge(line, &told, end, at)
+    judge(output, line, &told, end, at)
 }

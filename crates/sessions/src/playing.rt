@@ -14,9 +14,11 @@ use crate::text::{after, find};
 use hexadecimal::LF;
 use kinds::limits::{BLOCKS_BYTES, BUFFERS_BYTES};
 use segment::layout::SEGMENT_BYTES;
+use std::io::Write;
 
 // Plays one line; returns how its session goes.
-fn play_line(
+fn play_line<O: Write>(
+    output: &mut O,
     segment: &mut [u8; SEGMENT_BYTES],
     blocks: &mut [u8; BLOCKS_BYTES],
     buffers: &mut [u8; BUFFERS_BYTES],
@@ -26,11 +28,12 @@ fn play_line(
 ) -> Played {
     let mut spelt = [0u8; SPELT];
     let n = spell(forms, line, &mut spelt);
-    call(segment, blocks, buffers, &spelt[0..n], at)
+    call(output, segment, blocks, buffers, &spelt[0..n], at)
 }
 
 // Plays the lines of all sessions.
-fn play_lines(
+fn play_lines<O: Write>(
+    output: &mut O,
     segment: &mut [u8; SEGMENT_BYTES],
     blocks: &mut [u8; BLOCKS_BYTES],
     buffers: &mut [u8; BUFFERS_BYTES],
@@ -44,19 +47,28 @@ fn play_lines(
     let mut from = 0;
     while from < lines.len() {
         let to = find(lines, from, LF);
-        at = play_line(segment, blocks, buffers, forms, &lines[from..to], at);
+        at = play_line(
+            output,
+            segment,
+            blocks,
+            buffers,
+            forms,
+            &lines[from..to],
+            at,
+        );
         from = after(lines, to);
     }
-    end(at);
+    end(output, at);
 }
 
 // Plays the sessions of a text.
-pub fn play(text: &[u8]) {
+pub fn play<O: Write>(output: &mut O, text: &[u8]) {
     let mut segment = [0u8; SEGMENT_BYTES];
     let mut blocks = [0u8; BLOCKS_BYTES];
     let mut buffers = [0u8; BUFFERS_BYTES];
     let head = find(text, 0, b'=');
     play_lines(
+        output,
         &mut segment,
         &mut blocks,
         &mut buffers,

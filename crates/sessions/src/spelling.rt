@@ -3,7 +3,6 @@
 ghost use Rattle.std.specs.Prelude.{◌≤◌, length};
 
 use crate::text::{WORDS, after, find, first, number, put, put_all, put_byte, within};
-use check::same;
 use hexadecimal::LF;
 use saving::SHEET_ROOM;
 
@@ -98,7 +97,7 @@ fn form_at(forms: &[u8], name: &[u8]) -> usize
     let mut from = 0;
     while from < forms.len() {
         let end = find(forms, from, b' ');
-        if same(&forms[from..end], name) {
+        if &forms[from..end] == name {
             return after(forms, end);
         }
         from = after(forms, find(forms, end, LF));
