@@ -21,7 +21,7 @@ REFUSED = 'refused, as it must be'
 # the place at which the prover stopped: in the code, a goal that it could not prove, or in a file an error in a declaration
 PLACE = re.compile(r'(?:note: (?=src/)|(?=\S+ error: ))(?:\./)?((?:src|specs|proofs)/\S+?):(\d+):(\d+): (?:error: )?(?:`([^`]*)`: )?(.*)')
 # how the prover words a fact that fails: a goal that is not proved, two types or sides that differ, or numbers from which a goal does not follow
-FACT = re.compile(r"""it\ is\ not\ proved\ that|the\ two\ (types|sides)\ |^expected\ type\ `|^`omega`:\ .*does\ not\ follow
+FACT = re.compile(r"""it\ is\ not\ proved\ that|the\ two\ (types|sides)\ |^expected\ type\ `|^computed\ as\ a\ goal\ is,\ one\ side\ reads|^`omega`:\ .*does\ not\ follow
     |^`rw`:\ no\ occurrence\ of\ the\ path's|^give\ a\ proof\ of\ that\ as\ the\ last\ argument""", re.X)
 
 
