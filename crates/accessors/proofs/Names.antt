@@ -23,10 +23,12 @@ use Rattle.memory.specs.Memories.{Memories}
 use Rattle.memory.specs.Image.{file_words, place_words}
 use Rattle.memory.specs.Fine.{StandsFor}
 use Rattle.accessors.specs.declared.Accessor.{Accessor}
-use Rattle.accessors.specs.declared.Accessor.TheVariants.{Refused, Open}
+use Rattle.kinds.specs.declared.refusals.Refusal.{Refusal}
+use Rattle.kinds.specs.declared.refusals.Refusal.TheVariants as refusal
+use Rattle.std.specs.Prelude.{Result, Err}
 use Rattle.accessors.specs.Sides.{side_of}
 use Rattle.accessors.specs.Outstanding.{outstanding_at}
-use Rattle.accessors.specs.Accessors.{words_at, accessor_at, accessor_in, accessor_on, accessor_of}
+use Rattle.accessors.specs.Accessors.{Open, words_at, accessor_at, accessor_in, accessor_on, accessor_of}
 use Rattle.accessors.proofs.Counted.{side-is}
 use Rattle.accessors.proofs.Rows.{file-row, shown}
 use Rattle.accessors.proofs.Waits.{fine-at, outstanding-is}
@@ -74,7 +76,7 @@ module _ {m : Memories} {d : Desk} {s : Alloc} (S : StandsFor m d s) (f : ℕ) w
         rw (side, (words-some h b e).0, outstanding-is S f h b e p a k i)
 
     place-named : f < files → (b : Built) → file_of d f ≡ built b → p < places → (o : Option Acc) → acc_at b p ≡ o
-        → cond (eqb (place_at m.segment (places * f + p)).side 0) (Refused 32)
+        → cond (eqb (place_at m.segment (places * f + p)).side 0) (Err refusal.Accessor)
         (Open (words_at m.segment f) (place_at m.segment (places * f + p)).side (outstanding_at m.segment f p (place_at m.segment (places * f + p)).side))
         ≡ accessor_in b.geo.words o
     unfolding side_of place_of accessor_in
@@ -92,7 +94,7 @@ module _ {m : Memories} {d : Desk} {s : Alloc} (S : StandsFor m d s) (f : ℕ) w
         rw (ne_eqb (words_at m.segment f) 0 (λ u. omega (arith, w.0, w.1))) (go (dec_lt p places))
       where
         go : Dec (p < places)
-            → cond (leb places p) (Refused 32) (cond (eqb (place_at m.segment (places * f + p)).side 0) (Refused 32)
+            → cond (leb places p) (Err refusal.Accessor) (cond (eqb (place_at m.segment (places * f + p)).side 0) (Err refusal.Accessor)
             (Open (words_at m.segment f) (place_at m.segment (places * f + p)).side (outstanding_at m.segment f p (place_at m.segment (places * f + p)).side)))
             ≡ accessor_in b.geo.words (acc_at b p)
         go (yes k) = rw (lt-leb places p k) (place-named h b e k (acc_at b p) refl)
@@ -102,7 +104,7 @@ module _ {m : Memories} {d : Desk} {s : Alloc} (S : StandsFor m d s) (f : ℕ) w
     unfolding accessor_at accessor_of
     accessor-is = go (dec_lt f files)
       where
-        go : Dec (f < files) → accessor_at m.segment f p ≡ elim (ltb f files) as (λ (b : Bool). Accessor) [ true ↦ accessor_on (file_of d f) p | false ↦ Refused 31 ]
+        go : Dec (f < files) → accessor_at m.segment f p ≡ elim (ltb f files) as (λ (b : Bool). Result Accessor Refusal) [ true ↦ accessor_on (file_of d f) p | false ↦ Err refusal.File ]
         go (yes h) = file-named h (file_of d f) refl ∙ sym (pick_true (ltb f files) _ _ (lt-ltb f files h))
         go (no h) = rw (eq-eqb (words_at m.segment f) 0 (words-high (omega arith))) (sym (pick-false (ltb f files) _ _ (le-ltb f files (omega arith))))
 

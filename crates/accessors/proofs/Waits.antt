@@ -68,27 +68,15 @@ first_word i (writing q) h = refl
 first_word i (read_done q) h = absurd (omega arith)
 first_word i (write_done q) h = absurd (omega arith)
 
--- a list's word v that was read from its place, x: an entry's number, or the list's end
-module _ {v x : ℕ} (e : v ≡ x) where
-  pub entry-there : v < entries → ltb x entries ≡ true
-  entry-there h = rw e at (lt-ltb v entries h)
-
-  pub none-there : entries ≤ v → ltb x entries ≡ false
-  none-there h = rw e at (le-ltb v entries h)
-
 -- the two tests, and what they say
 shows-completed : (t u : Bool) → t ≡ true → cond t Completed (cond u Waiting Nothing) ≡ Completed
 shows-completed t u e = rw e
 
-pub shows-waiting : (t u : Bool) → t ≡ false → u ≡ true → cond t Completed (cond u Waiting Nothing) ≡ Waiting
+shows-waiting : (t u : Bool) → t ≡ false → u ≡ true → cond t Completed (cond u Waiting Nothing) ≡ Waiting
 shows-waiting t u e k = rw (e, k)
 
-pub shows_nothing : (t u : Bool) → t ≡ false → u ≡ false → cond t Completed (cond u Waiting Nothing) ≡ Nothing
+shows_nothing : (t u : Bool) → t ≡ false → u ≡ false → cond t Completed (cond u Waiting Nothing) ≡ Nothing
 shows_nothing t u e k = rw (e, k)
-
-pub port-shows : (s : List ℕ) (f p side : ℕ) → ltb (nth s (reply_port (places * f + p))) entries ≡ true → outstanding_at s f p side ≡ Completed
-unfolding outstanding_at
-port-shows s f p side e = rw e
 
 module _ {xs hand : List ℕ} {hm rs : List (List ℕ)} (d : Desk) (s : Alloc) (B : Boxes xs hand hm (lists_of d s) (boxes_of d s) rs)
     (f : ℕ) (low : f < files) (b : Built) (is : file_of d f ≡ built b) (A : Agree b) where

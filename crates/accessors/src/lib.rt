@@ -4,71 +4,67 @@
 pub mod outstanding;
 pub mod sides;
 
-ghost use Rattle.std.specs.Prelude.{◌≡◌, length};
+ghost use Rattle.std.specs.Prelude.{◌≡◌, ◌≢◌, unwrap_or, IfSome};
 ghost use Rattle.rules.specs.Open.{sharing_of};
-ghost use Rattle.segment.specs.Layout.{segment_bytes};
 ghost use Rattle.accessors.specs.Accessors.{words_at, accessor_at};
 
+use kinds::Outstanding;
 use kinds::limits::{FILES, PLACES};
+use kinds::refusals::Refusal;
 use kinds::sides::CLOSED;
-use kinds::{Outstanding, refusals};
 use outstanding::outstanding_at;
+use segment::Segment;
 
-// The accessor that a call names (its file's R, its side, and what it has outstanding), or the refusal.
+// An open accessor that a call names: its file's R, its side, and what it has outstanding.
 #[derive(Clone, Copy)]
-pub enum Accessor {
-    Refused(u8),
-    Open {
-        words: u16,
-        side: u16,
-        request: Outstanding,
-    },
+pub struct Accessor {
+    pub words: u16,
+    // Kept: the word of the place's row, and no enum, here and as a parameter: `accessor_of` promises what stands in any memory, sound or not.
+    pub side: u16,
+    pub request: Outstanding,
 }
 
-// The R of the file, which is at least 1; 0 if the file is above 7 or not built.
-pub fn words_of(segment: &[u8], file: usize) -> u16
-    requires { length segment.now ≡ segment_bytes }
-    ensures { result ≡ words_at segment.now file }
+// The R of the file, if it is built.
+#[tactic(auto, unfolding(crate::specs::Accessors::words_at))]
+pub fn words_of(segment: &Segment, file: usize) -> Option<u16>
+    ensures value { unwrap_or result 0 ≡ words_at segment.now file }
+    ensures built { IfSome result (λ w. w ≢ 0) }
 {
     if FILES <= file {
-        return 0;
+        return None;
     }
-    let row = segment::read_file(segment, file);
-    row.words
+    let words = segment::read_file(segment, file).words;
+    (words != 0).then_some(words)
 }
 
-pub fn accessor_of(segment: &[u8], file: usize, acc: usize) -> Accessor
-    requires { length segment.now ≡ segment_bytes }
+// The accessor that a call names, or the refusal of a file that is not built or of an accessor that is not open.
+#[tactic(auto, using(std::proofs::lemmas::Bool::Decides::nat_tests), unfolding(crate::specs::Accessors::words_at, crate::specs::Accessors::accessor_at))]
+pub fn accessor_of(segment: &Segment, file: usize, acc: usize) -> Result<Accessor, Refusal>
     ensures { result ≡ accessor_at segment.now file acc }
 {
-    let words = words_of(segment, file);
-    if words == 0 {
-        return Accessor::Refused(refusals::FILE);
-    }
+    let words = words_of(segment, file).ok_or(Refusal::File)?;
     if PLACES <= acc {
-        return Accessor::Refused(refusals::ACCESSOR);
+        return Err(Refusal::Accessor);
     }
     let side = segment::place_side(segment, PLACES * file + acc);
     if side == CLOSED {
-        return Accessor::Refused(refusals::ACCESSOR);
+        return Err(Refusal::Accessor);
     }
     let request = outstanding_at(segment, file, acc, side);
-    Accessor::Open {
+    Ok(Accessor {
         words,
         side,
         request,
-    }
+    })
 }
 
 // Share 1: one reader and one writer.
 pub const SINGLE: u16 = 1;
 
 // "Share 0 counts as 1"
+#[tactic(auto, unfolding(rules::specs::Open::sharing_of))]
 pub fn sharing_of(share: u8) -> u16
     ensures { result ≡ sharing_of share }
 {
-    if share == 0 {
-        return SINGLE;
-    }
-    share as u16
+    if share == 0 { SINGLE } else { u16::from(share) }
 }

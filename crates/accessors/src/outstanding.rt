@@ -1,13 +1,13 @@
 // What is outstanding at a place, as the lists of the segment say.
-ghost use Rattle.std.specs.Prelude.{◌≡◌, ◌<◌, length};
+ghost use Rattle.std.specs.Prelude.{◌≡◌, ◌<◌};
 ghost use Rattle.rules.specs.Limits.{files, places};
-ghost use Rattle.segment.specs.Layout.{segment_bytes, reply_ports};
+ghost use Rattle.segment.specs.Layout.{reply_ports};
 ghost use Rattle.accessors.specs.Outstanding.{queue_of, outstanding_at};
 
 use kinds::Outstanding;
 use kinds::limits::PLACES;
 use kinds::sides::WRITER;
-use segment::layout;
+use segment::{Segment, layout};
 
 // The queue of file f in which the accessors of that side wait.
 pub fn queue_of(f: usize, side: u16) -> usize
@@ -22,9 +22,9 @@ pub fn queue_of(f: usize, side: u16) -> usize
 }
 
 // What is outstanding at place acc of file f, whose accessor is on that side.
-pub fn outstanding_at(segment: &[u8], f: usize, acc: usize, side: u16) -> Outstanding
-    requires segment_len { length segment.now ≡ segment_bytes }
-    requires f_lt_files { (f < files) × (acc < places) }
+#[tactic(auto, using(ports::proofs::Steps::seek_stop, std::proofs::lemmas::Bool::Decides::nat_tests), unfolding(crate::specs::Outstanding::outstanding_at))]
+pub fn outstanding_at(segment: &Segment, f: usize, acc: usize, side: u16) -> Outstanding
+    requires { (f < files) × (acc < places) }
     ensures { result ≡ outstanding_at segment.now f acc side }
 {
     let place = PLACES * f + acc;

@@ -1,26 +1,22 @@
 // The places of a file, counted by their side.
-ghost use Rattle.std.specs.Prelude.{◌≡◌, ◌<◌, ◌≤◌, length};
+ghost use Rattle.std.specs.Prelude.{◌≡◌, ◌<◌, ◌≤◌};
 ghost use Rattle.rules.specs.Limits.{files, places};
-ghost use Rattle.segment.specs.Layout.{segment_bytes};
 ghost use Rattle.accessors.specs.Sides.{count_side};
 
 use kinds::limits::PLACES;
+use segment::Segment;
 
 // How many of the eight places of file f have that side.
-pub fn count_side(segment: &[u8], f: usize, side: u16) -> u16
-    requires segment_len { length segment.now ≡ segment_bytes }
-    requires f_lt_files { f < files }
+#[tactic(auto, using(crate::proofs::Turns::sides_more, std::proofs::lemmas::Bool::Decides::nat_tests), unfolding(crate::specs::Sides::sides_from))]
+pub fn count_side(segment: &Segment, f: usize, side: u16) -> u16
+    requires { f < files }
     ensures { (result ≡ count_side segment.now f side) × (result ≤ places) }
 {
-    let mut i = PLACES * f;
-    let mut left = PLACES;
-    let mut found: u16 = 0;
-    while left > 0 {
-        if segment::place_side(segment, i) == side {
+    let mut found = 0;
+    for p in 0..PLACES {
+        if segment::place_side(segment, PLACES * f + p) == side {
             found += 1;
         }
-        i += 1;
-        left -= 1;
     }
     found
 }

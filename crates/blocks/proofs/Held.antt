@@ -7,7 +7,7 @@ use Rattle.rules.specs.State.{Rec, Geo, Store}
 use Rattle.rules.specs.Store.{record_words}
 use Rattle.rules.specs.Store as rules
 use Rattle.ring.specs.declared.Ring.{Ring}
-use Rattle.ring.specs.Ring.{geo, put}
+use Rattle.ring.specs.Ring.{geo}
 use Rattle.ring.specs.Held.{Held}
 use Rattle.ring.proofs.Held.{own}
 use Rattle.blocks.specs.Writing.{Ready, inscribed}

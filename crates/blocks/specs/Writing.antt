@@ -6,10 +6,15 @@ use Rattle.rules.specs.State.{Rec}
 use Rattle.rules.specs.Store.{block_bytes, zeroed}
 use Rattle.shares.specs.Inscribed.{inscribed_at}
 use Rattle.ring.specs.declared.Ring.{Ring}
+use Rattle.blocks.specs.declared.writing.NewRecord.{NewRecord}
 use Rattle.ring.specs.Ring.{geo, Fitted, Ranged, tail}
 
 abbrev pub rec_of : ℕ → ℕ → List ℕ → Rec
 rec_of typ wid body = record { typ = typ; wid = wid; body = body }
+
+-- a record that is to be put
+abbrev pub record_of : NewRecord → Rec
+record_of r = rec_of r.typ r.wid r.data.now
 
 -- the number of bytes of a record with n bytes of data, its padding included
 abbrev pub record_size : ℕ → ℕ

@@ -1,5 +1,5 @@
 // Checks that a share holds a file's records, in one walk over the blocks that hold any. Nothing is changed.
-ghost use Rattle.std.specs.Prelude.{◌≡◌, ◌&&◌, ◌||◌, ◌+◌, ◌*◌, ◌≤◌, ◌<◌, min, ltb, eqb, length};
+ghost use Rattle.std.specs.Prelude.{◌≡◌, ◌&&◌, ◌||◌, ◌+◌, ◌*◌, ◌≤◌, ◌<◌, ltb, eqb};
 ghost use Rattle.words.specs.Word.{word_at};
 ghost use Rattle.rules.specs.Limits.{room_words, share_bytes};
 ghost use Rattle.shares.specs.Laid.{fair, walk};
@@ -9,14 +9,16 @@ ghost use Rattle.blocks.specs.Check.{laid_at};
 
 use crate::quick::{all_whole, bare_first, whole};
 use kinds::limits::MOST_TYPE;
+use kinds::memories::Share;
 use kinds::record_types::DATA;
 use records::reading::next;
 use ring::layout::{BLOCK_HEAD, FOLLOW, ID, RECORD_HEAD, Span, TYPE, USED, block_span};
 use ring::{Ring, wrapped};
 
 // Whether a valid record with at most `words` words of data stands at p and ends at e or before.
-fn fair(share: &[u8], words: u16, e: usize, p: usize) -> bool
-    requires { (length share.now ≡ share_bytes) × (e ≤ share_bytes) × (p ≤ share_bytes) × (words ≤ room_words) }
+#[tactic(auto, unfolding(shares::specs::Laid::fair, shares::specs::Back::next))]
+fn fair(share: &Share, words: u16, e: usize, p: usize) -> bool
+    requires { (e ≤ share_bytes) × (p ≤ share_bytes) × (words ≤ room_words) }
     ensures { result ≡ fair words share.now e p }
 {
     if p + RECORD_HEAD > e {
@@ -49,31 +51,27 @@ fn fair(share: &[u8], words: u16, e: usize, p: usize) -> bool
 }
 
 // Whether n valid records (`fair`) follow each other from `at`, and the last ends at `end`. No call reads the bytes from there to e, so nothing is asked of them.
-fn one_by_one(share: &[u8], words: u16, e: usize, end: usize, at: usize, n: usize) -> bool
-    requires { (length share.now ≡ share_bytes) × (e ≤ share_bytes) × (at ≤ e) × (words ≤ room_words) }
+fn one_by_one(share: &Share, words: u16, e: usize, end: usize, at: usize, n: usize) -> bool
+    requires { (e ≤ share_bytes) × (at ≤ e) × (words ≤ room_words) }
     ensures { result ≡ walk words share.now e end at n }
 {
     let mut p = at;
-    let mut left = n;
-    while left > 0 {
+    for _ in 0..n {
         if whole(share, words, e, p) {
             p += RECORD_HEAD + 2 * words as usize;
-            left -= 1;
-            continue;
-        }
-        if !fair(share, words, e, p) {
+        } else if fair(share, words, e, p) {
+            p = next(share, p);
+        } else {
             return false;
         }
-        p = next(share, p);
-        left -= 1;
     }
     p == end
 }
 
 // Answers as `one_by_one` does. Tests all records at once if all can be of the full size. Else it passes the records without data that stand first, such as those of
 // writers that opened the file, and tests the rest at once if all of these can be.
-fn walk(share: &[u8], words: u16, e: usize, end: usize, at: usize, n: usize) -> bool
-    requires { (length share.now ≡ share_bytes) × (e ≤ share_bytes) × (at + n * (6 + 2 * words) ≤ e) × (words ≤ room_words) }
+fn walk(share: &Share, words: u16, e: usize, end: usize, at: usize, n: usize) -> bool
+    requires { (e ≤ share_bytes) × (at + n * (6 + 2 * words) ≤ e) × (words ≤ room_words) }
     ensures { result ≡ walk words share.now e end at n }
 {
     let size = RECORD_HEAD + 2 * words as usize;
@@ -90,8 +88,9 @@ fn walk(share: &[u8], words: u16, e: usize, end: usize, at: usize, n: usize) -> 
 }
 
 // Whether the block is laid out as it must be, with `count` records.
-fn holds(share: &[u8], words: u16, block: Span, count: u16) -> bool
-    requires { (length share.now ≡ share_bytes) × (4 + count * (6 + 2 * words) ≤ block.size) × (block.at + block.size ≤ share_bytes) × (words ≤ room_words) }
+#[tactic(auto, unfolding(crate::specs::Check::laid_at))]
+fn holds(share: &Share, words: u16, block: Span, count: u16) -> bool
+    requires { (4 + count * (6 + 2 * words) ≤ block.size) × (block.at + block.size ≤ share_bytes) × (words ≤ room_words) }
     ensures { result ≡ laid_at words share.now block && eqb (word_at share.now block.at) count }
 {
     let at = block.at;
@@ -110,36 +109,23 @@ fn holds(share: &[u8], words: u16, block: Span, count: u16) -> bool
     )
 }
 
-// The number of records in the next block, when `left` are still to be found.
-fn least(left: u32, factor: u16) -> u16
-    ensures { result ≡ min left factor }
-{
-    if left < factor as u32 {
-        left as u16
-    } else {
-        factor
-    }
-}
-
 // Whether the blocks hold the used records, starting at the oldest block, each block full except the last.
-fn sweep(share: &[u8], ring: Ring, words: u16) -> bool
-    requires { (length share.now ≡ share_bytes) × Fitted words ring × (ring.block < ring.blocks) }
+fn sweep(share: &Share, ring: Ring, words: u16) -> bool
+    requires { Fitted words ring × (ring.block < ring.blocks) }
     ensures { result ≡ sweep (geo words ring) share.now ring.block ring.blocks (ring.spent + ring.held) }
 {
     let mut block = ring.block;
-    let mut n = ring.blocks;
     let mut left = ring.spent as u32 + ring.held as u32;
-    while n > 0 {
+    for _ in 0..ring.blocks {
         if left == 0 {
             return true;
         }
-        let count = least(left, ring.factor);
+        let count = u32::from(ring.factor).min(left) as u16;
         if !holds(share, words, block_span(ring, words, block), count) {
             return false;
         }
         block = wrapped(ring.blocks, block + 1);
         left -= count as u32;
-        n -= 1;
     }
     left == 0
 }
@@ -148,22 +134,14 @@ fn sweep(share: &[u8], ring: Ring, words: u16) -> bool
 fn begun(ring: Ring) -> bool
     ensures { result ≡ eqb ring.spent 0 || (ltb ring.spent ring.factor && ltb 0 ring.held) }
 {
-    if ring.spent == 0 {
-        return true;
-    }
-    ring.spent < ring.factor && 0 < ring.held
+    ring.spent == 0 || (ring.spent < ring.factor && 0 < ring.held)
 }
 
 // Whether the share holds the records that the ring says, and the ring's numbers are consistent.
-pub fn sound(share: &[u8], ring: Ring, words: u16) -> bool
-    requires { (length share.now ≡ share_bytes) × Fitted words ring }
+#[tactic(auto, unfolding(shares::specs::Sound::sound))]
+pub fn sound(share: &Share, ring: Ring, words: u16) -> bool
+    requires { Fitted words ring }
     ensures { result ≡ sound (geo words ring) share.now ring.block ring.spent ring.held }
 {
-    if ring.block >= ring.blocks {
-        return false;
-    }
-    if !begun(ring) {
-        return false;
-    }
-    sweep(share, ring, words)
+    ring.block < ring.blocks && begun(ring) && sweep(share, ring, words)
 }

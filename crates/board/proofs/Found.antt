@@ -2,7 +2,7 @@
 use Prim.Native.Nat.{ℕ, ◌+◌, ◌*◌, ◌≤◌, ◌<◌}
 use mathlib.Core.Path.{◌≡◌, refl, sym, ap, ◌∙◌}
 use mathlib.Core.Logic.{inl, inr}
-use mathlib.Core.Bool.{Bool, true, false, cond, false≢true}
+use mathlib.Core.Bool.{Bool, true, false, cond, ◌&&◌, false≢true}
 use mathlib.Core.List.{List, [], ◌∷◌, map}
 use mathlib.Core.Option.{Option, some}
 use native.Mathlib.Omega.{arith}
@@ -45,7 +45,7 @@ use Rattle.kinds.specs.declared.Outstanding.TheVariants.{Nothing, Waiting, Compl
 use Rattle.accessors.specs.Sides.{side_of}
 use Rattle.accessors.specs.Outstanding.{queue_of, outstanding_at, outstanding_of}
 use Rattle.accessors.proofs.Waits.{fine-at, outstanding-is}
-use Rattle.notices.specs.declared.Left.TheVariants.{Seconds}
+use Rattle.std.specs.Prelude.{Some}
 use Rattle.board.specs.Requests.{left_of, is_first, request_of}
 use Rattle.board.specs.Found.{found_at, left_in, left_at, first_in, first_at, waiting_in, completed_in, request_at}
 use Rattle.board.proofs.Timers.{Timed, timed, left-sieve}
@@ -133,7 +133,7 @@ module _ {ms : Memories} {d : Desk} {s : Alloc} (S : StandsFor ms d s) where
           let z = found_in timer_list (omega arith) (map timer_words s.clock) e i (omega (arith, h, n, k)) in
           let m : data_of ms.segment (found_at ms.segment timer_list i) ≡ timer_words (get_or s.clock (index (λ t. eqb t.place i) s.clock) u) =
           z.1 ∙ ap (λ (j : ℕ). get_or (map timer_words s.clock) j []) n ∙ map_at timer_words s.clock (index (λ t. eqb t.place i) s.clock) u [] h in
-          rw (lt-ltb (found_at ms.segment timer_list i) entries z.0) (ap (λ (w : List ℕ). Seconds (get_or w 7 0)) m ∙ sym r)
+          rw (lt-ltb (found_at ms.segment timer_list i) entries z.0) (ap (λ (w : List ℕ). Some (get_or w 7 0)) m ∙ sym r)
       go (inr (h, r)) =
           rw (le-ltb (found_at ms.segment timer_list i) entries (found_none timer_list (omega arith) (map timer_words s.clock) e i (omega (arith, h, n, k)))) (sym r)
 
@@ -160,19 +160,19 @@ module _ {ms : Memories} {d : Desk} {s : Alloc} (S : StandsFor ms d s) where
           let z = found_in l h (map F q) e (places * f + p) (omega (arith, k, index_is p, length-map q F)) in
           ap entry_of (z.1 ∙ ap (λ (j : ℕ). get_or (map F q) j []) (index_is p) ∙ map_at F q (index (λ x. eqb x p) q) 0 [] k ∙ ap F (place_at p q c))
 
-      first-is : (p : ℕ) → first_at ms.segment l (places * f + p) ≡ bit (is_first p q)
+      first-is : (p : ℕ) → first_at ms.segment l (places * f + p) ≡ is_first p q
       unfolding first_in is_first entry_at entry_of
       first-is p = go q e w
         where
           go : (r : List ℕ) → get_or (boxes_of d s) l [] ≡ map F r → ((x : ℕ) → 1 ≤ count x r → 1 ≤ awaits (req_of (acc_at b x)))
-              → cond (ltb (nth ms.segment l) entries) (bit (eqb (get_or (data_of ms.segment (nth ms.segment l)) 0 0) (places * f + p))) 0 ≡ bit (is_first p r)
+              → (ltb (nth ms.segment l) entries && eqb (get_or (data_of ms.segment (nth ms.segment l)) 0 0) (places * f + p)) ≡ is_first p r
           go [] k v = rw (le-ltb (nth ms.segment l) entries (head-none l h [] k refl))
           go (x ∷ r) k v =
               let z = head_in l h (F x ∷ map F r) k (omega arith) in
               rw (lt-ltb (nth ms.segment l) entries z.0)
-              (ap (λ (m : List ℕ). bit (eqb (get_or m 0 0) (places * f + p))) z.1
-              ∙ ap (λ (n : ℕ). bit (eqb n (places * f + p))) (words-place (places * f + x) (req_of (acc_at b x)) (v x (count_head x r)))
-              ∙ ap bit (same_place f x p))
+              (ap (λ (m : List ℕ). eqb (get_or m 0 0) (places * f + p)) z.1
+              ∙ ap (λ (n : ℕ). eqb n (places * f + p)) (words-place (places * f + x) (req_of (acc_at b x)) (v x (count_head x r)))
+              ∙ same_place f x p)
 
     agree : Agree b
     agree = (fine-at S f hf b is).queues

@@ -11,7 +11,7 @@ use native.Mathlib.Decide.{ℕ_discrete}
 use borrow.Author.Tests.{eq-eqb, ne_eqb}
 use lib.ListN.{length}
 use Rattle.words.proofs.Parts.{length_part}
-use Rattle.rules.specs.Limits.{files, places, share_bytes, buffer_bytes}
+use Rattle.rules.specs.Limits.{files, places, share_bytes}
 use Rattle.rules.specs.State.{Req, idle, reading, writing, read_done, write_done, Acc, Built, File, unbuilt, built, Geo}
 use Rattle.rules.specs.Requests.{acc_at}
 use Rattle.rules.specs.Buffers.{lies}
@@ -45,34 +45,36 @@ use Rattle.board.proofs.Found.{request-is}
 -- each of the first n numbers
 
 module _ (t : ℕ → Bool) where
-  pub every-on : (n : ℕ) → every t n ≡ true → t n ≡ true → every t (n + 1) ≡ true
+  pub every_on : (n : ℕ) → every t n ≡ true → t n ≡ true → every t (n + 1) ≡ true
   unfolding every
-  every-on n h k = rw (add-one n) (true-and (every t n) (t n) h k)
+  every_on n h k = rw (add-one n) (true-and (every t n) (t n) h k)
 
-  pub every-bad : (m n : ℕ) → n < m → t n ≡ false → every t m ≡ false
+  pub every_bad : (m n : ℕ) → n < m → t n ≡ false → every t m ≡ false
   unfolding every
-  every-bad zero n l h = absurd (omega arith)
-  every-bad (suc m) n l h = go (ℕ_discrete n m) (λ k. every-bad m n k h)
+  every_bad zero n l h = absurd (omega arith)
+  every_bad (suc m) n l h = go (ℕ_discrete n m) (λ k. every_bad m n k h)
     where
       go : Dec (n ≡ m) → (n < m → every t m ≡ false) → every t m && t m ≡ false
       go (yes e) r = rw (sym (ap t e) ∙ h) (and-false (every t m))
       go (no e) r = rw (r (omega arith))
 
-  pub every-end : (m n : ℕ) → n ≤ m → m ≤ n → every t n ≡ true → every t m ≡ true
-  every-end m n l k h = let e : m ≡ n = omega arith in rw e h
+  pub every_end : (m n : ℕ) → n ≤ m → m ≤ n → every t n ≡ true → every t m ≡ true
+  every_end m n l k h = let e : m ≡ n = omega arith in rw e h
 
 -- the blocks of a share
 
-module _ (g : Geo) (xs : List ℕ) (k : ℕ) where
-  pub blocks-bad : (n : ℕ) → 0 < n → tail_zero g xs (k * block_bytes g) ≡ false → blocks_zero g xs k n ≡ false
+module _ (g : Geo) (xs : List ℕ) (k n : ℕ) where
+  pub blocks_bad : k < n → tail_zero g xs (k * block_bytes g) ≡ false → blocks_zero g xs k (n - k) ≡ false
   unfolding blocks_zero
-  blocks-bad zero o h = absurd (omega arith)
-  blocks-bad (suc n) o h = rw h
+  blocks_bad o h = let z : n - k ≡ suc (n - (k + 1)) = omega arith in rw (z, h)
 
-  pub blocks-on : (n : ℕ) → 0 < n → tail_zero g xs (k * block_bytes g) ≡ true → blocks_zero g xs k n ≡ blocks_zero g xs (k + 1) (n - 1)
+  pub blocks_on : k < n → tail_zero g xs (k * block_bytes g) ≡ true → blocks_zero g xs k (n - k) ≡ blocks_zero g xs (k + 1) (n - (k + 1))
   unfolding blocks_zero
-  blocks-on zero o h = absurd (omega arith)
-  blocks-on (suc n) o h = let z : suc n - 1 ≡ n = omega arith in rw (z, h, add-one k)
+  blocks_on o h = let z : n - k ≡ suc (n - (k + 1)) = omega arith in rw (z, h, add-one k)
+
+  pub blocks_end : n ≤ k → blocks_zero g xs k (n - k) ≡ true
+  unfolding blocks_zero
+  blocks_end o = let z : n - k ≡ 0 = omega arith in rw z
 
 -- where the last block ends
 pub end-inside : (g : Geo) → Sized g → g.blocks * block_bytes g ≤ share_bytes
@@ -121,10 +123,6 @@ module _ {m : Memories} {d : Desk} {s : Alloc} (S : StandsFor m d s) (f : ℕ) (
   pub share-long : length (share_at f m.blocks) ≡ share_bytes
   share-long = length_part m.blocks share_bytes files f S.stands.bodies.blocks-size hf
 
-  pub buffers-long : length (buffers_at f m.buffers) ≡ places * buffer_bytes
-  unfolding buffers_at
-  buffers-long = length_part m.buffers (places * buffer_bytes) files f S.stands.bodies.buffers-size hf
-
   parts_are : (share buffers : List ℕ) (x : File) → file_of d f ≡ x → parts_zero m.segment f share buffers ≡ file_swept x share buffers
   unfolding parts_zero
   parts_are share buffers unbuilt e = rw (eq-eqb (words_at m.segment f) 0 (words-none S f hf e))
@@ -143,6 +141,6 @@ module _ {m : Memories} {d : Desk} {s : Alloc} (S : StandsFor m d s) where
   files-are (suc n) h = rw (files-are n (omega arith), file-is S n (omega arith))
 
   -- the test of the memories is the definition's
-  pub swept-is : files_zero m ≡ swept d m
+  pub swept_is : files_zero m ≡ swept d m
   unfolding files_zero swept
-  swept-is = files-are files (omega arith)
+  swept_is = files-are files (omega arith)

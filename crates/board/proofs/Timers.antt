@@ -14,7 +14,7 @@ use Rattle.rules.specs.State.{Timer}
 use Rattle.rules.proofs.Split.{by_cases}
 use Rattle.laws.specs.Entries.{local, sieve}
 use Rattle.ports.specs.Index.{index}
-use Rattle.notices.specs.declared.Left.TheVariants.{Untimed, Seconds}
+use Rattle.std.specs.Prelude.{Some, None}
 use Rattle.board.specs.Requests.{left_of}
 
 -- the first timer of the place, or none
@@ -23,7 +23,7 @@ module _ (i : ℕ) (u : Timer) where
   at ts = index (λ t. eqb t.place i) ts
 
   abbrev pub Timed : List Timer → Type 0
-  Timed ts = ((at ts < length ts) × (left_of i ts ≡ Seconds (get_or ts (at ts) u).left)) ⊎ ((at ts ≡ length ts) × (left_of i ts ≡ Untimed))
+  Timed ts = ((at ts < length ts) × (left_of i ts ≡ Some (get_or ts (at ts) u).left)) ⊎ ((at ts ≡ length ts) × (left_of i ts ≡ None))
 
   timed-on : (t : Timer) (ts : List Timer) → eqb t.place i ≡ false → Timed ts → Timed (t ∷ ts)
   unfolding left_of index
@@ -53,5 +53,5 @@ module _ (f p : ℕ) (h : p < places) where
   left-sieve (t ∷ ts) =
       let r = left-sieve ts in
       by_cases (eqb (t.place / places) f)
-      (λ k. rw k (rw (same_place t.place (eqb-true (t.place / places) f k)) (ap (cond (eqb t.place (places * f + p)) (Seconds t.left)) r)))
+      (λ k. rw k (rw (same_place t.place (eqb-true (t.place / places) f k)) (ap (cond (eqb t.place (places * f + p)) (Some t.left)) r)))
       (λ k. rw k (rw (other-file t.place (eqb-false (t.place / places) f k)) r))

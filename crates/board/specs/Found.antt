@@ -1,6 +1,5 @@
 -- The request of an accessor, as the lists of the segment show it.
-use Rattle.std.specs.Prelude.{ℕ, zero, suc, ◌+◌, ◌*◌, cond, List, [], ◌++◌, ltb, eqb}
-use Rattle.occurrences.specs.Count.{bit}
+use Rattle.std.specs.Prelude.{ℕ, zero, suc, ◌+◌, ◌*◌, Bool, cond, ◌&&◌, List, [], ◌++◌, ltb, eqb, Option, Some, None}
 use Rattle.rules.specs.Limits.{places, entries}
 use Rattle.segment.specs.declared.Entry.{Entry}
 use Rattle.segment.specs.declared.PlaceRow.{PlaceRow}
@@ -10,8 +9,6 @@ use Rattle.segment.specs.Fields.{entry_at, place_at}
 use Rattle.ports.specs.Slots.{seek, has}
 use Rattle.accessors.specs.Sides.{count_side}
 use Rattle.accessors.specs.Outstanding.{queue_of}
-use Rattle.notices.specs.declared.Left.{Left}
-use Rattle.notices.specs.declared.Left.TheVariants.{Untimed, Seconds}
 use Rattle.notices.specs.declared.Request.{Request}
 use Rattle.notices.specs.declared.Request.TheVariants.{Idle, Reads, Writes, HasRead, HasWritten}
 use Rattle.notices.specs.Lines.{nobody_line, request_line, row_line}
@@ -20,18 +17,18 @@ use Rattle.notices.specs.Lines.{nobody_line, request_line, row_line}
 abbrev pub found_at : List ℕ → ℕ → ℕ → ℕ
 found_at s l i = nth s (seek (has 0 i) s l entries)
 
--- the time left in the timer's entry e, or untimed, if there is no such entry
-unfoldable pub left_in : List ℕ → ℕ → Left
-left_in s e = cond (ltb e entries) (Seconds (entry_at s e).seconds) Untimed
+-- the time left in the timer's entry e, if there is such an entry
+unfoldable pub left_in : List ℕ → ℕ → Option ℕ
+left_in s e = cond (ltb e entries) (Some (entry_at s e).seconds) None
 
-abbrev pub left_at : List ℕ → ℕ → Left
+abbrev pub left_at : List ℕ → ℕ → Option ℕ
 left_at s i = left_in s (found_at s timer_list i)
 
--- 1 if entry e, the first of a list, is of place i, else 0
-unfoldable pub first_in : List ℕ → ℕ → ℕ → ℕ
-first_in s i e = cond (ltb e entries) (bit (eqb (entry_at s e).place i)) 0
+-- whether there is an entry e, the first of a list, and it is of place i
+unfoldable pub first_in : List ℕ → ℕ → ℕ → Bool
+first_in s i e = ltb e entries && eqb (entry_at s e).place i
 
-abbrev pub first_at : List ℕ → ℕ → ℕ → ℕ
+abbrev pub first_at : List ℕ → ℕ → ℕ → Bool
 first_at s l i = first_in s i (nth s l)
 
 -- the request that waits in list l, with the entry e; `completed_in` is a completed request

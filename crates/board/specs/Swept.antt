@@ -1,5 +1,5 @@
 -- Whether the bytes that no call reads are zero, as the memories show it. For memories that stand for a desk that is `swept` of the desk and the memories
--- (`swept-is` in proofs/Swept.antt).
+-- (`swept_is` in proofs/Swept.antt).
 use Rattle.std.specs.Prelude.{ℕ, zero, suc, ◌+◌, ◌-◌, ◌*◌, Bool, true, cond, ◌&&◌, List, eqb}
 use Rattle.words.specs.Word.{quiet}
 use Rattle.rules.specs.Limits.{files, places, buffer_bytes}

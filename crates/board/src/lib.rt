@@ -5,18 +5,18 @@
 mod outstanding;
 mod unread;
 
-ghost use Rattle.std.specs.Prelude.{◌≡◌, List, ℕ, ◌+◌, ◌-◌, ◌*◌, ◌≤◌, ◌<◌, length};
+ghost use Rattle.std.specs.Prelude.{◌≡◌, List, ℕ, ◌+◌, ◌-◌, ◌*◌, ◌≤◌, ◌<◌, IfOk, length};
 ghost use Rattle.rules.specs.Limits.{files, places};
 ghost use Rattle.rules.specs.State.{Built, built};
 ghost use Rattle.rules.specs.Desk.{Desk, file_of};
 ghost use Rattle.rules.specs.Allocation.{Alloc};
-ghost use Rattle.segment.specs.Layout.{segment_bytes};
 ghost use Rattle.memory.specs.Memories.{memories, lent, was};
 ghost use Rattle.memory.specs.Fine.{StandsFor};
 ghost use Rattle.memory.specs.Swept as memory;
 ghost use Rattle.ring.specs.Ring.{Ranged, used};
 ghost use Rattle.midst.specs.FileStands.{FileStands};
 ghost use Rattle.midst.specs.Outcome.{Sound, SoundBlocks};
+ghost use Rattle.kinds.specs.Refusals.{refusal_number, length_of};
 ghost use Rattle.promises.specs.Promise.{written};
 ghost use Rattle.texts.specs.Put.{Put};
 ghost use Rattle.notices.specs.Lines.{line_room};
@@ -26,12 +26,16 @@ ghost use Rattle.board.specs.Promise.{Ends, Board};
 
 use accessors::sides::count_side;
 use accessors::words_of;
+use kinds::Answer;
 use kinds::limits::{FILES, PLACES};
+use kinds::memories::{Blocks, Buffers};
+use kinds::refusals::Refusal;
 use kinds::sides::CLOSED;
-use kinds::{Answer, refusals};
 use notices::{put_accessor, put_geometry, put_held, put_request};
 use outstanding::request_at;
 use ring::Ring;
+use segment::Segment;
+use sound::standing;
 use texts::put_text;
 use unread::swept;
 
@@ -45,16 +49,9 @@ pub const BOARD_ROOM: usize = FILES * FILE_ROOM + LINE_ROOM;
 // The number of closed places of a file that nobody has open.
 const ALL_PLACES: u16 = PLACES as u16;
 
-// The status of a board, and the length of its text.
-#[derive(Clone, Copy)]
-pub struct Shown {
-    pub status: u8,
-    pub length: usize,
-}
-
 // Puts the lines of the accessor at place p of file f, if one is open there.
-fn put_place(segment: &[u8], out: &mut [u8], at: usize, f: usize, p: usize) -> usize
-    requires { (length segment.now ≡ segment_bytes) × (f < files) × (p < places) × (at + acc_room ≤ length out.old) }
+fn put_place(segment: &Segment, out: &mut [u8], at: usize, f: usize, p: usize) -> usize
+    requires { (f < files) × (p < places) × (at + acc_room ≤ length out.old) }
     ensures { Put acc_room out.old at (place_text_at segment.now f p) out.new result }
 {
     let row = segment::read_place(segment, PLACES * f + p);
@@ -68,22 +65,20 @@ fn put_place(segment: &[u8], out: &mut [u8], at: usize, f: usize, p: usize) -> u
 }
 
 // Puts the lines of all accessors of file f.
-fn put_places(segment: &[u8], out: &mut [u8], at: usize, f: usize) -> usize
-    requires { (length segment.now ≡ segment_bytes) × (f < files) × (at + places * acc_room ≤ length out.old) }
+fn put_places(segment: &Segment, out: &mut [u8], at: usize, f: usize) -> usize
+    requires { (f < files) × (at + places * acc_room ≤ length out.old) }
     ensures { Put (places * acc_room) out.old at (places_at segment.now f places) out.new result }
 {
     let mut end = at;
-    let mut p = 0;
-    while p < PLACES {
+    for p in 0..PLACES {
         end = put_place(segment, out, end, f, p);
-        p += 1;
     }
     end
 }
 
 // Puts the lines of all accessors of file f, or a line that says that it has none.
-fn put_accessors(segment: &[u8], out: &mut [u8], at: usize, f: usize) -> usize
-    requires { (length segment.now ≡ segment_bytes) × (f < files) × (at + places * acc_room ≤ length out.old) }
+fn put_accessors(segment: &Segment, out: &mut [u8], at: usize, f: usize) -> usize
+    requires { (f < files) × (at + places * acc_room ≤ length out.old) }
     ensures { Put (places * acc_room) out.old at (accessors_at segment.now f) out.new result }
 {
     if count_side(segment, f, CLOSED) == ALL_PLACES {
@@ -103,7 +98,7 @@ fn room_left(ring: Ring, writers: u16) -> u16
 }
 
 // Puts the lines of file f, which is built.
-fn put_file(segment: &[u8], blocks: &[u8], out: &mut [u8], at: usize, f: usize) -> usize
+fn put_file(segment: &Segment, blocks: &Blocks, out: &mut [u8], at: usize, f: usize) -> usize
     requires { FileStands segment.now blocks.now f × (at + file_room ≤ length out.old) }
     ensures { (buffers : List ℕ) (d : Desk) (s : Alloc) (b : Built) → StandsFor (memories segment.now blocks.now buffers) d s → file_of d f ≡ built b → Put file_room out.old at (file_text f (built b)) out.new result }
 {
@@ -114,7 +109,7 @@ fn put_file(segment: &[u8], blocks: &[u8], out: &mut [u8], at: usize, f: usize) 
         records,
         all,
         writers,
-        readers: _,
+        ..
     } = counts
     else {
         return at;
@@ -126,27 +121,25 @@ fn put_file(segment: &[u8], blocks: &[u8], out: &mut [u8], at: usize, f: usize) 
 }
 
 // Puts the lines of file f, if it is built.
-fn put_if_built(segment: &[u8], blocks: &[u8], out: &mut [u8], at: usize, f: usize) -> usize
+fn put_if_built(segment: &Segment, blocks: &Blocks, out: &mut [u8], at: usize, f: usize) -> usize
     requires { SoundBlocks segment.now blocks.now × (f < files) × (at + file_room ≤ length out.old) }
     ensures bound { result ≤ at + file_room }
     ensures text { (buffers : List ℕ) (d : Desk) (s : Alloc) → StandsFor (memories segment.now blocks.now buffers) d s → Put file_room out.old at (file_text f (file_of d f)) out.new result }
 {
-    if words_of(segment, f) == 0 {
+    let Some(_) = words_of(segment, f) else {
         return at;
-    }
+    };
     put_file(segment, blocks, out, at, f)
 }
 
 // Puts the lines of all built files.
-fn put_files(segment: &[u8], blocks: &[u8], out: &mut [u8]) -> usize
+fn put_files(segment: &Segment, blocks: &Blocks, out: &mut [u8]) -> usize
     requires { SoundBlocks segment.now blocks.now × (files_room ≤ length out.old) }
     ensures { (buffers : List ℕ) (d : Desk) (s : Alloc) → StandsFor (memories segment.now blocks.now buffers) d s → Put files_room out.old 0 (files_text d files) out.new result }
 {
     let mut end = 0;
-    let mut f = 0;
-    while f < FILES {
+    for f in 0..FILES {
         end = put_if_built(segment, blocks, out, end, f);
-        f += 1;
     }
     end
 }
@@ -163,7 +156,13 @@ fn put_nothing(out: &mut [u8], at: usize) -> usize
 }
 
 // Puts a last line if bytes that no call reads are not zero.
-fn put_swept(segment: &[u8], blocks: &[u8], buffers: &[u8], out: &mut [u8], at: usize) -> usize
+fn put_swept(
+    segment: &Segment,
+    blocks: &Blocks,
+    buffers: &Buffers,
+    out: &mut [u8],
+    at: usize,
+) -> usize
     requires { Sound (lent segment.now blocks.now buffers.now) × (at + line_room ≤ length out.old) }
     ensures { (d : Desk) (s : Alloc) → StandsFor (was segment.now blocks.now buffers.now) d s → Put line_room out.old at (swept_text (memory.swept d (was segment.now blocks.now buffers.now))) out.new result }
 {
@@ -178,7 +177,7 @@ fn put_swept(segment: &[u8], blocks: &[u8], buffers: &[u8], out: &mut [u8], at: 
 }
 
 // Puts the whole board, starting at the first byte of the output.
-fn put_board(segment: &[u8], blocks: &[u8], buffers: &[u8], out: &mut [u8]) -> usize
+fn put_board(segment: &Segment, blocks: &Blocks, buffers: &Buffers, out: &mut [u8]) -> usize
     requires { Sound (lent segment.now blocks.now buffers.now) × (board_room ≤ length out.old) }
     ensures { (d : Desk) (s : Alloc) → StandsFor (was segment.now blocks.now buffers.now) d s → Put board_room out.old 0 (whole_text d (was segment.now blocks.now buffers.now)) out.new result }
 {
@@ -187,27 +186,22 @@ fn put_board(segment: &[u8], blocks: &[u8], buffers: &[u8], out: &mut [u8]) -> u
     put_swept(segment, blocks, buffers, out, end)
 }
 
-fn refused(status: u8) -> Shown
-    ensures { (result.status ≡ status) × (result.length ≡ 0) }
+// Writes the board, starting at the first byte of the output, and gives its length. Refused with 29: a memory has the wrong length or is unsound; with 44: the
+// output is shorter than BOARD_ROOM. Then nothing is written.
+pub fn board(
+    segment: &[u8],
+    blocks: &[u8],
+    buffers: &[u8],
+    out: &mut [u8],
+) -> Result<usize, Refusal>
+    ensures board { Board (was segment.now blocks.now buffers.now) out.old (written (refusal_number result) (length_of result) out.new) }
+    ensures fits { IfOk result (λ n. n ≤ length out.old) }
 {
-    Shown { status, length: 0 }
-}
-
-// Writes the board, starting at the first byte of the output. Status 29: a memory has the wrong length or is unsound; 44: the output is shorter than
-// BOARD_ROOM. Then nothing is written.
-pub fn board(segment: &[u8], blocks: &[u8], buffers: &[u8], out: &mut [u8]) -> Shown
-    ensures board { Board (was segment.now blocks.now buffers.now) out.old (written result.status result.length out.new) }
-    ensures fits { result.length ≤ length out.old }
-{
-    if !sound::sound(segment, blocks, buffers) {
-        return refused(refusals::UNSOUND);
-    }
+    let Some(desk) = standing(segment, blocks, buffers) else {
+        return Err(Refusal::Unsound);
+    };
     if out.len() < BOARD_ROOM {
-        return refused(refusals::SHORT);
+        return Err(Refusal::Short);
     }
-    let length = put_board(segment, blocks, buffers, out);
-    Shown {
-        status: refusals::NONE,
-        length,
-    }
+    Ok(put_board(desk.segment, desk.blocks, desk.buffers, out))
 }

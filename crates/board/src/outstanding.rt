@@ -1,51 +1,45 @@
 // The request of an accessor, as the lists of the segment show it.
-ghost use Rattle.std.specs.Prelude.{◌≡◌, ◌<◌, length};
+ghost use Rattle.std.specs.Prelude.{◌≡◌, ◌<◌};
 ghost use Rattle.rules.specs.Limits.{files, places};
 ghost use Rattle.segment.specs.declared.Entry.{Entry};
-ghost use Rattle.segment.specs.Layout.{segment_bytes, file_rows, desk_places};
+ghost use Rattle.segment.specs.Layout.{file_rows, desk_places};
 ghost use Rattle.board.specs.Found.{left_at, first_at, waiting_at, completed_in, request_at};
 
 use accessors::outstanding::queue_of;
 use kinds::limits::PLACES;
 use kinds::sides::WRITER;
-use notices::{Left, Request};
-use segment::layout;
+use notices::Request;
+use segment::{Segment, layout};
 
-// What is left of the timeout of the request at a place of the desk.
-fn left_at(segment: &[u8], place: usize) -> Left
-    requires segment_len { length segment.now ≡ segment_bytes }
-    requires place_lt_desk_places { place < desk_places }
+// What is left of the timeout of the request at a place of the desk, if it has one.
+#[tactic(auto, using(std::proofs::lemmas::Bool::Decides::nat_tests), unfolding(crate::specs::Found::left_in))]
+fn left_at(segment: &Segment, place: usize) -> Option<u16>
+    requires { place < desk_places }
     ensures { result ≡ left_at segment.now place }
 {
     let slot = ports::seek_place(segment, layout::TIMER_LIST, place as u16);
     let e = segment::get(segment, slot);
     if layout::ENTRIES <= e {
-        return Left::Untimed;
+        return None;
     }
     let seconds = segment::entry_seconds(segment, e);
-    Left::Seconds(seconds)
+    Some(seconds)
 }
 
-// Whether the first entry of the list belongs to the place: 1 or 0.
-fn first_at(segment: &[u8], list: usize, place: usize) -> u16
-    requires segment_len { length segment.now ≡ segment_bytes }
-    requires list_lt_file_rows { (list < file_rows) × (place < desk_places) }
+// Whether the first entry of the list belongs to the place.
+#[tactic(auto, unfolding(crate::specs::Found::first_in))]
+fn first_at(segment: &Segment, list: usize, place: usize) -> bool
+    requires { (list < file_rows) × (place < desk_places) }
     ensures { result ≡ first_at segment.now list place }
 {
     let e = segment::get(segment, list);
-    if layout::ENTRIES <= e {
-        return 0;
-    }
-    if segment::entry_place(segment, e) as usize == place {
-        return 1;
-    }
-    0
+    e < layout::ENTRIES && segment::entry_place(segment, e) as usize == place
 }
 
 // The request of the accessor at a place, on that side, if it waits in the queue; else `Idle`.
-fn waiting(segment: &[u8], queue: usize, place: usize, side: u16) -> Request
-    requires segment_len { length segment.now ≡ segment_bytes }
-    requires queue_lt_file_rows { (queue < file_rows) × (place < desk_places) }
+#[tactic(auto, using(std::proofs::lemmas::Bool::Decides::nat_tests), unfolding(crate::specs::Found::waiting_in))]
+fn waiting(segment: &Segment, queue: usize, place: usize, side: u16) -> Request
+    requires { (queue < file_rows) × (place < desk_places) }
     ensures { result ≡ waiting_at segment.now queue place side }
 {
     let slot = ports::seek_place(segment, queue, place as u16);
@@ -65,6 +59,7 @@ fn waiting(segment: &[u8], queue: usize, place: usize, side: u16) -> Request
 }
 
 // The completed request that an entry holds, for an accessor on that side.
+#[tactic(auto, using(std::proofs::lemmas::Bool::Decides::nat_tests), unfolding(crate::specs::Found::completed_in))]
 fn completed(side: u16, entry: segment::Entry) -> Request
     ensures { result ≡ completed_in side entry }
 {
@@ -77,9 +72,9 @@ fn completed(side: u16, entry: segment::Entry) -> Request
 }
 
 // The request at place p of file f, whose accessor is on that side.
-pub fn request_at(segment: &[u8], f: usize, p: usize, side: u16) -> Request
-    requires segment_len { length segment.now ≡ segment_bytes }
-    requires f_lt_files { (f < files) × (p < places) }
+#[tactic(auto, using(std::proofs::lemmas::Bool::Decides::nat_tests), unfolding(crate::specs::Found::request_at))]
+pub fn request_at(segment: &Segment, f: usize, p: usize, side: u16) -> Request
+    requires { (f < files) × (p < places) }
     ensures { result ≡ request_at segment.now f p side }
 {
     let place = PLACES * f + p;

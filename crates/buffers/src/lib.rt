@@ -8,11 +8,13 @@ ghost use Rattle.words.specs.Word.{zeros};
 ghost use Rattle.rules.specs.Limits.{buffer_bytes};
 ghost use Rattle.rules.specs.Memories.{buffer_at};
 ghost use Rattle.rules.specs.Buffers.{filled};
-ghost use Rattle.buffers.specs.Buffer.{buffer_count, buffers_bytes, emptied};
+ghost use Rattle.buffers.specs.Buffer.{buffer_count, emptied};
 
 use kinds::limits::BUFFER_BYTES;
+use kinds::memories::Buffers;
 
 // Puts the data into the buffer, with zeros after them.
+// Kept: the buffer is a slice, here and in `clear`: a part of a memory becomes an array only by a test of its length at each call.
 pub fn fill(buffer: &mut [u8], data: &[u8])
     requires { (length buffer.old ≡ buffer_bytes) × (length «data».now ≤ buffer_bytes) }
     ensures { buffer.new ≡ filled «data».now }
@@ -32,30 +34,26 @@ pub fn clear(buffer: &mut [u8])
 
 // `fill` and `clear` on the whole memory, for the buffer of a place.
 
-pub fn fill_at(buffers: &mut [u8], place: usize, data: &[u8])
-    requires { (length buffers.old ≡ buffers_bytes) × (place < buffer_count) × (length «data».now ≤ buffer_bytes) }
+pub fn fill_at(buffers: &mut Buffers, place: usize, data: &[u8])
+    requires { (place < buffer_count) × (length «data».now ≤ buffer_bytes) }
     ensures { buffers.new ≡ sets buffers.old (buffer_bytes * place) (filled «data».now) }
 {
-    let a = BUFFER_BYTES * place;
-    let e = a + BUFFER_BYTES;
-    fill(&mut buffers[a..e], data);
+    let at = BUFFER_BYTES * place;
+    fill(&mut buffers[at..at + BUFFER_BYTES], data);
 }
 
-pub fn clear_at(buffers: &mut [u8], place: usize)
-    requires { (length buffers.old ≡ buffers_bytes) × (place < buffer_count) }
+pub fn clear_at(buffers: &mut Buffers, place: usize)
+    requires { place < buffer_count }
     ensures { buffers.new ≡ emptied place buffers.old }
 {
-    let a = BUFFER_BYTES * place;
-    let e = a + BUFFER_BYTES;
-    clear(&mut buffers[a..e]);
+    let at = BUFFER_BYTES * place;
+    clear(&mut buffers[at..at + BUFFER_BYTES]);
 }
 
 // The first `size` bytes in the buffer of a place.
-pub fn lies<'a>(buffers: &'a [u8], place: usize, size: usize) -> &'a [u8]
-    requires { (length buffers.now ≡ buffers_bytes) × (place < buffer_count) × (size ≤ buffer_bytes) }
+pub fn lies<'a>(buffers: &'a Buffers, place: usize, size: usize) -> &'a [u8]
+    requires { (place < buffer_count) × (size ≤ buffer_bytes) }
     ensures { result.now ≡ take size (buffer_at place buffers.now) }
 {
-    let a = BUFFER_BYTES * place;
-    let e = a + size;
-    &buffers[a..e]
+    &buffers[BUFFER_BYTES * place..][..size]
 }

@@ -45,6 +45,18 @@ module _ {n f : ℕ} {o : Start} {m : Memories} {x : hand.File} {b : Built} (M :
 
 -- the row
 
+-- a row that is zero in each field
+pub vacant : (r : PlaceRow)
+    → (r.side ≡ 0) × ((r.id ≡ 0) × ((r.share ≡ 0) × ((r.timeout ≡ 0) × ((r.extended ≡ 0) × ((r.typed ≡ 0) × ((r.keep ≡ 0) × (r.first ≡ 0)))))))
+    → r ≡ record { side = 0; id = 0; share = 0; timeout = 0; extended = 0; typed = 0; keep = 0; first = 0 }
+vacant r (a, (b, (c, (d, (e, (f, (g, h))))))) = go r.side r.id r.share r.timeout r.extended r.typed r.keep r.first a b c d e f g h
+  where
+    go : (side id share timeout extended typed keep first : ℕ)
+        → side ≡ 0 → id ≡ 0 → share ≡ 0 → timeout ≡ 0 → extended ≡ 0 → typed ≡ 0 → keep ≡ 0 → first ≡ 0
+        → ◌≡◌ {A = PlaceRow} (record { side = side; id = id; share = share; timeout = timeout; extended = extended; typed = typed; keep = keep; first = first })
+        (record { side = 0; id = 0; share = 0; timeout = 0; extended = 0; typed = 0; keep = 0; first = 0 })
+    go side id share timeout extended typed keep first a b c d e f g h = rw (a, b, c, d, e, f, g, h)
+
 module _ {f : ℕ} {o : Start} {ms : Memories} {x : hand.File} {b : Built} (M : Mid Fine f o ms x b) (p : ℕ) (a : Acc) (e : acc_at b p ≡ some a) where
   pub leave-size : (length ms.segment ≡ segment_bytes) × (f < files) × (p < places)
   leave-size = (mid-lengths M, M.file, mid-below M p a e)

@@ -16,22 +16,24 @@ ghost use Rattle.midst.proofs.Walks.{Owed};
 
 mod readers;
 
+use blocks::writing::NewRecord;
 use controls::waiting::remove;
 use kinds::Answer;
 use kinds::limits::PLACES;
+use kinds::memories::{Blocks, Buffers};
 use kinds::record_types::CLOSE;
 use kinds::sides::WRITER;
 use midst::{File, take_file};
 use readers::last_gone;
-use segment::PlaceRow;
+use segment::{PlaceRow, Segment};
 use settling::conclude;
 use store::put;
 
 // Ends the waiting readers if the writer that has gone was the last, "then a writer's close record is put".
 fn part(
-    segment: &mut [u8],
-    blocks: &mut [u8],
-    buffers: &mut [u8],
+    segment: &mut Segment,
+    blocks: &mut Blocks,
+    buffers: &mut Buffers,
     f: usize,
     file: File,
     id: u16,
@@ -40,15 +42,19 @@ fn part(
     ensures { (o : Start) (b : Built) → Mid (Owed id) f o (was segment.old blocks.old buffers.old) file b → Mid Fine f o (left segment.new blocks.new buffers.new) result (put_rec (close_rec id) (last_gone b)) }
 {
     last_gone(segment, buffers, f);
-    let nothing = [0u8; 0];
-    put(blocks, f, file, CLOSE, id, &nothing)
+    let record = NewRecord {
+        typ: CLOSE,
+        wid: id,
+        data: &[],
+    };
+    put(blocks, f, file, record)
 }
 
 // Removes the accessor at place acc, which has no request.
 fn leave(
-    segment: &mut [u8],
-    blocks: &mut [u8],
-    buffers: &mut [u8],
+    segment: &mut Segment,
+    blocks: &mut Blocks,
+    buffers: &mut Buffers,
     f: usize,
     acc: usize,
     file: File,
@@ -58,17 +64,7 @@ fn leave(
 {
     let place = PLACES * f + acc;
     let row = segment::read_place(segment, place);
-    let vacant = PlaceRow {
-        side: 0,
-        id: 0,
-        share: 0,
-        timeout: 0,
-        extended: 0,
-        typed: 0,
-        keep: 0,
-        first: 0,
-    };
-    segment::write_place(segment, place, vacant);
+    segment::write_place(segment, place, PlaceRow::default());
     if row.side != WRITER {
         return file;
     }
@@ -76,9 +72,9 @@ fn leave(
 }
 
 pub fn close(
-    segment: &mut [u8],
-    blocks: &mut [u8],
-    buffers: &mut [u8],
+    segment: &mut Segment,
+    blocks: &mut Blocks,
+    buffers: &mut Buffers,
     f: usize,
     acc: usize,
 ) -> Answer

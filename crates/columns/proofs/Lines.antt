@@ -5,8 +5,7 @@ use mathlib.Core.Bool.{Bool, true, false}
 use native.Mathlib.Omega.{arith}
 use lib.Dec.{eqb}
 use Rattle.texts.specs.Spell.{spell}
-use Rattle.notices.specs.declared.Left.{Left}
-use Rattle.notices.specs.declared.Left.TheVariants.{Untimed, Seconds}
+use Rattle.std.specs.Prelude.{Option, Some, None}
 use Rattle.notices.specs.declared.Request.{Request}
 use Rattle.notices.specs.declared.Request.TheVariants.{Idle, Reads, Writes, HasRead, HasWritten}
 use Rattle.notices.specs.Lines.{lf, size_text, blocks_text, geometry_line, held_text, room_text, held_line, nobody_line, side_text, timeout_text, who_text, settings_text, accessor_line, left_text, first_text, status_text, read_text, written_text, request_line}
@@ -50,14 +49,14 @@ accessor-ruled p writer ident typed keep timeout extended =
     ((text "  place " refl next digit-piece p next text "  " refl next side-piece writer ident typed keep)
     last timeout-piece timeout last piece-if extended (text "; extended wait" refl) last ends-here)
 
-left-piece : (left : Left) → Piece 14 (left_text left)
+left-piece : (left : Option ℕ) → Piece 14 (left_text left)
 unfolding left_text spell plain
-left-piece Untimed = piece-within 14 (omega arith) (text ", no timeout" refl)
-left-piece (Seconds n) = text ", " refl next number-piece n next text " s left" refl
+left-piece None = piece-within 14 (omega arith) (text ", no timeout" refl)
+left-piece (Some n) = text ", " refl next number-piece n next text " s left" refl
 
-first_piece : (first : ℕ) → Piece 15 (first_text first)
+first_piece : (first : Bool) → Piece 15 (first_text first)
 unfolding first_text spell plain
-first_piece first = piece-if (eqb first 1) (text ", first in line" refl)
+first_piece first = piece-if first (text ", first in line" refl)
 
 status-piece : (st : ℕ) → Piece 12 (status_text st)
 unfolding status_text spell plain

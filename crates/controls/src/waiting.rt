@@ -1,20 +1,21 @@
 // Removes a waiting request, for control 43 and for "a waiting request is cancelled" of a close.
-ghost use Rattle.std.specs.Prelude.{◌≡◌, cond, ◌+◌, ◌*◌, ◌<◌, length};
+ghost use Rattle.std.specs.Prelude.{◌≡◌, cond, ◌+◌, ◌*◌, ◌<◌};
 ghost use Rattle.rules.specs.Limits.{files, places, entries};
-ghost use Rattle.segment.specs.Layout.{segment_bytes, file_rows, desk_places};
+ghost use Rattle.segment.specs.Layout.{file_rows, desk_places};
 ghost use Rattle.segment.specs.Table.{nth};
-ghost use Rattle.buffers.specs.Buffer.{buffers_bytes, emptied};
+ghost use Rattle.buffers.specs.Buffer.{emptied};
 ghost use Rattle.requests.specs.Moves.{slot_of, cancelled};
 ghost use Rattle.accessors.specs.Outstanding.{queue_of, outstanding_at};
 ghost use Rattle.controls.specs.Removed.{is_waiting};
 
 use accessors::outstanding::queue_of;
 use kinds::limits::PLACES;
-use segment::layout;
+use kinds::memories::Buffers;
+use segment::{Segment, layout};
 
 // Removes the request of a place, whose entry is at the slot, and empties the place's buffer.
-fn take_away(segment: &mut [u8], buffers: &mut [u8], slot: usize, place: usize)
-    requires { (length segment.old ≡ segment_bytes) × (length buffers.old ≡ buffers_bytes) × (slot < file_rows) × (place < desk_places) × (nth segment.old slot < entries) }
+fn take_away(segment: &mut Segment, buffers: &mut Buffers, slot: usize, place: usize)
+    requires { (slot < file_rows) × (place < desk_places) × (nth segment.old slot < entries) }
     ensures segment { segment.new ≡ cancelled segment.old slot place }
     ensures buffers { buffers.new ≡ emptied place buffers.old }
 {
@@ -23,8 +24,8 @@ fn take_away(segment: &mut [u8], buffers: &mut [u8], slot: usize, place: usize)
 }
 
 // Removes the request of place acc of file f if it waits, and says whether it did. The side is its accessor's. Its entry is searched for once.
-pub fn remove(segment: &mut [u8], buffers: &mut [u8], f: usize, acc: usize, side: u16) -> bool
-    requires { (length segment.old ≡ segment_bytes) × (length buffers.old ≡ buffers_bytes) × (f < files) × (acc < places) }
+pub fn remove(segment: &mut Segment, buffers: &mut Buffers, f: usize, acc: usize, side: u16) -> bool
+    requires { (f < files) × (acc < places) }
     ensures waits { result ≡ is_waiting (outstanding_at segment.old f acc side) }
     ensures segment { segment.new ≡ cond (is_waiting (outstanding_at segment.old f acc side)) (cancelled segment.old (slot_of segment.old (queue_of f side) (places * f + acc)) (places * f + acc)) segment.old }
     ensures buffers { buffers.new ≡ cond (is_waiting (outstanding_at segment.old f acc side)) (emptied (places * f + acc) buffers.old) buffers.old }

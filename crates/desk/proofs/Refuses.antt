@@ -1,10 +1,8 @@
 -- A refused frame: the desk stays as it is, and two bytes are written.
 use Prim.Native.Nat.{ℕ}
 use mathlib.Core.Path.{◌≡◌, refl, sym, ap, ◌∙◌, subst}
-use mathlib.Core.Bool.{Bool, ◌&&◌, and-true}
 use mathlib.Core.List.{List, []}
 use mathlib.Core.Option.{none, some}
-use lib.Dec.{eqb}
 use lib.ListN.{get_or, drop}
 use Rattle.rules.specs.Limits.{write_head}
 use Rattle.kinds.specs.declared.Answer.TheVariants.{Status}
@@ -25,7 +23,6 @@ use Rattle.midst.specs.Outcome.{reply_status, status_of, refusal_of, Told}
 use Rattle.midst.proofs.Accepted.{accepted-code}
 use Rattle.midst.proofs.Refused.{stands-refused}
 use Rattle.midst.proofs.StandsBehind.{still-stays}
-use Rattle.judges.specs.Refused.{purges_by}
 use Rattle.desk.specs.Acted.{Responds}
 use Rattle.desk.specs.Refusals.{Twice, Refusal}
 use Rattle.promises.proofs.First.{operation_of, first_byte}
@@ -97,7 +94,3 @@ pub not-refused : (fr : List ℕ) (e : Event) (n : ℕ) (d : Desk) → frame_of 
     → refusal_of (respond d (event fr)).reply ≡ 0
 unfolding respond asked
 not-refused fr e n d said h z = ap (λ (y : Frame). refusal_of (answered d (frame_asks y (drop write_head fr))).reply) said ∙ sym h ∙ z
-
--- whether an event that is not refused purges is what judging found
-pub purge-found : (xs : List ℕ) (e : Event) (n : ℕ) {t : Bool} → t ≡ (purges_by xs e && eqb n 0) → n ≡ 0 → t ≡ purges_by xs e
-purge-found xs e n k z = k ∙ ap (λ (m : ℕ). purges_by xs e && eqb m 0) z ∙ and-true (purges_by xs e)

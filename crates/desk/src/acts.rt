@@ -8,8 +8,10 @@ use closing::close;
 use controls::control;
 use file_counts::counts;
 use kinds::limits::WRITE_HEAD;
+use kinds::memories::{Blocks, Buffers};
 use kinds::{Answer, Event};
 use opening::{build, open};
+use segment::Segment;
 use timeouts::pass_time;
 use transfers::{DataAnswer, collect, read, write};
 
@@ -22,9 +24,9 @@ fn plain(answer: Answer) -> DataAnswer
 
 // Does an accepted event and gives its answer. A record's data, if there are any, go into the answer memory where the answer's own bytes will end.
 pub fn act(
-    segment: &mut [u8],
-    blocks: &mut [u8],
-    buffers: &mut [u8],
+    segment: &mut Segment,
+    blocks: &mut Blocks,
+    buffers: &mut Buffers,
     answer: &mut [u8],
     event: Event,
     frame: &[u8],

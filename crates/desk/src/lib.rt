@@ -4,7 +4,9 @@
 mod acts;
 mod refusals;
 
-ghost use Rattle.std.specs.Prelude.{◌≤◌};
+ghost use Rattle.std.specs.Prelude.{◌≡◌, ◌≤◌, length};
+ghost use Rattle.kinds.specs.Refusals.{refusal_number};
+ghost use Rattle.midst.specs.Outcome.{Sound};
 ghost use Rattle.rules.specs.Limits.{answer_room};
 ghost use Rattle.rules.specs.Desk.{Desk};
 ghost use Rattle.rules.specs.Desk as rules;
@@ -20,16 +22,18 @@ use acts::act;
 use frames::{decode, encode};
 use judges::judge;
 use kinds::limits::ANSWER_ROOM;
-use kinds::refusals::UNSOUND;
+use kinds::memories::{Blocks, Buffers};
+use kinds::refusals::Refusal;
 use kinds::{Event, Frame};
-use refusals::{number_of, refuse, status};
-use sound::sound;
+use refusals::{judge_frame, refuse, status};
+use segment::Segment;
+use sound::{standing, stands};
 
 // Does and answers an accepted event. Judging has found whether it purges.
 fn serve(
-    segment: &mut [u8],
-    blocks: &mut [u8],
-    buffers: &mut [u8],
+    segment: &mut Segment,
+    blocks: &mut Blocks,
+    buffers: &mut Buffers,
     answer: &mut [u8],
     event: Event,
     frame: &[u8],
@@ -42,6 +46,27 @@ fn serve(
     let given = act(segment, blocks, buffers, answer, event, frame, purges);
     let told = given.answer;
     encode(told, answer) + given.size as usize
+}
+
+// Answers a frame, for memories that stand for a desk.
+fn answer_frame(
+    segment: &mut Segment,
+    blocks: &mut Blocks,
+    buffers: &mut Buffers,
+    answer: &mut [u8],
+    frame: &[u8],
+) -> usize
+    requires { Sound (lent segment.old blocks.old buffers.old) × (length answer.old ≡ answer_room) }
+    ensures { (d : Desk) (s : Alloc) → StandsFor (was segment.old blocks.old buffers.old) d s → Responds d s (rules.event «frame».now) (was segment.old blocks.old buffers.old) answer.old (left segment.new blocks.new buffers.new) answer.new result }
+{
+    let said = decode(frame);
+    let Frame::Event(event) = said else {
+        return refuse(segment, said, answer);
+    };
+    match judge(segment, event) {
+        Ok(purges) => serve(segment, blocks, buffers, answer, event, frame, purges),
+        Err(refusal) => status(frame[0], refusal.number(), answer),
+    }
 }
 
 // Answers a frame. The answer starts at the first byte of the answer memory, and its length is the result.
@@ -58,36 +83,33 @@ pub fn event(
     if answer.len() != ANSWER_ROOM {
         return 0;
     }
-    if !sound(segment, blocks, buffers) {
+    let Some(words) = segment.as_mut_array() else {
+        return 0;
+    };
+    let Some(shares) = blocks.as_mut_array() else {
+        return 0;
+    };
+    let Some(data) = buffers.as_mut_array() else {
+        return 0;
+    };
+    if !stands(words, shares, data) {
         return 0;
     }
-    let said = decode(frame);
-    let Frame::Event(event) = said else {
-        return refuse(segment, said, answer);
-    };
-    let verdict = judge(segment, event);
-    if verdict.refusal != 0 {
-        return status(frame[0], verdict.refusal, answer);
-    }
-    serve(
-        segment,
-        blocks,
-        buffers,
-        answer,
-        event,
-        frame,
-        verdict.purges,
-    )
+    answer_frame(words, shares, data, answer, frame)
 }
 
-// The refusal number that an event call with this frame would get, given answer memory of the right length: 29 if the memories are not a desk, 0 if it would be done.
+// Says whether an event call with this frame would be refused, given answer memory of the right length: 29 if the memories are not a desk.
 // Nothing changes.
-pub fn refusal_of(segment: &[u8], blocks: &[u8], buffers: &[u8], frame: &[u8]) -> u8
-    ensures { RefusedWith (was segment.now blocks.now buffers.now) (rules.event «frame».now) result }
+pub fn refusal_of(
+    segment: &[u8],
+    blocks: &[u8],
+    buffers: &[u8],
+    frame: &[u8],
+) -> Result<(), Refusal>
+    ensures { RefusedWith (was segment.now blocks.now buffers.now) (rules.event «frame».now) (refusal_number result) }
 {
-    if !sound(segment, blocks, buffers) {
-        return UNSOUND;
-    }
-    let said = decode(frame);
-    number_of(segment, said)
+    let Some(desk) = standing(segment, blocks, buffers) else {
+        return Err(Refusal::Unsound);
+    };
+    judge_frame(desk.segment, decode(frame))
 }

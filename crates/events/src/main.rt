@@ -1,23 +1,27 @@
 // The event program: reads frames from standard input, one hexadecimal line each, and prints their answers, one line each.
 #![tactic(auto)]
 
-ghost use Rattle.std.specs.Prelude.{◌≡◌, true, IfSome};
+ghost use Rattle.std.specs.Prelude.{OnOk, IfSome};
 ghost use Rattle.std.specs.Io.KnownBytes.{Appends};
 ghost use Rattle.rules.specs.Desk.{program};
 
 use kinds::limits::{BLOCKS_BYTES, BUFFERS_BYTES};
 use segment::layout::SEGMENT_BYTES;
-use serving::serve;
+use serving::{Unserved, serve};
 use std::io::{Read, Write};
 
-// Answers the frames of the input on a fresh desk, and says whether all of it was read and answered. Then what was printed is what document 01 says.
-fn answer<I: Read, O: Write, E: Write>(input: &mut I, output: &mut O, errors: &mut E) -> bool
-    ensures { result ≡ true → IfSome (I.remaining input.old) (λ text. Appends (O.contents output.old) (O.contents output.new) (program text)) }
+// Answers the frames of the input on a fresh desk. Where all of it was read and answered, what was printed is what document 01 says.
+fn answer<I: Read, O: Write, E: Write>(
+    input: &mut I,
+    output: &mut O,
+    errors: &mut E,
+) -> Result<(), Unserved>
+    ensures { OnOk result (IfSome (I.remaining input.old) (λ text. Appends (O.contents output.old) (O.contents output.new) (program text))) }
 {
     let mut segment = [0u8; SEGMENT_BYTES];
     let mut blocks = [0u8; BLOCKS_BYTES];
     let mut buffers = [0u8; BUFFERS_BYTES];
-    fresh::fresh(&mut segment, &mut blocks, &mut buffers);
+    let _ = fresh::fresh(&mut segment, &mut blocks, &mut buffers);
     serve(
         input,
         output,
@@ -30,12 +34,12 @@ fn answer<I: Read, O: Write, E: Write>(input: &mut I, output: &mut O, errors: &m
 }
 
 fn main(rt: HostRuntime) {
-    answer(&mut rt.stdin(), &mut rt.stdout(), &mut rt.stderr());
+    let _ = answer(&mut rt.stdin(), &mut rt.stdout(), &mut rt.stderr());
 }
 
 #[cfg(test)]
 mod tests {
-    use super::answer;
+    use super::{Unserved, answer};
     use std::alloc::Global;
     use std::io;
     use std::io::{Read, Write};
@@ -91,22 +95,22 @@ mod tests {
         text: &[u8],
         fails: bool,
         room: usize,
-    ) -> Result<(bool, Vec<u8>, Vec<u8>), Fail> {
+    ) -> Result<(Result<(), Unserved>, Vec<u8>, Vec<u8>), Fail> {
         let mut input = Slow { text, fails };
         let mut output = Short {
             kept: Vec::new(alloc),
             room,
         };
         let mut errors = Vec::new(alloc);
-        let well = answer(&mut input, &mut output, &mut errors);
-        Ok((well, output.kept, errors))
+        let served = answer(&mut input, &mut output, &mut errors);
+        Ok((served, output.kept, errors))
     }
 
     // The last line lacks its LF, and the second has an odd number of digits.
     #[test]
     fn lines_are_answered(rt: HostRuntime) -> Result<(), Fail> {
-        let (well, printed, told) = answered(rt.alloc(), b"080001\n0800010\n080001", false, 100)?;
-        assert!(rt; well);
+        let (served, printed, told) = answered(rt.alloc(), b"080001\n0800010\n080001", false, 100)?;
+        assert!(rt; served == Ok(()));
         assert_eq!(rt; printed.as_slice(), b"0800\n001E\n0800\n".as_slice());
         assert_eq!(rt; told.len(), 0);
         Ok(())
@@ -115,8 +119,8 @@ mod tests {
     // A line that a failed read cuts short is not answered.
     #[test]
     fn a_read_fails(rt: HostRuntime) -> Result<(), Fail> {
-        let (well, printed, told) = answered(rt.alloc(), b"080001\n080001", true, 100)?;
-        assert!(rt; !well);
+        let (served, printed, told) = answered(rt.alloc(), b"080001\n080001", true, 100)?;
+        assert!(rt; served == Err(Unserved::Unread));
         assert_eq!(rt; printed.as_slice(), b"0800\n".as_slice());
         assert_eq!(rt; told.len(), 0);
         Ok(())
@@ -125,8 +129,8 @@ mod tests {
     // Nothing more is answered after a write has failed.
     #[test]
     fn a_write_fails(rt: HostRuntime) -> Result<(), Fail> {
-        let (well, printed, told) = answered(rt.alloc(), b"080001\n\n080001\n", false, 8)?;
-        assert!(rt; !well);
+        let (served, printed, told) = answered(rt.alloc(), b"080001\n\n080001\n", false, 8)?;
+        assert!(rt; served == Err(Unserved::Unwritten));
         assert_eq!(rt; printed.as_slice(), b"0800\n001".as_slice());
         assert_eq!(rt;
             told.as_slice(),

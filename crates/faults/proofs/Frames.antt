@@ -1,12 +1,13 @@
 -- A line has no fault exactly when it says a frame of one byte or more. So a line with a fault is taken as an empty frame, and no other line is.
 use Prim.Native.Nat.{ℕ, zero, suc, ◌+◌, ◌*◌, ◌%◌, ◌<◌, ◌≤◌}
-use mathlib.Core.Bool.{Bool, true, false, true≢false}
+use mathlib.Core.Bool.{true}
 use mathlib.Core.Path.{◌≡◌, refl, ap, sym, ◌∙◌}
 use mathlib.Core.List.{List, [], ◌∷◌, ◌++◌}
 use native.Mathlib.Omega.{arith}
 use lib.Dec.{ltb, eqb}
 use lib.ListN.{length, take}
 use borrow.Author.Tests.{lt-ltb, ltb-true, ltb-false, eqb-true, eqb-false, le-leb, eq-eqb, ne_eqb}
+use Rattle.std.specs.Prelude.{Some, None}
 use Rattle.words.specs.Word.{Bytes}
 use Rattle.rules.specs.Limits.{line_bytes}
 use Rattle.rules.specs.Line.{value_of, digits_of, all_digits, is_line, line_frame, line_of}
@@ -14,42 +15,27 @@ use Rattle.rules.proofs.Split.{by_cases}
 use Rattle.hexadecimal.proofs.Lines.{digits-cons, bytes-short, length-bytes, line-is, frame-line, frame-none}
 use Rattle.hexadecimal.proofs.Trip.{length_digits, digits-line, line-digits}
 use Rattle.faults.specs.declared.reading.Fault.{Fault}
-use Rattle.faults.specs.declared.reading.Fault.TheVariants.{Nothing, Blank, Lower, Return, Strange, Long, Odd}
+use Rattle.faults.specs.declared.reading.Fault.TheVariants.{Blank, Long, Odd}
 use Rattle.faults.specs.Faults.{most_digits, strange, digits_alone, fault_after, fault_of}
 use Rattle.faults.proofs.Steps.{after-digit, after-long, after-strange}
 
--- whether a fault is none
-unfoldable none : Fault → Bool
-none Nothing = true
-none Blank = false
-none Lower = false
-none Return = false
-none Strange = false
-none Long = false
-none Odd = false
-
-some : (f : Fault) → none f ≡ false → f ≡ Nothing → ⊥
-unfolding none
-some f h e = true≢false (ap none (sym e) ∙ h)
-
-strange-some : (b : ℕ) → none (strange b) ≡ false
-unfolding none strange
-strange-some b = by_cases (eqb b 13) (λ e. rw e) (λ e. by_cases (ltb b 97) (λ f. rw (e, f)) (λ f. by_cases (ltb b 103) (λ g. rw (e, f, g)) (λ g. rw (e, f, g))))
+some : (f : Fault) → Some f ≡ None → ⊥
+some f e = cc
 
 -- a line of digits alone
 
-digits-none : (n : ℕ) → 0 < n → n % 2 ≡ 0 → digits_alone n ≡ Nothing
+digits-none : (n : ℕ) → 0 < n → n % 2 ≡ 0 → digits_alone n ≡ None
 unfolding digits_alone
 digits-none n h e = rw (ne_eqb n 0 (λ z. omega arith), eq-eqb (n % 2) 0 e)
 
-none-digits : (n : ℕ) → digits_alone n ≡ Nothing → (0 < n) × (n % 2 ≡ 0)
-unfolding digits_alone none
+none-digits : (n : ℕ) → digits_alone n ≡ None → (0 < n) × (n % 2 ≡ 0)
+unfolding digits_alone
 none-digits n e =
     by_cases (eqb n 0)
-    (λ z. absurd (some (digits_alone n) (rw z) e))
+    (λ z. absurd (some Blank (rw z at e)))
     (λ z. by_cases (eqb (n % 2) 0)
     (λ k. let x = eqb-false n 0 z in (omega (arith, x), eqb-true _ _ k))
-    (λ k. absurd (some (digits_alone n) (rw (z, k)) e)))
+    (λ k. absurd (some Odd (rw (z, k) at e))))
 
 -- what follows n digits in a line without fault, and back
 pub record Rest (n : ℕ) (s : List ℕ) : Type 0 where
@@ -58,8 +44,8 @@ pub record Rest (n : ℕ) (s : List ℕ) : Type 0 where
   pub even : (n + length s) % 2 ≡ 0
   pub some : 0 < n + length s
 
-rest_of : (n : ℕ) (s : List ℕ) → n ≤ most_digits → fault_after n s ≡ Nothing → Rest n s
-unfolding fault_after all_digits none
+rest_of : (n : ℕ) (s : List ℕ) → n ≤ most_digits → fault_after n s ≡ None → Rest n s
+unfolding fault_after all_digits
 rest_of n [] h e = let a = none-digits n e in record { digits = refl; most = omega arith; even = omega (arith, a.1); some = omega (arith, a.0) }
 rest_of n (b ∷ s) h e =
     by_cases (ltb (value_of b) 16)
@@ -67,10 +53,10 @@ rest_of n (b ∷ s) h e =
     (λ k.
     let r = rest_of (suc n) s (omega (arith, ltb-true n most_digits k)) (sym (after-digit n b s d (ltb-true _ _ k)) ∙ e) in
     record { digits = rw d r.digits; most = omega (arith, r.most); even = omega (arith, r.even); some = omega arith })
-    (λ k. absurd (some Long refl (sym (after-long n b s d (ltb-false _ _ k)) ∙ e))))
-    (λ d. absurd (some (strange b) (strange-some b) (sym (after-strange n b s d) ∙ e)))
+    (λ k. absurd (some Long (sym (after-long n b s d (ltb-false _ _ k)) ∙ e))))
+    (λ d. absurd (some (strange b) (sym (after-strange n b s d) ∙ e)))
 
-of-rest : (n : ℕ) (s : List ℕ) → Rest n s → fault_after n s ≡ Nothing
+of-rest : (n : ℕ) (s : List ℕ) → Rest n s → fault_after n s ≡ None
 unfolding fault_after
 of-rest n [] r = digits-none n (omega (arith, r.some)) (omega (arith, r.even))
 of-rest n (b ∷ s) r =
@@ -79,13 +65,13 @@ of-rest n (b ∷ s) r =
     ∙ of-rest (suc n) s (record { digits = d.1; most = omega (arith, r.most); even = omega (arith, r.even); some = omega arith })
 
 -- a line without fault is one that the rules take for a frame, and not empty
-pub faultless-line : (s : List ℕ) → fault_of s ≡ Nothing → (is_line line_bytes s ≡ true) × (0 < length s)
+pub faultless-line : (s : List ℕ) → fault_of s ≡ None → (is_line line_bytes s ≡ true) × (0 < length s)
 unfolding fault_of is_line
 faultless-line s e =
     let r = rest_of 0 s (omega arith) e in
     (rw (le-leb (length s) (2 * line_bytes) (omega (arith, r.most)), eq-eqb (length s % 2) 0 (omega (arith, r.even))) r.digits, omega (arith, r.some))
 
-pub line-faultless : (s : List ℕ) → is_line line_bytes s ≡ true → 0 < length s → fault_of s ≡ Nothing
+pub line-faultless : (s : List ℕ) → is_line line_bytes s ≡ true → 0 < length s → fault_of s ≡ None
 unfolding fault_of
 line-faultless s e h =
     let l = line-is line_bytes s e in
@@ -93,17 +79,17 @@ line-faultless s e h =
 
 -- a line without fault is the line of its frame, of 1 to 261 bytes; the line of every such frame is without fault; any other line is taken as an empty frame
 
-pub faultless-frame : (s : List ℕ) → fault_of s ≡ Nothing → (0 < length (line_frame s)) × (line_of (line_frame s) ≡ s ++ (10 ∷ []))
+pub faultless-frame : (s : List ℕ) → fault_of s ≡ None → (0 < length (line_frame s)) × (line_of (line_frame s) ≡ s ++ (10 ∷ []))
 unfolding line_of
 faultless-frame s e =
     let (l, h) = faultless-line s e in
     let f = frame-line line_bytes s l in
     (omega (arith, ap length f, length-bytes s, (line-is line_bytes s l).1), ap (λ (x : List ℕ). digits_of x ++ (10 ∷ [])) f ∙ ap (λ (x : List ℕ). x ++ (10 ∷ [])) (digits-line line_bytes s l))
 
-pub frame-faultless : (xs : List ℕ) → Bytes xs → 0 < length xs → length xs ≤ line_bytes → fault_of (digits_of xs) ≡ Nothing
+pub frame-faultless : (xs : List ℕ) → Bytes xs → 0 < length xs → length xs ≤ line_bytes → fault_of (digits_of xs) ≡ None
 frame-faultless xs b h k = line-faultless (digits_of xs) (line-digits line_bytes xs b k) (omega (arith, length_digits xs))
 
-pub fault-empty : (s : List ℕ) → (fault_of s ≡ Nothing → ⊥) → line_frame s ≡ []
+pub fault-empty : (s : List ℕ) → (fault_of s ≡ None → ⊥) → line_frame s ≡ []
 fault-empty s h =
     by_cases (is_line line_bytes s)
     (λ l. by_cases (eqb (length s) 0)

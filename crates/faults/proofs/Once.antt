@@ -2,14 +2,15 @@
 use mathlib.Core.Bool.{true}
 use mathlib.Core.Path.{◌≡◌, refl}
 use mathlib.Core.List.{[]}
+use Rattle.std.specs.Prelude.{Option, Some, None}
 use Rattle.faults.specs.declared.reading.Fault.{Fault}
-use Rattle.faults.specs.declared.reading.Fault.TheVariants.{Nothing, Blank, Lower, Return, Strange, Long, Odd}
+use Rattle.faults.specs.declared.reading.Fault.TheVariants.{Blank, Lower, Return, Strange, Long, Odd}
 use Rattle.faults.specs.declared.telling.Told.{Told}
 use Rattle.faults.specs.declared.telling.Heard.{Heard}
-use Rattle.faults.specs.Heard.{knows, tells}
+use Rattle.faults.specs.Heard.{knows, tells, hears}
 use Rattle.faults.specs.Remarks.{remark}
 
--- what was told stays told
+-- each flag that is set stays set
 pub record Grows (t u : Told) : Type 0 where
   pub blank : t.blank ≡ true → u.blank ≡ true
   pub lower : t.lower ≡ true → u.lower ≡ true
@@ -20,7 +21,6 @@ pub record Grows (t u : Told) : Type 0 where
 
 grows : (t : Told) (f : Fault) → Grows t (tells t f)
 unfolding tells
-grows t Nothing = record { blank = λ h. h; lower = λ h. h; returns = λ h. h; strange = λ h. h; long = λ h. h; odd = λ h. h }
 grows t Blank = record { blank = λ _. refl; lower = λ h. h; returns = λ h. h; strange = λ h. h; long = λ h. h; odd = λ h. h }
 grows t Lower = record { blank = λ h. h; lower = λ _. refl; returns = λ h. h; strange = λ h. h; long = λ h. h; odd = λ h. h }
 grows t Return = record { blank = λ h. h; lower = λ h. h; returns = λ _. refl; strange = λ h. h; long = λ h. h; odd = λ h. h }
@@ -28,28 +28,37 @@ grows t Strange = record { blank = λ h. h; lower = λ h. h; returns = λ h. h; 
 grows t Long = record { blank = λ h. h; lower = λ h. h; returns = λ h. h; strange = λ h. h; long = λ _. refl; odd = λ h. h }
 grows t Odd = record { blank = λ h. h; lower = λ h. h; returns = λ h. h; strange = λ h. h; long = λ h. h; odd = λ _. refl }
 
-pub still-told : (t : Told) (f k : Fault) → knows t k ≡ true → knows (tells t f) k ≡ true
+still-kind : (t : Told) (f k : Fault) → knows t k ≡ true → knows (tells t f) k ≡ true
 unfolding knows
-still-told t f Nothing h = refl
-still-told t f Blank h = (grows t f).blank h
-still-told t f Lower h = (grows t f).lower h
-still-told t f Return h = (grows t f).returns h
-still-told t f Strange h = (grows t f).strange h
-still-told t f Long h = (grows t f).long h
-still-told t f Odd h = (grows t f).odd h
+still-kind t f Blank h = (grows t f).blank h
+still-kind t f Lower h = (grows t f).lower h
+still-kind t f Return h = (grows t f).returns h
+still-kind t f Strange h = (grows t f).strange h
+still-kind t f Long h = (grows t f).long h
+still-kind t f Odd h = (grows t f).odd h
+
+now-kind : (t : Told) (f : Fault) → knows (tells t f) f ≡ true
+unfolding knows tells
+now-kind t Blank = refl
+now-kind t Lower = refl
+now-kind t Return = refl
+now-kind t Strange = refl
+now-kind t Long = refl
+now-kind t Odd = refl
+
+-- what was told stays told after a line, with a fault or with none
+pub still-told : (h : Heard) (f : Option Fault) (k : Fault) → knows h.told k ≡ true → knows (hears h f).told k ≡ true
+unfolding hears
+still-told h None k e = e
+still-told h (Some f) k e = still-kind h.told f k e
 
 -- a fault is told of the line that has it
-pub now-told : (t : Told) (f : Fault) → knows (tells t f) f ≡ true
-unfolding knows tells
-now-told t Nothing = refl
-now-told t Blank = refl
-now-told t Lower = refl
-now-told t Return = refl
-now-told t Strange = refl
-now-told t Long = refl
-now-told t Odd = refl
+pub now-told : (h : Heard) (f : Fault) → knows (hears h (Some f)).told f ≡ true
+unfolding hears
+now-told h f = now-kind h.told f
 
--- nothing is said of a fault that was told
-pub unsaid : (h : Heard) (f : Fault) → knows h.told f ≡ true → remark h f ≡ []
+-- nothing is said of a line with no fault, or with one that was told
+pub unsaid : (h : Heard) (f : Option Fault) → ((k : Fault) → f ≡ Some k → knows h.told k ≡ true) → remark h f ≡ []
 unfolding remark
-unsaid h f e = rw e
+unsaid h None e = refl
+unsaid h (Some f) e = rw (e f refl)

@@ -1,17 +1,21 @@
--- A number's digits are found by taking powers of ten off, from the first; and they say the number.
-use Prim.Native.Nat.{ℕ, zero, suc, ◌+◌, ◌-◌, ◌*◌, ◌/◌, ◌%◌, ◌<◌, ◌≤◌}
-use mathlib.Core.Path.{◌≡◌, refl, ap, ◌∙◌}
+-- A number's digits are put from the last to the first, and they say the number.
+use Prim.Native.Nat.{ℕ, zero, suc, ◌+◌, ◌-◌, ◌*◌, ◌/◌, ◌%◌, ◌^◌, ◌<◌, ◌≤◌}
+use mathlib.Core.Path.{◌≡◌, refl, sym, ap, ◌∙◌}
 use mathlib.Core.List.{List, [], ◌∷◌, ◌++◌}
 use native.Mathlib.Omega.{arith}
 use native.Mathlib.Numerals.{add-one}
-use native.Mathlib.Nat.{suc-mul, mul_left_comm, mul-le-mul_right}
-use lib.ListN.{length, get_or, set, length-append}
-use lib.Seq.{sets}
+use native.Mathlib.Nat.{add-zero, add-suc}
+use lib.ListN.{length, get_or, set, take, drop, length-append, drop_of_length-le}
+use lib.Seq.{sets, take_all, take-suc, drop-cons}
 use borrow.Author.Tests.{lt-ltb, le-ltb}
+use Rattle.std.specs.Option.{IfNone, IfSome}
+use Rattle.std.specs.Prelude.{Option, Some, None, unwrap_or}
+use Rattle.std.proofs.Math.Nat.{pow-succ'}
+use Rattle.std.proofs.lemmas.List.{same_from_push, set_comm}
 use Rattle.hexadecimal.proofs.Digits.{below}
 use Rattle.texts.specs.Numbers.{said}
 use Rattle.texts.specs.Put.{Put}
-use Rattle.texts.proofs.Runs.{put_all, put-within, put_as}
+use Rattle.texts.proofs.Runs.{put_all, put-within}
 use Rattle.faults.specs.Decimals.{most_places, tens, decimal_in, decimal}
 
 -- powers of ten
@@ -21,23 +25,20 @@ unfolding tens
 tens-some zero = omega arith
 tens-some (suc k) = omega (arith, tens-some k)
 
-pub tens-more : (k : ℕ) → tens (k + 1) ≡ 10 * tens k
+pub tens-power : (k : ℕ) → 10 ^ k ≡ tens k
 unfolding tens
-tens-more k = rw (add-one k)
+tens-power zero = refl
+tens-power (suc k) = rw (pow-succ', tens-power k)
 
-pub tens-most : (k j : ℕ) → k ≤ j → tens k ≤ tens j
+-- k digits follow the first one of n
+
+abbrev pub Follow : ℕ → ℕ → Type 0
+Follow n k = (k < most_places) × (0 < k → tens k ≤ n) × (n < 10 * tens k)
+
+pub logarithm : (n : ℕ) (o : Option ℕ) → IfNone o (n ≡ 0) → IfSome o (λ k. 10 ^ k ≤ n) → IfSome o (λ k. n < 10 * 10 ^ k) → IfSome o (λ k. k < 20) → Follow n (unwrap_or o 0)
 unfolding tens
-tens-most zero j h = omega (arith, tens-some j)
-tens-most (suc k) zero h = absurd (omega arith)
-tens-most (suc k) (suc j) h = omega (arith, tens-most k j (omega arith))
-
--- p taken off once more
-
-pub off-once : (n d p r : ℕ) → n ≡ d * p + r → p ≤ r → n ≡ (d + 1) * p + (r - p)
-off-once n d p r e h = omega (arith, ap (λ (k : ℕ). k * p) (add-one d), suc-mul d p)
-
-pub off-few : (n d p r : ℕ) → n ≡ d * p + r → p ≤ r → n < 10 * p → d < 9
-off-few n d p r e h k = below d 9 (λ y. y) (λ y. absurd (omega (arith, mul-le-mul_right p y)))
+logarithm n None e l h b = (omega arith, λ p. absurd (omega arith), omega arith)
+logarithm n (Some k) e l h b = (b, λ p. rw tens-power at l, rw tens-power at h)
 
 -- the last k digits of a number
 unfoldable pub last_digits : ℕ → ℕ → List ℕ
@@ -49,19 +50,8 @@ unfolding last_digits
 length_last zero n = refl
 length_last (suc k) n = omega (arith, length-append (last_digits k (n / 10)) ((48 + n % 10) ∷ []), length_last k (n / 10))
 
--- the first of them
-pub first-digit : (k n d r : ℕ) → n ≡ d * tens k + r → r < tens k → d < 10 → last_digits (suc k) n ≡ (48 + d) ∷ last_digits k r
-unfolding last_digits tens
-first-digit zero n d r e h l = let x : n ≡ d = omega arith in let y : d % 10 ≡ d = omega arith in rw (x, y)
-first-digit (suc k) n d r e h l =
-    let m : d * (10 * tens k) ≡ 10 * (d * tens k) = mul_left_comm d 10 (tens k) in
-    let q : n / 10 ≡ d * tens k + r / 10 = omega arith in
-    let u : n % 10 ≡ r % 10 = omega arith in
-    ap (λ (x : ℕ). last_digits (suc k) (n / 10) ++ ((48 + x) ∷ [])) u
-    ∙ ap (λ (x : List ℕ). x ++ ((48 + r % 10) ∷ [])) (first-digit k (n / 10) d (r / 10) q (omega arith) l)
-
 -- if no zero stands first, they are the number's digits
-pub all_digits : (k m n : ℕ) → k ≤ m → (0 < k → tens k ≤ n) → n < 10 * tens k → last_digits (suc k) n ≡ decimal_in (suc m) n
+all_digits : (k m n : ℕ) → k ≤ m → (0 < k → tens k ≤ n) → n < 10 * tens k → last_digits (suc k) n ≡ decimal_in (suc m) n
 unfolding last_digits decimal_in tens
 all_digits zero m n e h l = let x : n % 10 ≡ n = omega arith in rw (lt-ltb n 10 (omega arith), x)
 all_digits (suc k) zero n e h l = absurd (omega arith)
@@ -71,23 +61,43 @@ all_digits (suc k) (suc m) n e h l =
     rw (le-ltb n 10 (omega arith))
     (ap (λ (x : List ℕ). x ++ ((48 + n % 10) ∷ [])) (all_digits k m (n / 10) (omega arith) (λ _. omega arith) (omega arith)))
 
--- one more digit is put; none is left; all of them are put
+-- a store right before a run
 
-pub digit-put : (out : List ℕ) (to left j n d r : ℕ) → left ≡ suc j → n ≡ d * tens j + r → r < tens j → d < 10
-    → sets out to (last_digits left n) ≡ sets (set out to (48 + d)) (to + 1) (last_digits j r)
-digit-put out to left j n d r l e h k = rw (l, add-one to, first-digit j n d r e h k)
+set-before : (vs xs : List ℕ) (i j v : ℕ) → j < i → set (sets xs i vs) j v ≡ sets (set xs j v) i vs
+set-before [] xs i j v h = refl
+set-before (w ∷ vs) xs i j v h =
+    set-before vs (set xs i w) (suc i) j v (omega arith) ∙ ap (λ (l : List ℕ). sets l (suc i) vs) (set_comm xs i j w v (λ e. omega arith))
 
-pub none_left : (out : List ℕ) (to left n : ℕ) → left ≡ 0 → sets out to (last_digits left n) ≡ out
-unfolding last_digits
-none_left out to left n e = rw e
+-- a number with k digits after the first: its digits before any is put, as one more is, and all
 
-pub decimal-put : (before out : List ℕ) (at to left n k : ℕ) → left ≡ k + 1 → k < most_places → (0 < k → tens k ≤ n) → n < 10 * tens k
-    → out ≡ sets before at (last_digits left n) → to ≡ at + left → Put most_places before at (decimal n) out to
-unfolding decimal
-decimal-put before out at to left n k l h a b e t =
-    let size = length_last left n in
-    put_as (ap (λ (x : ℕ). last_digits x n) (l ∙ add-one k) ∙ all_digits k 19 n (omega arith) a b)
-    (put-within most_places (omega arith) (put_all e (omega arith)))
+module _ (n k : ℕ) (f : Follow n k) where
+  digits_are : decimal n ≡ last_digits (k + 1) n
+  unfolding decimal
+  digits_are = rw (add-one k, all_digits k 19 n (omega (arith, f.0)) f.1 f.2)
+
+  length_digits : length (decimal n) ≡ k + 1
+  length_digits = rw (digits_are, length_last)
+
+  pub digits-start : (out : List ℕ) (at : ℕ) → (take (k + 1) (decimal n) ≡ last_digits (k + 1) n) × (out ≡ sets out (at + (k + 1)) (drop (k + 1) (decimal n)))
+  digits-start out at =
+      let e : drop (k + 1) (decimal n) ≡ [] = drop_of_length-le (decimal n) (omega (arith, length_digits)) in
+      (take_all (k + 1) (decimal n) (omega (arith, length_digits)) ∙ digits_are, rw e)
+
+  pub digit-put : (before out : List ℕ) (at i j r : ℕ) → i ≡ j + 1 → i ≤ k + 1 → take i (decimal n) ≡ last_digits i r → out ≡ sets before (at + i) (drop i (decimal n))
+      → (take j (decimal n) ≡ last_digits j (r / 10)) × (set out (at + j) (48 + r % 10) ≡ sets before (at + j) (drop j (decimal n)))
+  unfolding last_digits
+  digit-put before out at i j r e l t o =
+      let ds : List ℕ = decimal n in
+      let more : i ≡ suc j = omega arith in
+      let inside : j < length ds = omega (arith, length_digits) in
+      let last = same_from_push (take j ds) (last_digits j (r / 10)) (get_or ds j 0) (48 + r % 10) (sym (take-suc ds j 0 inside) ∙ (rw more at t)) in
+      let behind : out ≡ sets before (suc (at + j)) (drop (suc j) ds) = rw (more, add-suc) at o in
+      (last.0, rw (drop-cons ds j 0 inside, last.1, behind) (set-before (drop (suc j) ds) before (suc (at + j)) (at + j) (48 + r % 10) (omega arith)))
+
+  pub digits-end : {before out : List ℕ} {at : ℕ} (i : ℕ) → i ≤ 0 → out ≡ sets before (at + i) (drop i (decimal n)) → Put most_places before at (decimal n) out (at + (k + 1))
+  digits-end {before} {out} {at} i h o =
+      let zero : i ≡ 0 = omega arith in
+      put-within most_places (omega (arith, length_digits, f.0)) (put_all (rw (zero, add-zero) at o) (omega (arith, length_digits)))
 
 -- the digits say the number, and none is a zero before it
 

@@ -1,7 +1,7 @@
 -- The number of lines that have ended, and the kinds of faults that were told of them: each is told once.
-use Rattle.std.specs.Prelude.{ℕ, ◌+◌, Bool, true, false, cond, ltb}
+use Rattle.std.specs.Prelude.{ℕ, ◌+◌, Bool, true, false, cond, Option, Some, None, ltb}
 use Rattle.faults.specs.declared.reading.Fault.{Fault}
-use Rattle.faults.specs.declared.reading.Fault.TheVariants.{Nothing, Blank, Lower, Return, Strange, Long, Odd}
+use Rattle.faults.specs.declared.reading.Fault.TheVariants.{Blank, Lower, Return, Strange, Long, Odd}
 use Rattle.faults.specs.declared.telling.Told.{Told}
 use Rattle.faults.specs.declared.telling.Heard.{Heard}
 
@@ -9,9 +9,8 @@ use Rattle.faults.specs.declared.telling.Heard.{Heard}
 unfoldable pub none : Heard
 none = record { lines = 0; told = record { blank = false; lower = false; returns = false; strange = false; long = false; odd = false } }
 
--- whether nothing is left to tell of a fault
+-- whether this kind of fault was told
 unfoldable pub knows : Told → Fault → Bool
-knows t Nothing = true
 knows t Blank = t.blank
 knows t Lower = t.lower
 knows t Return = t.returns
@@ -21,7 +20,6 @@ knows t Odd = t.odd
 
 -- the kinds told after a fault is
 unfoldable pub tells : Told → Fault → Told
-tells t Nothing = t
 tells t Blank = record { blank = true; lower = t.lower; returns = t.returns; strange = t.strange; long = t.long; odd = t.odd }
 tells t Lower = record { blank = t.blank; lower = true; returns = t.returns; strange = t.strange; long = t.long; odd = t.odd }
 tells t Return = record { blank = t.blank; lower = t.lower; returns = true; strange = t.strange; long = t.long; odd = t.odd }
@@ -33,6 +31,7 @@ tells t Odd = record { blank = t.blank; lower = t.lower; returns = t.returns; st
 unfoldable pub next_line : ℕ → ℕ
 next_line n = cond (ltb n 18446744073709551615) (n + 1) n
 
--- after a line with this fault
-unfoldable pub hears : Heard → Fault → Heard
-hears h f = record { lines = next_line h.lines; told = tells h.told f }
+-- after a line with this fault, or with none
+unfoldable pub hears : Heard → Option Fault → Heard
+hears h None = record { lines = next_line h.lines; told = h.told }
+hears h (Some f) = record { lines = next_line h.lines; told = tells h.told f }

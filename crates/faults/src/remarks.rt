@@ -1,5 +1,5 @@
 // Puts the remark on a line that is no frame into lent memory.
-ghost use Rattle.std.specs.Prelude.{◌+◌, ◌≤◌, length};
+ghost use Rattle.std.specs.Prelude.{◌≡◌, ◌≤◌, length};
 ghost use Rattle.texts.specs.Put.{Put};
 ghost use Rattle.faults.specs.Remarks.{reason, reason_room, remark_line, remark, remark_room};
 
@@ -11,19 +11,19 @@ use texts::put_text;
 // The most bytes of a remark.
 pub const REMARK_ROOM: usize = 90;
 
-// Puts why a line with this fault is no frame.
-fn put_reason(out: &mut [u8], at: usize, fault: Fault) -> usize
-    requires { at + reason_room ≤ length out.old }
-    ensures { Put reason_room out.old at (reason fault) out.new result }
+// Why a line with this fault is no frame.
+#[tactic(auto, unfolding(crate::specs::Remarks::reason, texts::specs::Spell::spell))]
+fn reason(fault: Fault) -> &'static [u8]
+    ensures text { result.now ≡ reason fault }
+    ensures short { length result.now ≤ reason_room }
 {
     match fault {
-        Fault::Nothing => at,
-        Fault::Blank => put_text(out, at, b"it is empty"),
-        Fault::Lower => put_text(out, at, b"it has lower-case digits"),
-        Fault::Return => put_text(out, at, b"it has a carriage return"),
-        Fault::Strange => put_text(out, at, b"it has a character that is no digit"),
-        Fault::Long => put_text(out, at, b"it has more than 522 digits"),
-        Fault::Odd => put_text(out, at, b"it has an odd number of digits"),
+        Fault::Blank => b"it is empty",
+        Fault::Lower => b"it has lower-case digits",
+        Fault::Return => b"it has a carriage return",
+        Fault::Strange => b"it has a character that is no digit",
+        Fault::Long => b"it has more than 522 digits",
+        Fault::Odd => b"it has an odd number of digits",
     }
 }
 
@@ -35,17 +35,19 @@ fn put_line(out: &mut [u8], n: u64, fault: Fault) -> usize
     let a = put_text(out, 0, b"line ");
     let b = put_decimal(out, a, n);
     let c = put_text(out, b, b" is taken as an empty frame: ");
-    let d = put_reason(out, c, fault);
+    let d = put_text(out, c, reason(fault));
     put_text(out, d, b"\n")
 }
 
-// Puts the remark on the line that ends, whose fault this is, and gives its length: 0 if there is none to make.
-pub fn put_remark(out: &mut [u8], heard: Heard, fault: Fault) -> usize
+// Puts the remark on the line that ends and has this fault, or none, and gives its length: 0 if there is none to make.
+pub fn put_remark(out: &mut [u8], heard: Heard, fault: Option<Fault>) -> usize
     requires { remark_room ≤ length out.old }
     ensures { Put remark_room out.old 0 (remark heard fault) out.new result }
 {
-    let told = heard.told;
-    if is_told(told, fault) {
+    let Some(fault) = fault else {
+        return 0;
+    };
+    if is_told(heard.told, fault) {
         return 0;
     }
     put_line(out, next_line(heard.lines), fault)

@@ -5,7 +5,8 @@ ghost use Rattle.faults.specs.Heard.{none, knows, tells, next_line, hears};
 use crate::reading::Fault;
 
 // Whether each kind of fault was told.
-#[derive(Clone, Copy)]
+// Kept: in an array of flags, found by the number of the kind, each law would ask for its length; a named flag needs none.
+#[derive(Clone, Copy, Default)]
 pub struct Told {
     pub blank: bool,
     pub lower: bool,
@@ -16,18 +17,18 @@ pub struct Told {
 }
 
 // The number of the last line that has ended, counted from 1, and the kinds told by then.
-#[derive(Clone, Copy)]
+#[derive(Clone, Copy, Default)]
 pub struct Heard {
     pub lines: u64,
     pub told: Told,
 }
 
-// Whether nothing is left to tell of this fault.
+// Whether this kind of fault was told.
+#[tactic(auto, unfolding(crate::specs::Heard::knows))]
 pub fn is_told(told: Told, fault: Fault) -> bool
     ensures { result ≡ knows told fault }
 {
     match fault {
-        Fault::Nothing => true,
         Fault::Blank => told.blank,
         Fault::Lower => told.lower,
         Fault::Return => told.returns,
@@ -38,72 +39,46 @@ pub fn is_told(told: Told, fault: Fault) -> bool
 }
 
 // The kinds told after this fault is.
-fn mark(told: Told, fault: Fault) -> Told
+#[tactic(auto, unfolding(crate::specs::Heard::tells))]
+fn mark(mut told: Told, fault: Fault) -> Told
     ensures { result ≡ tells told fault }
 {
-    let mut now = told;
     match fault {
-        Fault::Nothing => now,
-        Fault::Blank => {
-            now.blank = true;
-            now
-        }
-        Fault::Lower => {
-            now.lower = true;
-            now
-        }
-        Fault::Return => {
-            now.returns = true;
-            now
-        }
-        Fault::Strange => {
-            now.strange = true;
-            now
-        }
-        Fault::Long => {
-            now.long = true;
-            now
-        }
-        Fault::Odd => {
-            now.odd = true;
-            now
-        }
+        Fault::Blank => told.blank = true,
+        Fault::Lower => told.lower = true,
+        Fault::Return => told.returns = true,
+        Fault::Strange => told.strange = true,
+        Fault::Long => told.long = true,
+        Fault::Odd => told.odd = true,
     }
+    told
 }
 
 // The number of the line after line n. After the largest number it stays there.
+#[tactic(auto, unfolding(crate::specs::Heard::next_line))]
 pub fn next_line(n: u64) -> u64
     ensures { result ≡ next_line n }
 {
-    if n < u64::MAX { n + 1 } else { n }
+    n.saturating_add(1)
 }
 
 // What is heard before the first line.
+#[tactic(auto, unfolding(crate::specs::Heard::none))]
 pub fn unheard() -> Heard
     ensures { result ≡ none }
 {
-    Heard {
-        lines: 0,
-        told: Told {
-            blank: false,
-            lower: false,
-            returns: false,
-            strange: false,
-            long: false,
-            odd: false,
-        },
-    }
+    Heard::default()
 }
 
-// What is heard after a line with this fault ends.
-pub fn hear(heard: Heard, fault: Fault) -> Heard
+// What is heard after a line ends that has this fault, or none.
+#[tactic(auto, unfolding(crate::specs::Heard::hears))]
+pub fn hear(heard: Heard, fault: Option<Fault>) -> Heard
     ensures { result ≡ hears heard fault }
 {
-    let told = heard.told;
     let lines = next_line(heard.lines);
-    let now = mark(told, fault);
-    Heard {
-        lines: lines,
-        told: now,
-    }
+    let told = match fault {
+        Some(fault) => mark(heard.told, fault),
+        None => heard.told,
+    };
+    Heard { lines, told }
 }

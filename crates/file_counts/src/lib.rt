@@ -15,10 +15,12 @@ ghost use Rattle.midst.specs.FileStands.{FileStands};
 
 use accessors::sides::count_side;
 use kinds::Answer;
+use kinds::memories::Blocks;
 use kinds::record_types::DATA;
 use kinds::sides::{READER, WRITER};
 use records::cursor::first;
 use ring::Ring;
+use segment::Segment;
 
 // What a record of that type adds to the count of data records.
 fn data_count(typ: u16) -> u16
@@ -46,7 +48,7 @@ fn data_records(share: &[u8], ring: Ring, words: u16) -> u16
 }
 
 // The counts of file f.
-pub fn counts(segment: &[u8], blocks: &[u8], f: usize) -> Answer
+pub fn counts(segment: &Segment, blocks: &Blocks, f: usize) -> Answer
     requires { FileStands segment.now blocks.now f }
     ensures { (buffers : List ℕ) (d : Desk) (s : Alloc) (b : Built) → StandsFor (memories segment.now blocks.now buffers) d s → file_of d f ≡ built b → counting.counts b ≡ answering result b }
 {

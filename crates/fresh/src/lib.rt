@@ -1,15 +1,17 @@
 // "One call makes a fresh desk: no file built, blocks and buffers zero, the free list in order of entry number".
 #![tactic(auto)]
 
-ghost use Rattle.std.specs.Prelude.{◌≡◌, ◌<◌, length};
+ghost use Rattle.std.specs.Prelude.{◌≡◌, ◌<◌};
+ghost use Rattle.kinds.specs.Refusals.{refusal_number};
 ghost use Rattle.rules.specs.Limits.{entries};
-ghost use Rattle.segment.specs.Layout.{segment_words, segment_bytes};
+ghost use Rattle.segment.specs.Layout.{segment_words};
 ghost use Rattle.memory.specs.Memories.{was, left};
 ghost use Rattle.memory.specs.Fresh.{fresh_link, fresh_word, fresh_segment};
 ghost use Rattle.fresh.specs.Made.{made};
 
-use kinds::{limits, refusals, statuses};
-use segment::layout;
+use kinds::limits;
+use kinds::refusals::Refusal;
+use segment::{Segment, layout};
 
 // The link of entry e in a fresh segment: the next entry, or NIL for the last.
 fn fresh_link(e: u16) -> u16
@@ -44,33 +46,30 @@ fn fresh_word(k: usize) -> u16
 }
 
 // Makes the segment a fresh one.
-fn fresh_segment(s: &mut [u8])
-    requires { length s.old ≡ segment_bytes }
+fn fresh_segment(s: &mut Segment)
     ensures { s.new ≡ fresh_segment }
 {
-    let mut k = 0;
-    while k < layout::SEGMENT_WORDS {
+    for k in 0..layout::SEGMENT_WORDS {
         let w = fresh_word(k);
         segment::put(s, k, w);
-        k += 1;
     }
 }
 
-// Makes the memories those of a fresh desk and gives status 0; gives 29 and writes nothing if a memory has the wrong length.
-pub fn fresh(segment: &mut [u8], blocks: &mut [u8], buffers: &mut [u8]) -> u8
-    ensures { record { status = result; memories = left segment.new blocks.new buffers.new } ≡ made (was segment.old blocks.old buffers.old) }
+// Makes the memories those of a fresh desk; writes nothing if a memory has the wrong length.
+pub fn fresh(segment: &mut [u8], blocks: &mut [u8], buffers: &mut [u8]) -> Result<(), Refusal>
+    ensures { record { status = refusal_number result; memories = left segment.new blocks.new buffers.new } ≡ made (was segment.old blocks.old buffers.old) }
 {
-    if segment.len() != layout::SEGMENT_BYTES {
-        return refusals::UNSOUND;
-    }
+    let Some(own) = segment.as_mut_array() else {
+        return Err(Refusal::Unsound);
+    };
     if blocks.len() != limits::BLOCKS_BYTES {
-        return refusals::UNSOUND;
+        return Err(Refusal::Unsound);
     }
     if buffers.len() != limits::BUFFERS_BYTES {
-        return refusals::UNSOUND;
+        return Err(Refusal::Unsound);
     }
-    fresh_segment(segment);
+    fresh_segment(own);
     words::zero(blocks, 0, limits::BLOCKS_BYTES);
     words::zero(buffers, 0, limits::BUFFERS_BYTES);
-    statuses::DONE
+    Ok(())
 }

@@ -1,6 +1,6 @@
 -- Laws of lines: what one more digit or byte does in the loops, and what a line is.
 use Prim.Native.Nat.{ℕ, zero, suc, ◌+◌, ◌*◌, ◌/◌, ◌%◌, ◌<◌, ◌≤◌}
-use mathlib.Core.Bool.{Bool, true, false, cond}
+use mathlib.Core.Bool.{Bool, true, false, cond, ◌&&◌}
 use mathlib.Core.List.{List, [], ◌∷◌}
 use mathlib.Core.Path.{◌≡◌, refl}
 use native.Mathlib.Omega.{arith}
@@ -8,8 +8,8 @@ use native.Mathlib.Numerals.{add-one}
 use lib.ListN.{length, get_or, set, drop, drop_of_length-le, length-drop}
 use lib.Seq.{sets, drop-cons}
 use lib.Dec.{ltb, leb, eqb}
-use borrow.Author.Tests.{lt-ltb, le-ltb, ltb-true, leb-true, eqb-true, le-leb, lt-leb, eq-eqb, ne_eqb}
-use Rattle.rules.proofs.Split.{bothc}
+use borrow.Author.Tests.{ltb-true, leb-true, eqb-true}
+use Rattle.std.specs.List.{list_all}
 use Rattle.rules.specs.Line.{value_of, digit_of, all_digits, bytes_of, digits_of, is_line, frame_in}
 
 pub both : (a b : Bool) → cond a b false ≡ true → (a ≡ true) × (b ≡ true)
@@ -27,17 +27,14 @@ digits-at [] i e h = absurd (omega arith)
 digits-at (b ∷ s) zero e h = (digits-cons b s e).0
 digits-at (b ∷ s) (suc i) e h = digits-at s i (digits-cons b s e).1 (omega arith)
 
-pub digits_step : (s : List ℕ) (i : ℕ) → i < length s → value_of (get_or s i 0) < 16 → all_digits (drop i s) ≡ all_digits (drop (i + 1) s)
-unfolding all_digits
-digits_step s i h k = rw (add-one, drop-cons s i 0 h, lt-ltb _ 16 k)
+and-cond : (a b : Bool) → (a && b) ≡ cond a b false
+and-cond true b = refl
+and-cond false b = refl
 
-pub digits-stop : (s : List ℕ) (i : ℕ) → i < length s → 16 ≤ value_of (get_or s i 0) → all_digits (drop i s) ≡ false
+pub digits-all : (s : List ℕ) → list_all (λ b. ltb (value_of b) 16) s ≡ all_digits s
 unfolding all_digits
-digits-stop s i h k = rw (drop-cons s i 0 h, le-ltb _ 16 k)
-
-pub digits-end : (s : List ℕ) (i : ℕ) → length s ≤ i → all_digits (drop i s) ≡ true
-unfolding all_digits
-digits-end s i h = rw (drop_of_length-le s h)
+digits-all [] = refl
+digits-all (b ∷ s) = rw (digits-all s) (and-cond (ltb (value_of b) 16) (all_digits s))
 
 -- digits to bytes
 
@@ -91,16 +88,5 @@ pub frame-none : (n : ℕ) (s : List ℕ) → is_line n s ≡ false → frame_in
 unfolding frame_in
 frame-none n s e = rw e
 
--- by the tests that the code makes
-
-pub line-odd : (n : ℕ) (s : List ℕ) → (length s % 2 ≡ 0 → ⊥) → is_line n s ≡ false
-unfolding is_line
-line-odd n s h = bothc (λ (b : Bool). b ≡ false) (leb (length s) (2 * n)) (λ _. rw (ne_eqb (length s % 2) 0 h)) (λ _. refl)
-
-pub line-long : (n : ℕ) (s : List ℕ) → n < length s / 2 → is_line n s ≡ false
-unfolding is_line
-line-long n s h = rw (lt-leb (length s) (2 * n) (omega arith))
-
-pub line-short : (n : ℕ) (s : List ℕ) → length s % 2 ≡ 0 → length s / 2 ≤ n → is_line n s ≡ all_digits s
-unfolding is_line
-line-short n s e h = rw (le-leb (length s) (2 * n) (omega arith), eq-eqb (length s % 2) 0 e)
+-- what `decode` rests on
+pub ruleset decoding = (line-is, length-bytes, frame-line, frame-none)

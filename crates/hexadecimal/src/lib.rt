@@ -1,35 +1,32 @@
 // Events, "a hexadecimal frame a line": upper-case digits, two to a byte, the most significant first.
 #![tactic(auto)]
 
-ghost use Rattle.std.specs.Prelude.{◌≡◌, true, ◌+◌, ◌*◌, ◌/◌, ◌≤◌, ◌<◌, length};
+ghost use Rattle.std.specs.Prelude.{◌≡◌, true, ◌+◌, ◌*◌, ◌/◌, ◌≤◌, ◌<◌, ltb, length, SomeIff};
 ghost use Rattle.std.proofs.lemmas.List.Edits.{sets};
 ghost use Rattle.rules.specs.Line.{digit_of, value_of, digits_of, all_digits, bytes_of, is_line, frame_in, line_of};
 
 // The byte that ends a line.
 pub const LF: u8 = 10;
 
-// The base. The number of a digit is below it; `value` gives the base itself for a byte that is not a digit.
 const BASE: u8 = 16;
 
 // What the digit A stands for.
 const TEN: u8 = 10;
 
-// The number that a digit stands for, or the base if the byte is not a digit.
-fn value(b: u8) -> u8
-    ensures { (result ≡ value_of b) × (result ≤ 16) }
+// The number that a digit stands for.
+#[tactic(auto, unfolding(rules::specs::Line::value_of))]
+fn value(b: u8) -> Option<u8>
+    ensures { SomeIff result (value_of b < 16) (value_of b) }
 {
-    if b < b'0' {
-        return BASE;
+    match b {
+        b'0'..=b'9' => Some(b - b'0'),
+        b'A'..=b'F' => Some(b - b'A' + TEN),
+        _ => None,
     }
-    if b <= b'9' {
-        return b - b'0';
-    }
-    if b < b'A' {
-        return BASE;
-    }
-    if b <= b'F' { b - b'A' + TEN } else { BASE }
 }
 
+// The digit of a number below the base.
+#[tactic(auto, unfolding(rules::specs::Line::digit_of))]
 fn digit(n: u8) -> u8
     requires { n < 16 }
     ensures { result ≡ digit_of n }
@@ -37,31 +34,26 @@ fn digit(n: u8) -> u8
     if n < TEN { b'0' + n } else { b'A' - TEN + n }
 }
 
+// Whether the byte is a digit.
+pub fn is_digit(b: u8) -> bool
+    ensures { result ≡ ltb (value_of b) 16 }
+{
+    value(b).is_some()
+}
+
 fn all_digits(s: &[u8]) -> bool
     ensures { result ≡ all_digits s.now }
 {
-    let mut i = 0;
-    while i < s.len() {
-        if value(s[i]) >= BASE {
-            return false;
-        }
-        i += 1;
-    }
-    true
+    s.iter().all(|b| is_digit(*b))
 }
 
 // Whether s, a line without its LF, says a frame of at most `most` bytes.
+#[tactic(auto, unfolding(rules::specs::Line::is_line))]
 pub fn is_line(s: &[u8], most: usize) -> bool
     ensures { result ≡ is_line most s.now }
 {
     let n = s.len();
-    if n % 2 != 0 {
-        return false;
-    }
-    if n / 2 > most {
-        return false;
-    }
-    all_digits(s)
+    n % 2 == 0 && n / 2 <= most && all_digits(s)
 }
 
 // The byte that two digits say.
@@ -69,8 +61,8 @@ fn pair(a: u8, b: u8) -> u8
     requires { (value_of a < 16) × (value_of b < 16) }
     ensures { result ≡ value_of a * 16 + value_of b }
 {
-    let high = value(a);
-    let low = value(b);
+    let high = value(a).unwrap();
+    let low = value(b).unwrap();
     high * BASE + low
 }
 
@@ -80,17 +72,13 @@ fn fill(s: &[u8], out: &mut [u8])
     requires s_in_bounds { length s.now / 2 ≤ length out.old }
     ensures { out.new ≡ sets out.old 0 (bytes_of s.now) }
 {
-    let n = s.len() / 2;
-    let mut i = 0;
-    while i < n {
-        let a = s[2 * i];
-        let b = s[2 * i + 1];
-        out[i] = pair(a, b);
-        i += 1;
+    for i in 0..s.len() / 2 {
+        out[i] = pair(s[2 * i], s[2 * i + 1]);
     }
 }
 
 // Writes the frame that the line s says, if it has at most `most` bytes, starting at the first byte of `out`, and gives its length. Any other line is an empty frame.
+#[tactic(auto, using(crate::proofs::Lines::decoding))]
 pub fn decode(s: &[u8], most: usize, out: &mut [u8]) -> usize
     requires { most ≤ length out.old }
     ensures size { result ≡ length (frame_in most s.now) }
@@ -111,14 +99,11 @@ pub fn encode(s: &[u8], out: &mut [u8]) -> usize
     ensures size { result ≡ 2 * length s.now }
     ensures bytes { out.new ≡ sets out.old 0 (digits_of s.now) }
 {
-    let mut i = 0;
-    while i < s.len() {
-        let x = s[i];
-        out[2 * i] = digit(x / BASE);
-        out[2 * i + 1] = digit(x % BASE);
-        i += 1;
+    for (i, x) in s.iter().enumerate() {
+        out[2 * i] = digit(*x / BASE);
+        out[2 * i + 1] = digit(*x % BASE);
     }
-    2 * i
+    2 * s.len()
 }
 
 // Writes the bytes as a line at `used` of the output, and gives the place after it.

@@ -1,4 +1,3 @@
-pub mod Refused
 pub mod Turns
 pub mod Verdicts
 pub mod Judged

@@ -1,29 +1,25 @@
--- One turn of the loop that looks for another share: n places are left, from place i on.
-use Prim.Native.Nat.{ℕ, zero, suc, ◌+◌, ◌-◌, ◌≤◌, ◌<◌}
-use mathlib.Core.Path.{◌≡◌, refl}
-use mathlib.Core.Bool.{true, false}
+-- The search for another share.
+use Prim.Native.Nat.{ℕ, zero, suc, ◌+◌}
+use mathlib.Core.Path.{◌≡◌, refl, ap, ◌∙◌}
+use mathlib.Core.Bool.{Bool, true, false, cond, ◌||◌}
 use mathlib.Core.List.{List}
 use native.Mathlib.Omega.{arith}
 use borrow.Author.Tests.{lt-ltb, le-ltb}
 use lib.Dec.{ltb}
+use Rattle.std.specs.List.{list_any, range_with_len}
 use Rattle.judges.specs.Sharing.{differs, others_from}
 
--- an accessor with another share
+as-cond : (t r : Bool) → (t || r) ≡ cond t true r
+as-cond true r = refl
+as-cond false r = refl
 
-pub others-here : (s : List ℕ) (share i n : ℕ) → 0 < n → differs s share i ≡ true → others_from s share i n ≡ true
+-- an accessor with another share is open at one of the n places starting at place j, that is i + a
+pub others-any : (s : List ℕ) (share i a j n : ℕ) → i + a ≡ j → list_any (λ p. differs s share (i + p)) (range_with_len a n) ≡ others_from s share j n
 unfolding others_from
-others-here s share i zero h e = absurd (omega arith)
-others-here s share i (suc n) h e = rw e
-
-pub others-step : (s : List ℕ) (share i n : ℕ) → 0 < n → differs s share i ≡ false → others_from s share i n ≡ others_from s share (i + 1) (n - 1)
-unfolding others_from
-others-step s share i zero h e = absurd (omega arith)
-others-step s share i (suc n) h e = let m : suc n - 1 ≡ n = omega arith in let k : suc i ≡ i + 1 = omega arith in rw (e, m, k)
-
-pub others-end : (s : List ℕ) (share i n : ℕ) → n ≤ 0 → others_from s share i n ≡ false
-unfolding others_from
-others-end s share i zero h = refl
-others-end s share i (suc n) h = absurd (omega arith)
+others-any s share i a j zero e = refl
+others-any s share i a j (suc n) e =
+    ap (λ r. differs s share (i + a) || r) (others-any s share i (a + 1) (suc j) n (omega arith))
+    ∙ as-cond (differs s share (i + a)) (others_from s share (suc j) n) ∙ ap (λ k. cond (differs s share k) true (others_from s share (suc j) n)) e
 
 -- a number that is 0, or is not
 pub is-nought : (n : ℕ) → n ≡ 0 → ltb 0 n ≡ false

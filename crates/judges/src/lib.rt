@@ -1,41 +1,35 @@
 // Judges events on the shared segment, before anything is changed. Of the refusals, "the lowest that applies is given".
 #![tactic(auto)]
 
-ghost use Rattle.std.specs.Prelude.{◌≡◌, false, ◌&&◌, List, ℕ, eqb};
+ghost use Rattle.std.specs.Prelude.{◌≡◌, false, List, ℕ, IfOk};
+ghost use Rattle.kinds.specs.Refusals.{refusal_number};
 ghost use Rattle.kinds.specs.declared.Frame.TheVariants as frame;
 ghost use Rattle.rules.specs.Desk.{frame_asks};
 ghost use Rattle.midst.specs.Outcome.{SoundSegment};
 ghost use Rattle.judges.specs.Refused.{Refuses, purges_by};
 
-use kinds::{Event, refusals};
+use kinds::Event;
+use kinds::refusals::Refusal;
+use segment::Segment;
 
 pub mod control_codes;
 pub mod on_accessors;
 pub mod on_files;
 mod sharing;
 
-// The refusal number of an event, 0 if it is not refused, and whether the event then purges, found here for the acting functions.
-#[derive(Clone, Copy)]
-pub struct Verdict {
-    pub refusal: u8,
-    pub purges: bool,
-}
-
-// The verdict with this refusal number that purges nothing.
-fn plain(refusal: u8) -> Verdict
-    ensures { result ≡ record { refusal = refusal; purges = false } }
+// The verdict on an event that purges nothing.
+fn plain(verdict: Result<(), Refusal>) -> Result<bool, Refusal>
+    ensures { (refusal_number result ≡ refusal_number verdict) × IfOk result (λ p. p ≡ false) }
 {
-    Verdict {
-        refusal,
-        purges: false,
-    }
+    verdict?;
+    Ok(false)
 }
 
-// Judges an event. The data of a write do not matter.
-pub fn judge(segment: &[u8], event: Event) -> Verdict
+// Judges an event, and says of an accepted one whether it purges, found here for the acting functions. The data of a write do not matter.
+pub fn judge(segment: &Segment, event: Event) -> Result<bool, Refusal>
     requires { SoundSegment segment.now }
-    ensures by_index { (t : List ℕ) → Refuses segment.now (frame_asks (frame.Event event) t) result.refusal }
-    ensures purges_value { result.purges ≡ (purges_by segment.now event && eqb result.refusal 0) }
+    ensures by_index { (t : List ℕ) → Refuses segment.now (frame_asks (frame.Event event) t) (refusal_number result) }
+    ensures purges_value { IfOk result (λ p. p ≡ purges_by segment.now event) }
 {
     match event {
         Event::Build {
@@ -62,7 +56,7 @@ pub fn judge(segment: &[u8], event: Event) -> Verdict
         )),
         Event::Collect { file, acc } => plain(on_accessors::judge_collect(segment, file, acc)),
         Event::Close { file, acc } => plain(on_accessors::judge_close(segment, file, acc)),
-        Event::Time { seconds: _ } => plain(refusals::NONE),
+        Event::Time { seconds: _ } => Ok(false),
         Event::Counts { file } => plain(on_files::judge_counts(segment, file)),
     }
 }

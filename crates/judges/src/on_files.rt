@@ -1,10 +1,10 @@
 // Judges build, open and counts.
-ghost use Rattle.std.specs.Prelude.{◌≡◌, ◌&&◌, ◌<◌, eqb, length};
+ghost use Rattle.std.specs.Prelude.{◌≡◌, ◌<◌, IfOk};
+ghost use Rattle.kinds.specs.Refusals.{refusal_number};
 ghost use Rattle.rules.specs.Limits.{files};
 ghost use Rattle.rules.specs.State.{Built};
 ghost use Rattle.rules.specs.Calls as calls;
 ghost use Rattle.rules.specs.Desk.{on};
-ghost use Rattle.segment.specs.Layout.{segment_bytes};
 ghost use Rattle.accessors.specs.Shown.{Shown};
 ghost use Rattle.accessors.specs.Sides.{purges_at};
 ghost use Rattle.judges.specs.Verdicts.{open_refusal};
@@ -12,82 +12,90 @@ ghost use Rattle.midst.specs.Outcome.{SoundSegment};
 ghost use Rattle.judges.specs.Refused.{Refuses};
 
 use crate::sharing::{forbids, has_room, purging, writers_for};
-use crate::{Verdict, plain};
 use accessors::sides::count_side;
 use accessors::words_of;
 use kinds::limits::FILES;
-use kinds::refusals;
+use kinds::refusals::Refusal;
 use kinds::sides::CLOSED;
 use refusing::{build_refusal, modes_in_range};
+use segment::Segment;
 
 pub fn judge_build(
-    segment: &[u8],
+    segment: &Segment,
     file: u8,
     words: u16,
     factor: u8,
     records: u16,
     extents: u8,
-) -> u8
+) -> Result<(), Refusal>
     requires { SoundSegment segment.now }
-    ensures { Refuses segment.now (on file (calls.build words factor records extents)) result }
+    ensures { Refuses segment.now (on file (calls.build words factor records extents)) (refusal_number result) }
 {
     if FILES <= file as usize {
-        return refusals::FILE;
+        return Err(Refusal::File);
     }
-    if words_of(segment, file as usize) != 0 {
-        return refusals::FILE;
+    if let Some(_) = words_of(segment, file as usize) {
+        return Err(Refusal::File);
     }
     build_refusal(words, factor, records, extents)
 }
 
 // Judges an open of file f, which is built. The closed places are counted once, for 41 and for the purge.
-fn open_refusal(segment: &[u8], f: usize, access: u8, share: u8, multi: u8) -> Verdict
-    requires segment_len { length segment.now ≡ segment_bytes }
-    requires f_lt_files { f < files }
-    ensures refusal_value { (b : Built) → Shown segment.now f b → result.refusal ≡ open_refusal access share multi b }
-    ensures purges_value { result.purges ≡ (purges_at segment.now f access && eqb result.refusal 0) }
+fn open_refusal(
+    segment: &Segment,
+    f: usize,
+    access: u8,
+    share: u8,
+    multi: u8,
+) -> Result<bool, Refusal>
+    requires { f < files }
+    ensures refusal_value { (b : Built) → Shown segment.now f b → refusal_number result ≡ open_refusal access share multi b }
+    ensures purges_value { IfOk result (λ p. p ≡ purges_at segment.now f access) }
 {
     if !modes_in_range(access, share, multi) {
-        return plain(refusals::RANGE);
+        return Err(Refusal::Range);
     }
     let writers = writers_for(segment, f, access);
     if forbids(segment, f, access, share, multi, writers) {
-        return plain(refusals::SHARING);
+        return Err(Refusal::Sharing);
     }
     let closed = count_side(segment, f, CLOSED);
     if closed == 0 {
-        return plain(refusals::FULL);
+        return Err(Refusal::Full);
     }
     if access == 0 {
-        return plain(refusals::NONE);
+        return Ok(false);
     }
     let purges = purging(access, closed);
     if !has_room(segment, f, purges, writers) {
-        return plain(refusals::ROOM);
+        return Err(Refusal::Room);
     }
-    Verdict {
-        refusal: refusals::NONE,
-        purges,
-    }
+    Ok(purges)
 }
 
-pub fn judge_open(segment: &[u8], file: u8, access: u8, share: u8, multi: u8) -> Verdict
+pub fn judge_open(
+    segment: &Segment,
+    file: u8,
+    access: u8,
+    share: u8,
+    multi: u8,
+) -> Result<bool, Refusal>
     requires { SoundSegment segment.now }
-    ensures refuses { Refuses segment.now (on file (calls.opens access share multi)) result.refusal }
-    ensures purges_value { result.purges ≡ (purges_at segment.now file access && eqb result.refusal 0) }
+    ensures refuses { Refuses segment.now (on file (calls.opens access share multi)) (refusal_number result) }
+    ensures purges_value { IfOk result (λ p. p ≡ purges_at segment.now file access) }
 {
-    if words_of(segment, file as usize) == 0 {
-        return plain(refusals::FILE);
-    }
+    let Some(_) = words_of(segment, file as usize) else {
+        return Err(Refusal::File);
+    };
     open_refusal(segment, file as usize, access, share, multi)
 }
 
-pub fn judge_counts(segment: &[u8], file: u8) -> u8
+pub fn judge_counts(segment: &Segment, file: u8) -> Result<(), Refusal>
     requires { SoundSegment segment.now }
-    ensures { Refuses segment.now (on file calls.counts) result }
+    ensures { Refuses segment.now (on file calls.counts) (refusal_number result) }
 {
-    if words_of(segment, file as usize) == 0 {
-        return refusals::FILE;
-    }
-    refusals::NONE
+    let Some(_) = words_of(segment, file as usize) else {
+        return Err(Refusal::File);
+    };
+    Ok(())
 }

@@ -1,11 +1,10 @@
 // Tests of an open: who may be open together, and the room for an open record.
-ghost use Rattle.std.specs.Prelude.{◌≡◌, ℕ, ◌*◌, ◌≤◌, ◌<◌, true, false, ◌&&◌, ltb, eqb, length};
+ghost use Rattle.std.specs.Prelude.{◌≡◌, ℕ, ◌*◌, ◌≤◌, ◌<◌, true, false, ◌&&◌, ltb, eqb};
 ghost use Rattle.rules.specs.Limits.{files, places};
 ghost use Rattle.rules.specs.State.{Built};
 ghost use Rattle.rules.specs.Store.{used};
 ghost use Rattle.rules.specs.Requests as requests;
 ghost use Rattle.rules.specs.Open.{crowded, purged, room_to_open};
-ghost use Rattle.segment.specs.Layout.{segment_bytes};
 ghost use Rattle.judges.specs.Sharing.{differs, others_from};
 ghost use Rattle.accessors.specs.Sides.{count_side, purges_at};
 ghost use Rattle.judges.specs.Verdicts.{forbidden};
@@ -15,6 +14,7 @@ use accessors::sides::count_side;
 use accessors::{SINGLE, sharing_of};
 use kinds::limits::PLACES;
 use kinds::sides::{CLOSED, READER, WRITER};
+use segment::Segment;
 
 // Share 3: many readers and many writers. Share 2 is one reader and many writers.
 const MANY: u16 = 3;
@@ -32,40 +32,26 @@ const ALL_PLACES: u16 = PLACES as u16;
 const WRITERS_RECORDS: u32 = 2;
 
 // Whether an accessor with another share is open at place i.
-fn differs(segment: &[u8], i: usize, share: u16) -> bool
-    requires segment_len { length segment.now ≡ segment_bytes }
-    requires i_bound { i < files * places }
+#[tactic(auto, using(std::proofs::lemmas::Bool::Decides::nat_tests), unfolding(crate::specs::Sharing::differs))]
+fn differs(segment: &Segment, i: usize, share: u16) -> bool
+    requires { i < files * places }
     ensures { result ≡ differs segment.now share i }
 {
     let row = segment::read_place(segment, i);
-    if row.side == CLOSED {
-        return false;
-    }
-    row.share != share
+    row.side != CLOSED && row.share != share
 }
 
 // Whether an accessor with another share is open at one of the eight places of file f.
-fn others(segment: &[u8], f: usize, share: u16) -> bool
-    requires segment_len { length segment.now ≡ segment_bytes }
-    requires f_lt_files { f < files }
+fn others(segment: &Segment, f: usize, share: u16) -> bool
+    requires { f < files }
     ensures { result ≡ others_from segment.now share (places * f) places }
 {
-    let mut i = PLACES * f;
-    let mut left = PLACES;
-    while left > 0 {
-        if differs(segment, i, share) {
-            return true;
-        }
-        i += 1;
-        left -= 1;
-    }
-    false
+    (0..PLACES).any(|p| differs(segment, PLACES * f + p, share))
 }
 
 // W, the open writers, for a writer's open (0 for a reader's). Counted once for all tests of an open.
-pub fn writers_for(segment: &[u8], f: usize, access: u8) -> u16
-    requires segment_len { length segment.now ≡ segment_bytes }
-    requires f_lt_files { f < files }
+pub fn writers_for(segment: &Segment, f: usize, access: u8) -> u16
+    requires { f < files }
     ensures { (access ≡ 0 → result ≡ 0) × (0 < access → result ≡ count_side segment.now f 2) × (result ≤ places) }
 {
     if access == 0 {
@@ -75,30 +61,23 @@ pub fn writers_for(segment: &[u8], f: usize, access: u8) -> u16
 }
 
 // Whether the share forbids another writer beside these.
+#[tactic(auto, using(std::proofs::lemmas::Bool::Decides::nat_tests), unfolding(rules::specs::Open::crowded))]
 fn crowds_writers(share: u16, writers: u16) -> bool
     ensures { (b : Built) → writers ≡ requests.writers b → result ≡ crowded true share b }
 {
-    if share != SINGLE {
-        return false;
-    }
-    0 < writers
+    share == SINGLE && 0 < writers
 }
 
 // Whether the share forbids another reader beside those of file f.
-fn crowds_readers(segment: &[u8], f: usize, share: u16) -> bool
-    requires segment_len { length segment.now ≡ segment_bytes }
-    requires f_lt_files { f < files }
+fn crowds_readers(segment: &Segment, f: usize, share: u16) -> bool
+    requires { f < files }
     ensures { (b : Built) → Shown segment.now f b → result ≡ crowded false share b }
 {
-    if MANY <= share {
-        return false;
-    }
-    0 < count_side(segment, f, READER)
+    share < MANY && 0 < count_side(segment, f, READER)
 }
 
-fn crowds(segment: &[u8], f: usize, access: u8, share: u16, writers: u16) -> bool
-    requires segment_len { length segment.now ≡ segment_bytes }
-    requires f_lt_files { (f < files) × (0 < access → writers ≡ count_side segment.now f 2) }
+fn crowds(segment: &Segment, f: usize, access: u8, share: u16, writers: u16) -> bool
+    requires { (f < files) × (0 < access → writers ≡ count_side segment.now f 2) }
     ensures { (b : Built) → Shown segment.now f b → result ≡ crowded (ltb 0 access) share b }
 {
     if 0 < access {
@@ -108,9 +87,8 @@ fn crowds(segment: &[u8], f: usize, access: u8, share: u16, writers: u16) -> boo
 }
 
 // Whether an open is refused with 40: multiaccess 3, another share, or a second accessor the share forbids.
-pub fn forbids(segment: &[u8], f: usize, access: u8, share: u8, multi: u8, writers: u16) -> bool
-    requires segment_len { length segment.now ≡ segment_bytes }
-    requires f_lt_files { (f < files) × (0 < access → writers ≡ count_side segment.now f 2) }
+pub fn forbids(segment: &Segment, f: usize, access: u8, share: u8, multi: u8, writers: u16) -> bool
+    requires { (f < files) × (0 < access → writers ≡ count_side segment.now f 2) }
     ensures { (b : Built) → Shown segment.now f b → result ≡ forbidden access share multi b }
 {
     if multi == NO_MULTI {
@@ -131,9 +109,8 @@ pub fn purging(access: u8, closed: u16) -> bool
 }
 
 // The records that count as used when an open puts its record: none if it purges.
-fn used_after(segment: &[u8], f: usize, purges: bool) -> u32
-    requires segment_len { length segment.now ≡ segment_bytes }
-    requires f_lt_files { f < files }
+fn used_after(segment: &Segment, f: usize, purges: bool) -> u32
+    requires { f < files }
     ensures value { (b : Built) → Shown segment.now f b → (access : ℕ) → purges ≡ purges_at segment.now f access → result ≡ used (purged access b).store }
     ensures upper_bound { result < 131072 }
 {
@@ -145,8 +122,7 @@ fn used_after(segment: &[u8], f: usize, purges: bool) -> u32
 }
 
 // "A writer puts an open record and needs used + W + 2 ≤ C, with W before it and after any purge."
-pub fn has_room(segment: &[u8], f: usize, purges: bool, writers: u16) -> bool
-    requires segment_len { length segment.now ≡ segment_bytes }
+pub fn has_room(segment: &Segment, f: usize, purges: bool, writers: u16) -> bool
     requires f_lt_files { (f < files) × (writers ≡ count_side segment.now f 2) × (writers ≤ places) }
     requires by_index { (access : ℕ) × (purges ≡ purges_at segment.now f access) }
     ensures { (b : Built) → Shown segment.now f b → (access : ℕ) → purges ≡ purges_at segment.now f access → result ≡ room_to_open access b }

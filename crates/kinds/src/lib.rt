@@ -3,6 +3,7 @@
 #![tactic(auto)]
 
 pub mod limits;
+pub mod memories;
 pub mod operations;
 pub mod record_types;
 pub mod refusals;

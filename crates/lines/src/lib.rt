@@ -1,11 +1,17 @@
 // Sends a line of hexadecimal digits to the desk, and writes the answer as a line.
 #![tactic(auto)]
 
+mod filling;
+
 ghost use Rattle.std.specs.Prelude.{◌+◌, ◌≤◌, ◌<◌, length};
 ghost use Rattle.lines.specs.Asked.{Asked, answer_line};
 ghost use Rattle.memory.specs.Memories.{was, left};
 
+pub use filling::Filled;
 use kinds::limits::{ANSWER_ROOM, LINE_BYTES};
+
+// The longest line of output: the digits of the longest answer, and LF.
+pub const ANSWER_LINE: usize = 2 * ANSWER_ROOM + 1;
 
 // Answers a line, given without its LF: writes the answer as a line at `used` of the output, and gives the place after it.
 pub fn answer_line(

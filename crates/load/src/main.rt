@@ -1,7 +1,7 @@
 // load FILE SHEET < SESSION: loads FILE of a fresh desk from SHEET, then answers the frames of standard input as the event program does.
 #![tactic(auto)]
 
-use arguments::{NO_FILE, TEXT_BYTES, arguments, refused};
+use arguments::{Named, TEXT_BYTES, arguments, refused};
 use kinds::limits::{BLOCKS_BYTES, BUFFERS_BYTES};
 use segment::layout::SEGMENT_BYTES;
 use serving::serve;
@@ -13,28 +13,20 @@ fn main(rt: HostRuntime) {
     let mut buffers = [0u8; BUFFERS_BYTES];
     let mut text = [0u8; TEXT_BYTES];
     let mut errors = rt.stderr();
-    let named = arguments(&rt, &mut errors, &mut text);
-    if named.file == NO_FILE {
+    let Some(Named { file, sheet }) = arguments(&rt, &mut errors, &mut text) else {
         return;
-    }
-    if !named.sheet {
+    };
+    let Some(n) = sheet else {
         let _ = errors.write_all(b"load FILE SHEET < SESSION\n");
         return;
-    }
-    fresh::fresh(&mut segment, &mut blocks, &mut buffers);
-    let n = named.size;
-    let status = loading::load(
-        &mut segment,
-        &mut blocks,
-        &mut buffers,
-        named.file,
-        &text[0..n],
-    );
-    if status != 0 {
-        refused(&mut errors, b"SHEET is not a sheet", status);
+    };
+    let _ = fresh::fresh(&mut segment, &mut blocks, &mut buffers);
+    let loaded = loading::load(&mut segment, &mut blocks, &mut buffers, file, &text[..n]);
+    if let Err(refusal) = loaded {
+        refused(&mut errors, b"SHEET is not a sheet", refusal);
         return;
     }
-    serve(
+    let _ = serve(
         &mut rt.stdin(),
         &mut rt.stdout(),
         &mut errors,

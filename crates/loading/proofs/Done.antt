@@ -79,9 +79,6 @@ module _ (m : Memories) (f : ℕ) (t : List ℕ) where
 
   -- 0
 
-  pub judges-zero : (r : ℕ) → r ≡ 0 → Judges m f t r → Judges m f t 0
-  judges-zero r z j = subst (Judges m f t) z j
-
   unsound-zero : 0 ≡ reply_status (reply_of none (load f t)) → ⊥
   unfolding reply_of reply_status
   unsound-zero e = omega arith
@@ -93,7 +90,7 @@ module _ (m : Memories) (f : ℕ) (t : List ℕ) where
       go (inl (z, L)) = L
       go (inr l) = absurd (omega arith)
 
-  abbrev Asks : Type 0
+  abbrev pub Asks : Type 0
   Asks =
       ((length m.segment ≡ segment_bytes) × (length m.blocks ≡ blocks_bytes) × (length m.buffers ≡ places * buffer_bytes * files) × (f < files)) × ((s : Sheet) × (read_sheet t ≡ some s))
 

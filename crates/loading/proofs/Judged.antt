@@ -1,15 +1,15 @@
 -- What load replies: 31 where the file is above 7 or built, 43 where the text is no sheet, else 0.
 use Prim.Native.Nat.{ℕ, ◌≤◌, ◌<◌}
 use mathlib.Core.Path.{◌≡◌, refl, sym, ap, ◌∙◌}
-use mathlib.Core.Bool.{Bool, true, false}
+use mathlib.Core.Bool.{Bool, true, false, true≢false}
 use mathlib.Core.List.{List}
 use mathlib.Core.Logic.{◌⊎◌, inl, inr}
 use mathlib.Core.Option.{Option, none, some}
 use native.Mathlib.Omega.{arith}
 use native.Mathlib.Decide.{dec_lt}
-use lib.ListN.{length}
-use borrow.Author.Tests.{lt-ltb, le-ltb, eqb-true}
-use Rattle.segment.specs.Layout.{segment_bytes}
+use borrow.Author.Tests.{lt-ltb, le-ltb}
+use Rattle.std.specs.Prelude as std
+use Rattle.std.specs.Prelude.{◌≢◌, IfSome, unwrap_or}
 use Rattle.rules.specs.Limits.{files}
 use Rattle.rules.specs.State.{Built, File, unbuilt, built}
 use Rattle.rules.specs.Reply.{leaves, unmade}
@@ -19,7 +19,6 @@ use Rattle.rules.specs.Calls.{refusal, ask_built, ask_unbuilt, ask}
 use Rattle.rules.specs.Calls as calls
 use Rattle.rules.specs.Desk.{Desk, load, asked, file_of, answered, respond}
 use Rattle.rules.specs.Allocation.{Alloc}
-use Rattle.rules.proofs.Split.{and-true}
 use Rattle.laws.specs.Bounds.{least_refusal}
 use Rattle.memory.specs.Memories.{Memories}
 use Rattle.memory.specs.Fine.{StandsFor}
@@ -83,6 +82,15 @@ module _ (d : Desk) (f : ℕ) (t : List ℕ) where
       file (yes h) = stands h (file_of d f) refl
       file (no h) = inr (omega (arith, load-high (omega arith)))
 
+-- the R of a file, 0 if it is not built
+words_high : (o : std.Option ℕ) → IfSome o (λ w. w ≢ 0) → std.is_some o ≡ true → unwrap_or o 0 ≢ 0
+words_high std.None k e = absurd (true≢false (sym e))
+words_high (std.Some w) k e = k
+
+words-zero : (o : std.Option ℕ) → std.is_some o ≡ false → unwrap_or o 0 ≡ 0
+words-zero std.None e = refl
+words-zero (std.Some w) e = absurd (true≢false e)
+
 -- the refusal number is what the judge says, on each way out
 module _ (m : Memories) (f : ℕ) (t : List ℕ) where
   abbrev pub Judges : ℕ → Type 0
@@ -93,14 +101,6 @@ module _ (m : Memories) (f : ℕ) (t : List ℕ) where
   judges-unsound e = seen_none (λ v. 29 ≡ reply_status (reply_of v (load f t))) e refl
 
   module _ (sound : soundly m ≡ true) where
-    pub sound-size : length m.segment ≡ segment_bytes
-    unfolding soundly
-    sound-size =
-        let (all, _) = and-true _ _ sound in
-        let (sizes, _) = and-true _ _ all in
-        let (two, _) = and-true _ _ sizes in
-        eqb-true (length m.segment) segment_bytes (and-true _ _ two).0
-
     each : (r : ℕ) → ((d : Desk) (s : Alloc) → StandsFor m d s → gives d f t ≡ r) → Judges r
     unfolding reply_of
     each r h = seen-some (λ v. r ≡ reply_status (reply_of v (load f t))) sound (λ d s S. sym (h d s S))
@@ -108,17 +108,17 @@ module _ (m : Memories) (f : ℕ) (t : List ℕ) where
     pub judges-high : files ≤ f → Judges 31
     judges-high h = each 31 (λ d s S. load-high d f t h)
 
-    module _ (low : f < files) (w : ℕ) (e : w ≡ words_at m.segment f) where
-      pub judges-built : (w ≡ 0 → ⊥) → Judges 31
-      judges-built h = each 31 (λ d s S. let (b, k) = is-built S f w e h in load-built d f t low b k)
+    module _ (low : f < files) (o : std.Option ℕ) (e : unwrap_or o 0 ≡ words_at m.segment f) (k : IfSome o (λ w. w ≢ 0)) where
+      pub judges-built : std.is_some o ≡ true → Judges 31
+      judges-built h = each 31 (λ d s S. let (b, i) = is-built S f (unwrap_or o 0) e (words_high o k h) in load-built d f t low b i)
 
-      pub judges-text : (b : Bool) → b ≡ is_some (read_sheet t) → b ≡ false → w ≡ 0 → Judges 43
+      pub judges-text : std.is_some o ≡ false → (b : Bool) → b ≡ is_some (read_sheet t) → b ≡ false → Judges 43
       unfolding is_some
-      judges-text b i n z = each 43 (λ d s S. load-none d f t low (not-built S f w e low z) (go (read_sheet t) (sym i ∙ n)))
+      judges-text h b i n = each 43 (λ d s S. load-none d f t low (not-built S f (unwrap_or o 0) e low (words-zero o h)) (go (read_sheet t) (sym i ∙ n)))
         where
           go : (o : Option Sheet) → is_some o ≡ false → o ≡ none
           go none k = refl
           go (some s) k = let y : ◌≡◌ {A = ℕ} 0 1 = cc in absurd (omega arith)
 
-      pub judges-done : (b : Bool) → b ≡ is_some (read_sheet t) → b ≡ true → w ≡ 0 → Judges 0
-      judges-done b i n z = let (s, k) = some_is (read_sheet t) (sym i ∙ n) in each 0 (λ d u S. load-some d f t low (not-built S f w e low z) s k)
+      pub judges-done : std.is_some o ≡ false → (b : Bool) → b ≡ is_some (read_sheet t) → b ≡ true → Judges 0
+      judges-done h b i n = let (s, j) = some_is (read_sheet t) (sym i ∙ n) in each 0 (λ d u S. load-some d f t low (not-built S f (unwrap_or o 0) e low (words-zero o h)) s j)

@@ -25,6 +25,9 @@ use Rattle.midst.proofs.Begins.{mid-begin}
 use Rattle.transfers.proofs.Named.{Named, begin-mid}
 use Rattle.transfers.proofs.Ports.{taken}
 use Rattle.accessors.specs.declared.Accessor.{Accessor}
+use Rattle.kinds.specs.declared.refusals.Refusal.{Refusal}
+use Rattle.kinds.specs.Refusals.{number}
+use Rattle.std.specs.Prelude.{Result}
 use Rattle.accessors.specs.Accessors.{accessor_of}
 use Rattle.promises.specs.Promise.{Standing, Seen, unsound, stands, reply_of}
 use Rattle.promises.specs.Parts.{bytes_of, before, of_file, of_req, part_on, part_of}
@@ -83,8 +86,8 @@ module _ {m : Memories} {d : Desk} {s : Alloc} (S : StandsFor m d s) where
       none-shown : (n : ℕ) → Refuses d f p n → bytes_of (part_on d f p) m.blocks m.buffers ≡ reply_bytes (respond d (look f p)).reply
       none-shown n R = rw (R.part, R.reply)
 
-      go : (x : Accessor) → Looked d f p x → bytes_of (part_on d f p) m.blocks m.buffers ≡ reply_bytes (respond d (look f p)).reply
-      go x (refused n R) = none-shown n R
+      go : (x : Result Accessor Refusal) → Looked d f p x → bytes_of (part_on d f p) m.blocks m.buffers ≡ reply_bytes (respond d (look f p)).reply
+      go x (refused r R) = none-shown (number r) R
       go x (writer w q R) = none-shown 34 R
       go x (reader w q R) = rw (R.part, R.reply) (req-fits R.named R.named.a.req refl)
 

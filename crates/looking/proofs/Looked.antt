@@ -18,10 +18,13 @@ use Rattle.rules.specs.Desk.{Desk, look, asked, file_of, answered, respond}
 use Rattle.rules.proofs.Split.{by_cases}
 use Rattle.kinds.specs.declared.Outstanding.{Outstanding}
 use Rattle.accessors.specs.declared.Accessor.{Accessor}
-use Rattle.accessors.specs.declared.Accessor.TheVariants.{Refused, Open}
+use Rattle.kinds.specs.declared.refusals.Refusal.{Refusal}
+use Rattle.kinds.specs.declared.refusals.Refusal.TheVariants as refusals
+use Rattle.kinds.specs.Refusals.{number}
+use Rattle.std.specs.Prelude.{Result, Err}
 use Rattle.accessors.specs.Outstanding.{outstanding_of}
 use Rattle.accessors.specs.Sides.{side_of}
-use Rattle.accessors.specs.Accessors.{accessor_in, accessor_on, accessor_of}
+use Rattle.accessors.specs.Accessors.{Open, accessor_in, accessor_on, accessor_of}
 use Rattle.occurrences.specs.Count.{bit}
 use Rattle.transfers.proofs.Named.{Named}
 use Rattle.promises.specs.Parts.{nothing, of_req, of_reader, part_on}
@@ -40,8 +43,8 @@ pub record Reads (d : Desk) (f p : ℕ) (q : Outstanding) : Type 0 where
   pub reply : (respond d (look f p)).reply ≡ (look_req named.a.req named.b).reply
 
 -- by the accessor that f and p name; 34 to a writer
-pub data Looked (d : Desk) (f p : ℕ) : Accessor → Type 0 where
-  refused : (n : ℕ) → Refuses d f p n → Looked d f p (Refused n)
+pub data Looked (d : Desk) (f p : ℕ) : Result Accessor Refusal → Type 0 where
+  refused : (r : Refusal) → Refuses d f p (number r) → Looked d f p (Err r)
   writer : (w : ℕ) (q : Outstanding) → Refuses d f p 34 → Looked d f p (Open w 2 q)
   reader : (w : ℕ) (q : Outstanding) → Reads d f p q → Looked d f p (Open w 1 q)
 
@@ -49,7 +52,7 @@ module _ (d : Desk) (f p : ℕ) where
   by_place : f < files → (b : Built) → file_of d f ≡ built b → part_on d f p ≡ of_reader f p (built b) → (respond d (look f p)).reply ≡ (on_acc (calls.look p) p (λ a. looking.look a b) b).reply
       → (o : Option Acc) → acc_at b p ≡ o → Looked d f p (accessor_in b.geo.words o)
   unfolding of_reader on_acc looking.look refusal leaves accessor_in side_of
-  by_place h b is e k none i = refused 32 (record { part = e ∙ rw (of_reader, i); reply = k ∙ rw (on_acc, i) })
+  by_place h b is e k none i = refused refusals.Accessor (record { part = e ∙ rw (of_reader, i); reply = k ∙ rw (on_acc, i) })
   by_place h b is e k (some a) i = go a.writer refl
     where
       go : (w : Bool) → a.writer ≡ w → Looked d f p (Open b.geo.words (1 + bit a.writer) (outstanding_of a.req))
@@ -66,7 +69,7 @@ module _ (d : Desk) (f p : ℕ) where
   by-file : f < files → part_on d f p ≡ of_reader f p (file_of d f) → (respond d (look f p)).reply ≡ (ask (file_of d f) (calls.look p)).reply
       → (x : File) → file_of d f ≡ x → Looked d f p (accessor_on x p)
   unfolding of_reader ask ask_built ask_unbuilt refusal unmade accessor_on
-  by-file h e k unbuilt i = refused 31 (record { part = e ∙ rw i; reply = k ∙ rw i })
+  by-file h e k unbuilt i = refused refusals.File (record { part = e ∙ rw i; reply = k ∙ rw i })
   by-file h e k (built b) i = by_place h b i (e ∙ ap (of_reader f p) i) (k ∙ ap (λ x. (ask x (calls.look p)).reply) i) (acc_at b p) refl
 
   pub looked : Looked d f p (accessor_of d f p)
@@ -74,4 +77,4 @@ module _ (d : Desk) (f p : ℕ) where
   looked =
       by_cases (ltb f files)
       (λ t. rw (accessor_of, t) (by-file (ltb-true f files t) (rw (part_on, t)) (rw (answered, t)) (file_of d f) refl))
-      (λ t. rw (accessor_of, t) (refused 31 (record { part = rw (part_on, t); reply = rw (answered, t) })))
+      (λ t. rw (accessor_of, t) (refused refusals.File (record { part = rw (part_on, t); reply = rw (answered, t) })))

@@ -17,12 +17,10 @@ use Rattle.shares.specs.Holds.{Sized, InShare}
 use Rattle.shares.specs.Back.{rec_at}
 use Rattle.shares.specs.Places.{place_of}
 use Rattle.shares.proofs.Places.{place_of-held}
-use Rattle.records.specs.declared.reading.Found.{Found}
-use Rattle.records.specs.declared.reading.Found.TheVariants.{At, Nothing}
+use Rattle.std.specs.Prelude as std
 use Rattle.records.specs.Reading.{Readable}
 use Rattle.records.specs.Fetch.{oldest_of, found}
 use Rattle.records.proofs.reading.Stores.{legible, found-oldest}
-use Rattle.records.proofs.fetch.Search.{at_same, at_none}
 use Rattle.promises.specs.Parts.{before}
 
 -- the oldest data record is one of the records
@@ -34,12 +32,19 @@ before-low (q ∷ l) r e =
     (λ z. rw (before, z) (omega arith))
     (λ z. rw (before, z) (let h = before-low l r (sym (pick-false (eqb q.typ 0) _ _ z) ∙ e) in omega (arith, h)))
 
+-- the places in two equal findings are equal
+at_same : (p q : ℕ) → ◌≡◌ {A = std.Option ℕ} (std.Some p) (std.Some q) → p ≡ q
+at_same p q e = cc
+
+at_none : (p : ℕ) → ◌≡◌ {A = std.Option ℕ} std.None (std.Some p) → ⊥
+at_none p e = absurd (false≢true cc)
+
 module _ (g : Geo) (s : Store) (o : Sized g) (h : InShare g s) where
   abbrev xs : List ℕ
   xs = s.share
 
   -- the oldest data record among those starting at the i-th held
-  place-from : (l : List Rec) (i : ℕ) → drop i s.recs ≡ l → (q : ℕ) → oldest_of g s.share s.block (s.spent + i) (length l) ≡ At q
+  place-from : (l : List Rec) (i : ℕ) → drop i s.recs ≡ l → (q : ℕ) → oldest_of g s.share s.block (s.spent + i) (length l) ≡ std.Some q
       → q ≡ place_of g s.share s.block (s.spent + (i + before l))
   unfolding oldest_of before rec_at
   place-from [] i e q k = absurd (at_none q k)
@@ -54,24 +59,24 @@ module _ (g : Geo) (s : Store) (o : Sized g) (h : InShare g s) where
       by_cases (eqb r.typ 0)
       (λ z. at_same q p (sym k ∙ pick_true (eqb (word_at xs (p + 2)) 0) _ _ (t ∙ z))
       ∙ ap (λ (m : ℕ). place_of g xs s.block (s.spent + m)) (sym j ∙ ap (λ (m : ℕ). i + m) (sym (pick_true (eqb r.typ 0) _ _ z))))
-      (λ z. let w : oldest_of g xs s.block (s.spent + (i + 1)) (length l) ≡ At q =
+      (λ z. let w : oldest_of g xs s.block (s.spent + (i + 1)) (length l) ≡ std.Some q =
       ap (λ (m : ℕ). oldest_of g xs s.block m (length l)) (sym y) ∙ (sym (pick-false (eqb (word_at xs (p + 2)) 0) _ _ (t ∙ z)) ∙ k) in
       let u : i + 1 + before l ≡ i + suc (before l) = omega arith in
       place-from l (i + 1) c q w ∙ ap (λ (m : ℕ). place_of g xs s.block (s.spent + m)) (u ∙ ap (λ (m : ℕ). i + m) (sym (pick-false (eqb r.typ 0) _ _ z))))
 
   -- the place of the oldest data record: the spent records and those before it come first
-  pub oldest-place : (q : ℕ) → oldest_of g s.share s.block s.spent (length s.recs) ≡ At q → q ≡ place_of g s.share s.block (s.spent + before s.recs)
+  pub oldest-place : (q : ℕ) → oldest_of g s.share s.block s.spent (length s.recs) ≡ std.Some q → q ≡ place_of g s.share s.block (s.spent + before s.recs)
   oldest-place q k =
       let z : s.spent + 0 ≡ s.spent = omega arith in
       let y : 0 + before s.recs ≡ before s.recs = omega arith in
       rw y at (place-from s.recs 0 refl q (rw z k))
 
   -- what the search finds is the rules'
-  pub oldest-some : (q : ℕ) → oldest_of g s.share s.block s.spent (length s.recs) ≡ At q → oldest s.recs ≡ some (rec_at s.share q)
+  pub oldest-some : (q : ℕ) → oldest_of g s.share s.block s.spent (length s.recs) ≡ std.Some q → oldest s.recs ≡ some (rec_at s.share q)
   unfolding found
   oldest-some q k = sym (found-oldest g s o h) ∙ ap (found xs) k
 
-  pub oldest-none : oldest_of g s.share s.block s.spent (length s.recs) ≡ Nothing → oldest s.recs ≡ none
+  pub oldest-none : oldest_of g s.share s.block s.spent (length s.recs) ≡ std.None → oldest s.recs ≡ none
   unfolding found
   oldest-none k = sym (found-oldest g s o h) ∙ ap (found xs) k
 
@@ -80,10 +85,10 @@ module _ (g : Geo) (s : Store) (o : Sized g) (h : InShare g s) where
   unfolding found
   oldest-stands r e = go (oldest_of g xs s.block s.spent (length s.recs)) refl (found-oldest g s o h ∙ e)
     where
-      go : (x : Found) → oldest_of g xs s.block s.spent (length s.recs) ≡ x → found xs x ≡ some r
+      go : (x : std.Option ℕ) → oldest_of g xs s.block s.spent (length s.recs) ≡ x → found xs x ≡ some r
           → rec_at xs (place_of g xs s.block (s.spent + before s.recs)) ≡ r
-      go (At q) k w = ap (rec_at xs) (sym (oldest-place q k)) ∙ cc
-      go Nothing k w = absurd (false≢true cc)
+      go (std.Some q) k w = ap (rec_at xs) (sym (oldest-place q k)) ∙ cc
+      go std.None k w = absurd (false≢true cc)
 
   -- the data of the oldest data record lie after three words
   pub oldest-body : (r : Rec) → oldest s.recs ≡ some r → let q : ℕ = place_of g s.share s.block (s.spent + before s.recs) in

@@ -28,9 +28,12 @@ use Rattle.midst.specs.Outcome.{reply_status, SoundBlocks}
 use Rattle.kinds.specs.declared.Outstanding.{Outstanding}
 use Rattle.kinds.specs.declared.Outstanding.TheVariants.{Completed}
 use Rattle.accessors.specs.declared.Accessor.{Accessor}
-use Rattle.accessors.specs.declared.Accessor.TheVariants.{Refused, Open}
+use Rattle.kinds.specs.declared.refusals.Refusal.{Refusal}
+use Rattle.kinds.specs.declared.refusals.Refusal.TheVariants as refusal
+use Rattle.std.specs.Prelude.{Result, Ok, Err}
+use Rattle.kinds.specs.Refusals.{number}
 use Rattle.accessors.specs.Outstanding.{outstanding_of}
-use Rattle.accessors.specs.Accessors.{accessor_at, accessor_of}
+use Rattle.accessors.specs.Accessors.{Open, accessor_at, accessor_of}
 use Rattle.accessors.proofs.Names.{accessor-is}
 use Rattle.accessors.proofs.Waits.{fine-at}
 use Rattle.transfers.proofs.Named.{Named}
@@ -43,47 +46,53 @@ use Rattle.looking.specs.declared.finding.Shown.TheVariants as shown
 use Rattle.looking.specs.Shown.{part_shown, status_shown, Inside, OfFile, OfReader, Finds, Opens}
 use Rattle.looking.proofs.Looked.{Refuses, Reads, Looked, refused, writer, reader, looked}
 
+-- the same accessor has the same side and request
+same-accessor : {v w m n : ℕ} {o q : Outstanding} → Open v m o ≡ Open w n q → (m ≡ n) × (o ≡ q)
+same-accessor {v} {w} {m} {n} {o} {q} e =
+    let r : ◌≡◌ {A = Accessor} (record { words = v; side = m; request = o }) (record { words = w; side = n; request = q }) = cc in
+    (ap (λ (a : Accessor). a.side) r, ap (λ (a : Accessor). a.request) r)
+
 -- the accessor is known
 
 module _ (d : Desk) (f p : ℕ) where
-  as-refused : (x : Accessor) (n : ℕ) → x ≡ Refused n → Looked d f p x → Refuses d f p n
-  as-refused x n e (refused m R) = let z : m ≡ n = cc in rw (← z) R
-  as-refused x n e (writer w q R) = absurd (false≢true cc)
-  as-refused x n e (reader w q R) = absurd (false≢true cc)
+  as-refused : (x : Result Accessor Refusal) (r : Refusal) → x ≡ Err r → Looked d f p x → Refuses d f p (number r)
+  as-refused x r e (refused m R) = let z : m ≡ r = cc in rw (← z) R
+  as-refused x r e (writer w q R) = absurd (false≢true cc)
+  as-refused x r e (reader w q R) = absurd (false≢true cc)
 
-  as-writer : (x : Accessor) (w side : ℕ) (q : Outstanding) → x ≡ Open w side q → side ≡ 2 → Looked d f p x → Refuses d f p 34
+  as-writer : (x : Result Accessor Refusal) (w side : ℕ) (q : Outstanding) → x ≡ Open w side q → side ≡ 2 → Looked d f p x → Refuses d f p 34
   as-writer x w side q e k (refused m R) = absurd (false≢true cc)
   as-writer x w side q e k (writer v o R) = R
-  as-writer x w side q e k (reader v o R) = let z : 1 ≡ side = cc in absurd (omega arith)
+  as-writer x w side q e k (reader v o R) = let z : 1 ≡ side = (same-accessor e).0 in absurd (omega arith)
 
-  as-reader : (x : Accessor) (w side : ℕ) (q : Outstanding) → x ≡ Open w side q → (side ≡ 2 → ⊥) → Looked d f p x → Reads d f p q
+  as-reader : (x : Result Accessor Refusal) (w side : ℕ) (q : Outstanding) → x ≡ Open w side q → (side ≡ 2 → ⊥) → Looked d f p x → Reads d f p q
   as-reader x w side q e k (refused m R) = absurd (false≢true cc)
-  as-reader x w side q e k (writer v o R) = let z : side ≡ 2 = cc in absurd (k z)
-  as-reader x w side q e k (reader v o R) = let z : o ≡ q = cc in rw (← z) R
+  as-reader x w side q e k (writer v o R) = absurd (k (sym (same-accessor e).0))
+  as-reader x w side q e k (reader v o R) = let z : o ≡ q = (same-accessor e).1 in rw (← z) R
 
-  refuses-tells : (n : ℕ) → Refuses d f p n → OfReader f p d (shown.Refused n)
+  refuses-tells : (r : Refusal) → Refuses d f p (number r) → OfReader f p d (Err r)
   unfolding part_shown status_shown reply_status
-  refuses-tells n R = record { shows = sym R.part; status = rw R.reply }
+  refuses-tells r R = record { shows = sym R.part; status = rw R.reply }
 
 -- refused
 module _ (xs blocks : List ℕ) (f p : ℕ) where
-  pub refused-finds : (x : Accessor) → x ≡ accessor_at xs f p → (n : ℕ) → x ≡ Refused n → Finds (OfReader f p) xs blocks (shown.Refused n)
+  pub refused-finds : (r : Refusal) → Err r ≡ accessor_at xs f p → Finds (OfReader f p) xs blocks (Err r)
   unfolding Inside
-  refused-finds x e n k = record {
+  refused-finds r e = record {
     inside = tt;
-    tells = λ buffers d s S. refuses-tells d f p n (as-refused d f p (accessor_of d f p) n (sym (e ∙ accessor-is S f p) ∙ k) (looked d f p));
+    tells = λ buffers d s S. refuses-tells d f p r (as-refused d f p (accessor_of d f p) r (sym (e ∙ accessor-is S f p)) (looked d f p));
   }
 
-  pub opens : (x : Accessor) → x ≡ accessor_at xs f p → SoundBlocks xs blocks → (w side : ℕ) (q : Outstanding) → x ≡ Open w side q → Opens xs blocks f p side q
-  opens x e S w side q k = record { stood = S; words = w; named = sym e ∙ k }
+  pub opens : (a : Accessor) → Ok a ≡ accessor_at xs f p → SoundBlocks xs blocks → Opens xs blocks f p a.side a.request
+  opens a e S = record { stood = S; words = a.words; named = sym e }
 
 -- an open accessor
 module _ {xs blocks : List ℕ} {f p side : ℕ} {q : Outstanding} (O : Opens xs blocks f p side q) where
-  pub writer-finds : side ≡ 2 → Finds (OfReader f p) xs blocks (shown.Refused 34)
+  pub writer-finds : side ≡ 2 → Finds (OfReader f p) xs blocks (Err refusal.Side)
   unfolding Inside
   writer-finds e = record {
     inside = tt;
-    tells = λ buffers d s S. refuses-tells d f p 34 (as-writer d f p (accessor_of d f p) O.words side q (sym (accessor-is S f p) ∙ O.named) e (looked d f p));
+    tells = λ buffers d s S. refuses-tells d f p refusal.Side (as-writer d f p (accessor_of d f p) O.words side q (sym (accessor-is S f p) ∙ O.named) e (looked d f p));
   }
 
   module _ (n : side ≡ 2 → ⊥) where
@@ -100,7 +109,7 @@ module _ {xs blocks : List ℕ} {f p side : ℕ} {q : Outstanding} (O : Opens xs
     reader-fit = let S = O.stood.1.2 in fit S (reads S).named
 
     -- whose read brought no record: that of the file is shown
-    file-finds : (x : Shown) → ((buffers : List ℕ) (d : Desk) (s : Alloc) (S : StandsFor (memories xs blocks buffers) d s)
+    file-finds : (x : Result Shown Refusal) → ((buffers : List ℕ) (d : Desk) (s : Alloc) (S : StandsFor (memories xs blocks buffers) d s)
         → (of_req f p (reads S).named.a.req (reads S).named.b ≡ of_file f (reads S).named.b) × (look_req (reads S).named.a.req (reads S).named.b ≡ look_file (reads S).named.b))
         → Finds (OfFile f) xs blocks x → Finds (OfReader f p) xs blocks x
     file-finds x same F = record {
@@ -121,7 +130,7 @@ not_done f p b (writing q) h = (refl, refl)
 not_done f p b (read_done q) h = absurd (h refl)
 not_done f p b (write_done q) h = absurd (h refl)
 
-pub waiting-finds : {xs blocks : List ℕ} {f p side : ℕ} {q : Outstanding} → Opens xs blocks f p side q → (side ≡ 2 → ⊥) → (q ≡ Completed → ⊥) → (x : Shown)
+pub waiting-finds : {xs blocks : List ℕ} {f p side : ℕ} {q : Outstanding} → Opens xs blocks f p side q → (side ≡ 2 → ⊥) → (q ≡ Completed → ⊥) → (x : Result Shown Refusal)
     → Finds (OfFile f) xs blocks x → Finds (OfReader f p) xs blocks x
 waiting-finds {f = f} {p = p} O n h x F =
     file-finds O n x (λ buffers d s S. let R = reads O n S in not_done f p R.named.b R.named.a.req (λ e. h (sym R.request ∙ e))) F
@@ -169,7 +178,7 @@ module _ {xs blocks : List ℕ} {f p side : ℕ} (O : Opens xs blocks f p side C
         (ap (λ (t : Entry). t.status) k, ap (λ (t : Entry). t.size) k)
 
     -- the read brought a status alone
-    pub ended-finds : (m.status ≡ 0 → ⊥) → (x : Shown) → Finds (OfFile f) xs blocks x → Finds (OfReader f p) xs blocks x
+    pub ended-finds : (m.status ≡ 0 → ⊥) → (x : Result Shown Refusal) → Finds (OfFile f) xs blocks x → Finds (OfReader f p) xs blocks x
     unfolding of_req look_req
     ended-finds h x F = file-finds O n x (λ buffers d s S. same S) F
       where
@@ -178,14 +187,14 @@ module _ {xs blocks : List ℕ} {f p side : ℕ} (O : Opens xs blocks f p side C
         same S = let z = ne_eqb (done S).0.status 0 (λ k. h ((entry-is S).0 ∙ k)) in (rw ((done S).1, of_req, z), rw ((done S).1, look_req, z))
 
     -- a completed read that brought a record shows it
-    pub brought-finds : m.status ≡ 0 → Finds (OfReader f p) xs blocks (shown.Buffer (buffer_bytes * place_of f p) m.size)
+    pub brought-finds : m.status ≡ 0 → Finds (OfReader f p) xs blocks (Ok (shown.Buffer (buffer_bytes * place_of f p) m.size))
     unfolding Inside part_shown status_shown of_req look_req leaves reply_status
     brought-finds h = record {
       inside = let S = O.stood.1.2 in omega (arith, (entry-is S).1, size_low S, place-of-desk f p (reader-fit O n).file (reader-fit O n).place);
       tells = λ buffers d s S. tells S;
     }
       where
-        tells : {buffers : List ℕ} {d : Desk} {s : Alloc} (S : StandsFor (memories xs blocks buffers) d s) → OfReader f p d (shown.Buffer (buffer_bytes * place_of f p) m.size)
+        tells : {buffers : List ℕ} {d : Desk} {s : Alloc} (S : StandsFor (memories xs blocks buffers) d s) → OfReader f p d (Ok (shown.Buffer (buffer_bytes * place_of f p) m.size))
         tells S =
             let r = reads O n S in
             let z = eq-eqb (done S).0.status 0 (sym (entry-is S).0 ∙ h) in

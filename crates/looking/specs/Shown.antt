@@ -1,5 +1,5 @@
 -- What look was found to show, and that a desk of the rules shows the same.
-use Rattle.std.specs.Prelude.{ℕ, ◌+◌, ◌≤◌, ◌≡◌, List}
+use Rattle.std.specs.Prelude.{ℕ, ◌+◌, ◌≤◌, ◌≡◌, List, Result, Ok, Err}
 use Rattle.rules.specs.State.{Built, built}
 use Rattle.rules.specs.Reply.{Reply}
 use Rattle.rules.specs.Look.{look_file}
@@ -11,43 +11,43 @@ use Rattle.memory.specs.Memories.{memories}
 use Rattle.memory.specs.Fine.{StandsFor}
 use Rattle.midst.specs.Outcome.{reply_status, SoundBlocks}
 use Rattle.kinds.specs.declared.Outstanding.{Outstanding}
-use Rattle.accessors.specs.declared.Accessor.TheVariants.{Open}
-use Rattle.accessors.specs.Accessors.{accessor_at}
+use Rattle.accessors.specs.Accessors.{Open, accessor_at}
+use Rattle.kinds.specs.declared.refusals.Refusal.{Refusal}
+use Rattle.kinds.specs.Refusals.{number}
 use Rattle.promises.specs.Parts.{Part, nothing, of_blocks, of_buffers, of_file, part_on}
 use Rattle.looking.specs.declared.finding.Shown.{Shown}
-use Rattle.looking.specs.declared.finding.Shown.TheVariants.{Refused, Block, Buffer}
+use Rattle.looking.specs.declared.finding.Shown.TheVariants.{Block, Buffer}
 
 -- "Refused, it shows an empty part; a second call gives its status."
-unfoldable pub part_shown : Shown → Part
-part_shown (Refused n) = nothing
-part_shown (Block at size) = of_blocks at size
-part_shown (Buffer at size) = of_buffers at size
+unfoldable pub part_shown : Result Shown Refusal → Part
+part_shown (Err r) = nothing
+part_shown (Ok (Block at size)) = of_blocks at size
+part_shown (Ok (Buffer at size)) = of_buffers at size
 
-unfoldable pub status_shown : Shown → ℕ
-status_shown (Refused n) = n
-status_shown (Block at size) = 0
-status_shown (Buffer at size) = 0
+unfoldable pub status_shown : Result Shown Refusal → ℕ
+status_shown (Err r) = number r
+status_shown (Ok x) = 0
 
 -- what is shown lies within the given numbers of bytes of blocks and of record buffers
-unfoldable pub Inside : ℕ → ℕ → Shown → Type 0
-Inside blocks buffers (Refused n) = Unit {0}
-Inside blocks buffers (Block at size) = at + size ≤ blocks
-Inside blocks buffers (Buffer at size) = at + size ≤ buffers
+unfoldable pub Inside : ℕ → ℕ → Result Shown Refusal → Type 0
+Inside blocks buffers (Err r) = Unit {0}
+Inside blocks buffers (Ok (Block at size)) = at + size ≤ blocks
+Inside blocks buffers (Ok (Buffer at size)) = at + size ≤ buffers
 
 -- what is shown is the given part, with the status of the given reply
-pub record Tells (part : Part) (r : Reply) (x : Shown) : Type 0 where
+pub record Tells (part : Part) (r : Reply) (x : Result Shown Refusal) : Type 0 where
   pub shows : part_shown x ≡ part
   pub status : status_shown x ≡ reply_status r
 
 -- x is what look shows of file f of a desk; `OfReader`: of the reader that f and p name
-abbrev pub OfFile : ℕ → Desk → Shown → Type 0
+abbrev pub OfFile : ℕ → Desk → Result Shown Refusal → Type 0
 OfFile f d x = (b : Built) → file_of d f ≡ built b → Tells (of_file f b) (look_file b).reply x
 
-abbrev pub OfReader : ℕ → ℕ → Desk → Shown → Type 0
+abbrev pub OfReader : ℕ → ℕ → Desk → Result Shown Refusal → Type 0
 OfReader f p d x = Tells (part_on d f p) (respond d (look f p)).reply x
 
 -- x is what look shows on every desk that segment and blocks stand for, with any buffers
-pub record Finds (Of : Desk → Shown → Type 0) (xs blocks : List ℕ) (x : Shown) : Type 0 where
+pub record Finds (Of : Desk → Result Shown Refusal → Type 0) (xs blocks : List ℕ) (x : Result Shown Refusal) : Type 0 where
   pub inside : Inside blocks_bytes buffers_bytes x
   pub tells : (buffers : List ℕ) (d : Desk) (s : Alloc) → StandsFor (memories xs blocks buffers) d s → Of d x
 

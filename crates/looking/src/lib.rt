@@ -7,6 +7,7 @@ mod finding;
 
 ghost use Rattle.std.specs.Prelude.{◌≡◌, ◌≤◌, length};
 ghost use Rattle.std.proofs.Math.Option.{Option};
+ghost use Rattle.kinds.specs.Refusals.{refusal_number};
 ghost use Rattle.rules.specs.Limits.{buffer_bytes};
 ghost use Rattle.rules.specs.Desk.{reply_bytes};
 ghost use Rattle.rules.specs.Desk as rules;
@@ -18,39 +19,47 @@ ghost use Rattle.memory.specs.Memories.{was};
 
 pub use finding::Shown;
 use finding::find;
-use kinds::refusals;
+use kinds::refusals::Refusal;
+use sound::standing;
 
 // What look shows, for memories of any content.
-pub fn shown(segment: &[u8], blocks: &[u8], buffers: &[u8], file: usize, reader: usize) -> Shown
+pub fn shown(
+    segment: &[u8],
+    blocks: &[u8],
+    buffers: &[u8],
+    file: usize,
+    reader: usize,
+) -> Result<Shown, Refusal>
     ensures inside { Inside (length blocks.now) (length buffers.now) result }
     ensures tells { (v : Option Standing) → Seen (was segment.now blocks.now buffers.now) v → Tells (part_of v file reader) (reply_of v (rules.look file reader)) result }
 {
-    if !sound::sound(segment, blocks, buffers) {
-        return Shown::Refused(refusals::UNSOUND);
-    }
-    find(segment, blocks, file, reader)
+    let Some(desk) = standing(segment, blocks, buffers) else {
+        return Err(Refusal::Unsound);
+    };
+    find(desk.segment, desk.blocks, file, reader)
 }
 
 // The part of the blocks or of the record buffers that is shown; empty if the call is refused.
-pub fn part<'a>(what: Shown, blocks: &'a [u8], buffers: &'a [u8]) -> &'a [u8]
+pub fn part<'a>(what: Result<Shown, Refusal>, blocks: &'a [u8], buffers: &'a [u8]) -> &'a [u8]
     requires { Inside (length blocks.now) (length buffers.now) what }
     ensures { result.now ≡ bytes_of (part_shown what) blocks.now buffers.now }
 {
-    match what {
-        Shown::Refused(_) => &blocks[0..0],
+    let Ok(found) = what else {
+        return &blocks[0..0];
+    };
+    match found {
         Shown::Block { at, size } => &blocks[at..at + size],
         Shown::Buffer { at, size } => &buffers[at..at + size],
     }
 }
 
 // The status of a look: 29, 31, 32, 34, 39, or 0.
-pub fn status(what: Shown) -> u8
+pub fn status(what: Result<Shown, Refusal>) -> u8
     ensures { result ≡ status_shown what }
 {
     match what {
-        Shown::Refused(number) => number,
-        Shown::Block { at: _, size: _ } => 0,
-        Shown::Buffer { at: _, size: _ } => 0,
+        Ok(_) => 0,
+        Err(refusal) => refusal.number(),
     }
 }
 
@@ -70,10 +79,16 @@ pub fn look<'a>(
     part(what, blocks, buffers)
 }
 
-// The status of a look, without the part.
-pub fn look_status(segment: &[u8], blocks: &[u8], buffers: &[u8], file: usize, reader: usize) -> u8
-    ensures { (v : Option Standing) → Seen (was segment.now blocks.now buffers.now) v → result ≡ reply_status (reply_of v (rules.look file reader)) }
+// Says whether a look is refused, without the part.
+pub fn look_status(
+    segment: &[u8],
+    blocks: &[u8],
+    buffers: &[u8],
+    file: usize,
+    reader: usize,
+) -> Result<(), Refusal>
+    ensures { (v : Option Standing) → Seen (was segment.now blocks.now buffers.now) v → refusal_number result ≡ reply_status (reply_of v (rules.look file reader)) }
 {
-    let what = shown(segment, blocks, buffers, file, reader);
-    status(what)
+    shown(segment, blocks, buffers, file, reader)?;
+    Ok(())
 }

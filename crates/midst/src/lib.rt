@@ -1,15 +1,15 @@
 // The midst of a call: the file that the call names is in hand, as numbers by value, and is written back when the call is done.
 #![tactic(auto)]
 
-ghost use Rattle.std.specs.Prelude.{◌≡◌, ◌<◌, length};
+ghost use Rattle.std.specs.Prelude.{◌≡◌, ◌<◌};
 ghost use Rattle.rules.specs.Limits.{files};
-ghost use Rattle.segment.specs.Layout.{segment_bytes, file_row_at};
+ghost use Rattle.segment.specs.Layout.{file_row_at};
 ghost use Rattle.segment.specs.Table.{fill};
 ghost use Rattle.segment.specs.Fields.{file_at};
 ghost use Rattle.midst.specs.File.{file_of_row, file_row_words, RowStands};
 
 use ring::Ring;
-use segment::{FileRow, layout};
+use segment::{FileRow, Segment, layout};
 
 // A file in hand: R, and the ring of its blocks.
 #[derive(Clone, Copy)]
@@ -19,9 +19,8 @@ pub struct File {
 }
 
 // Takes file f in hand, as its row in the segment says.
-pub fn take_file(segment: &[u8], f: usize) -> File
-    requires segment_len { length segment.now ≡ segment_bytes }
-    requires f_lt_files { f < files }
+pub fn take_file(segment: &Segment, f: usize) -> File
+    requires { f < files }
     ensures { result ≡ file_of_row (file_at segment.now f) }
 {
     let row = segment::read_file(segment, f);
@@ -38,9 +37,8 @@ pub fn take_file(segment: &[u8], f: usize) -> File
 }
 
 // Writes the file in hand back into the row of file f.
-pub fn put_file(segment: &mut [u8], f: usize, file: File)
-    requires segment_len { length segment.old ≡ segment_bytes }
-    requires f_lt_files { f < files }
+pub fn put_file(segment: &mut Segment, f: usize, file: File)
+    requires { f < files }
     ensures { segment.new ≡ fill segment.old (file_row_at f) (file_row_words file) }
 {
     let ring = file.ring;
@@ -56,8 +54,7 @@ pub fn put_file(segment: &mut [u8], f: usize, file: File)
 }
 
 // Writes only the three ring words back: oldest block, spent and held. The row of file f already holds the rest.
-pub fn put_ring(segment: &mut [u8], f: usize, file: File)
-    requires segment_len { length segment.old ≡ segment_bytes }
+pub fn put_ring(segment: &mut Segment, f: usize, file: File)
     requires f_lt_files { f < files }
     requires row_stands { RowStands segment.old f file }
     ensures { segment.new ≡ fill segment.old (file_row_at f) (file_row_words file) }

@@ -17,18 +17,13 @@ fn print_board<O: Write, E: Write>(
     buffers: &[u8],
 ) {
     let mut text = [0u8; BOARD_ROOM];
-    let shown = board::board(segment, blocks, buffers, &mut text);
-    if shown.status != 0 {
-        refused(
-            errors,
-            b"these are not the memories of a desk",
-            shown.status,
-        );
-        return;
-    }
-    let n = shown.length;
-    if output.write_all(&text[0..n]).is_err() {
-        let _ = errors.write_all(b"standard output cannot be written: the board is lost\n");
+    match board::board(segment, blocks, buffers, &mut text) {
+        Ok(n) => {
+            if output.write_all(&text[..n]).is_err() {
+                let _ = errors.write_all(b"standard output cannot be written: the board is lost\n");
+            }
+        }
+        Err(refusal) => refused(errors, b"these are not the memories of a desk", refusal),
     }
 }
 
@@ -38,8 +33,8 @@ fn of_session(rt: &HostRuntime) {
     let mut buffers = [0u8; BUFFERS_BYTES];
     let mut output = rt.stdout();
     let mut errors = rt.stderr();
-    fresh::fresh(&mut segment, &mut blocks, &mut buffers);
-    serve(
+    let _ = fresh::fresh(&mut segment, &mut blocks, &mut buffers);
+    let _ = serve(
         &mut rt.stdin(),
         &mut output,
         &mut errors,
@@ -57,27 +52,21 @@ fn of_files(rt: &HostRuntime) {
     let mut blocks = [0u8; BLOCKS_BYTES + 1];
     let mut buffers = [0u8; BUFFERS_BYTES + 1];
     let mut errors = rt.stderr();
-    let first = bytes_named(rt, &mut errors, 1, &mut segment);
-    if !first.found {
+    let Some(a) = bytes_named(rt, &mut errors, 1, &mut segment) else {
         return;
-    }
-    let second = bytes_named(rt, &mut errors, 2, &mut blocks);
-    if !second.found {
+    };
+    let Some(b) = bytes_named(rt, &mut errors, 2, &mut blocks) else {
         return;
-    }
-    let third = bytes_named(rt, &mut errors, 3, &mut buffers);
-    if !third.found {
+    };
+    let Some(c) = bytes_named(rt, &mut errors, 3, &mut buffers) else {
         return;
-    }
-    let a = first.size;
-    let b = second.size;
-    let c = third.size;
+    };
     print_board(
         &mut rt.stdout(),
         &mut errors,
-        &segment[0..a],
-        &blocks[0..b],
-        &buffers[0..c],
+        &segment[..a],
+        &blocks[..b],
+        &buffers[..c],
     );
 }
 
@@ -89,7 +78,7 @@ fn names_files(rt: &HostRuntime) -> bool {
 fn main(rt: HostRuntime) {
     if names_files(&rt) {
         of_files(&rt);
-        return;
+    } else {
+        of_session(&rt);
     }
-    of_session(&rt);
 }

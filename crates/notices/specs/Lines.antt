@@ -1,10 +1,8 @@
 -- The lines of the board, made of numbers.
-use Rattle.std.specs.Prelude.{ℕ, ◌*◌, Bool, true, false, cond, List, [], ◌∷◌, ◌++◌, eqb}
+use Rattle.std.specs.Prelude.{ℕ, ◌*◌, Bool, true, false, cond, List, [], ◌∷◌, ◌++◌, eqb, Option, Some, None}
 use Rattle.segment.specs.declared.PlaceRow.{PlaceRow}
 use Rattle.texts.specs.Spell.{spell}
 use Rattle.texts.specs.Numbers.{decimal, one_digit, counted}
-use Rattle.notices.specs.declared.Left.{Left}
-use Rattle.notices.specs.declared.Left.TheVariants.{Untimed, Seconds}
 use Rattle.notices.specs.declared.Request.{Request}
 use Rattle.notices.specs.declared.Request.TheVariants.{Idle, Reads, Writes, HasRead, HasWritten}
 
@@ -62,12 +60,12 @@ row_line p r = accessor_line p (eqb r.side 2) r.id (eqb r.typed 1) (eqb r.keep 1
 
 -- the line of a request
 
-unfoldable pub left_text : Left → List ℕ
-left_text Untimed = spell ", no timeout"
-left_text (Seconds n) = spell ", " ++ (decimal n ++ spell " s left")
+unfoldable pub left_text : Option ℕ → List ℕ
+left_text None = spell ", no timeout"
+left_text (Some n) = spell ", " ++ (decimal n ++ spell " s left")
 
-unfoldable pub first_text : ℕ → List ℕ
-first_text first = cond (eqb first 1) (spell ", first in line") []
+unfoldable pub first_text : Bool → List ℕ
+first_text first = cond first (spell ", first in line") []
 
 -- the text of a status other than 0 that a request completed with
 unfoldable pub status_text : ℕ → List ℕ

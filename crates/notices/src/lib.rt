@@ -1,4 +1,5 @@
 // The lines of the night board, made from numbers that are given, each put after the one before.
+// Kept: the output and the place in it are two parameters, as the functions of `texts` take them, and `Put` says them.
 #![tactic(auto)]
 
 ghost use Rattle.std.specs.Prelude.{◌++◌, ◌+◌, ◌*◌, ◌≤◌, eqb, length};
@@ -13,25 +14,32 @@ use kinds::statuses::{END_OF_FILE, TIMED_OUT};
 use segment::PlaceRow;
 use texts::{put_counted, put_digit, put_if, put_number, put_text};
 
-// What is left of a request's timeout.
-#[derive(Clone, Copy)]
-pub enum Left {
-    Untimed,
-    Seconds(u16),
-}
-
-// A request as the board shows it: none; a read that waits for up to `bytes` bytes, or a write that waits with `bytes` bytes, with `first` 1 if it is the first
-// in its queue; or a completed read or write, with its status, and the bytes read.
+// A request as the board shows it: none; a read that waits for up to `bytes` bytes, or a write that waits with `bytes` bytes, with the seconds left of its
+// timeout, if it has one, and whether it is the first in its queue; or a completed read or write, with its status, and the bytes read.
 #[derive(Clone, Copy)]
 pub enum Request {
     Idle,
-    Reads { bytes: u16, left: Left, first: u16 },
-    Writes { bytes: u16, left: Left, first: u16 },
-    HasRead { status: u16, bytes: u16 },
-    HasWritten { status: u16 },
+    Reads {
+        bytes: u16,
+        left: Option<u16>,
+        first: bool,
+    },
+    Writes {
+        bytes: u16,
+        left: Option<u16>,
+        first: bool,
+    },
+    HasRead {
+        status: u16,
+        bytes: u16,
+    },
+    HasWritten {
+        status: u16,
+    },
 }
 
 // The statuses that requests complete with, as words of an entry.
+// Kept: any word of an entry may come, and `status_text` shows the others by their number.
 const ENDED: u16 = END_OF_FILE as u16;
 
 const LATE: u16 = TIMED_OUT as u16;
@@ -119,6 +127,7 @@ fn put_timeout(out: &mut [u8], at: usize, seconds: u16) -> usize
     requires { at + 17 ≤ length out.old }
     ensures { Put 17 out.old at (timeout_text seconds) out.new result }
 {
+    // Kept: 0 is the word of a place's row for no timeout; the row is `segment::PlaceRow`, and `settings_text` has it.
     if seconds == 0 {
         return at;
     }
@@ -155,13 +164,13 @@ pub fn put_accessor(out: &mut [u8], at: usize, p: u16, row: PlaceRow) -> usize
     put_settings(out, a, row)
 }
 
-fn put_left(out: &mut [u8], at: usize, left: Left) -> usize
+fn put_left(out: &mut [u8], at: usize, left: Option<u16>) -> usize
     requires { at + 14 ≤ length out.old }
     ensures { Put 14 out.old at (left_text left) out.new result }
 {
     match left {
-        Left::Untimed => put_text(out, at, b", no timeout"),
-        Left::Seconds(n) => {
+        None => put_text(out, at, b", no timeout"),
+        Some(n) => {
             let a = put_text(out, at, b", ");
             let b = put_number(out, a, n);
             put_text(out, b, b" s left")
@@ -169,13 +178,13 @@ fn put_left(out: &mut [u8], at: usize, left: Left) -> usize
     }
 }
 
-fn put_waiting(out: &mut [u8], at: usize, bytes: u16, left: Left, first: u16) -> usize
+fn put_waiting(out: &mut [u8], at: usize, bytes: u16, left: Option<u16>, first: bool) -> usize
     requires { at + 41 ≤ length out.old }
     ensures { Put 41 out.old at (counted bytes (spell " byte") ++ (left_text left ++ (first_text first ++ lf))) out.new result }
 {
     let a = put_counted(out, at, bytes, b" byte");
     let b = put_left(out, a, left);
-    let c = put_if(out, b, first, b", first in line");
+    let c = put_if(out, b, u16::from(first), b", first in line");
     put_text(out, c, b"\n")
 }
 

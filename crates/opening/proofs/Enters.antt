@@ -6,10 +6,10 @@ use mathlib.Core.List.{List, []}
 use native.Mathlib.Omega.{arith}
 use lib.ListN.{length}
 use Rattle.kinds.specs.declared.Answer.TheVariants.{Opened}
-use Rattle.segment.specs.Layout.{segment_bytes, place_row_at}
+use Rattle.segment.specs.Layout.{place_row_at}
 use Rattle.segment.specs.Table.{fill}
 use Rattle.segment.specs.Fields.{place_words, file_at}
-use Rattle.rules.specs.Limits.{files, places, share_bytes}
+use Rattle.rules.specs.Limits.{files, places}
 use Rattle.rules.specs.State.{Built, File, unbuilt, built}
 use Rattle.rules.specs.Requests.{opened, say, with_store, put_rec}
 use Rattle.rules.specs.Settle.{settle}
@@ -55,9 +55,6 @@ each_at {K} h d s b S e =
 module _ {K : Built → Type 0} {f : ℕ} {m : Memories} where
   pub each-file : Sound m × Each K f m → f < files
   each-file ((d, s, S), h) = (h d s S).0
-
-  pub each-sizes : Sound m × Each K f m → (length m.segment ≡ segment_bytes) × (length m.blocks ≡ share_bytes * files)
-  each-sizes ((d, s, S), h) = (S.stands.segment.size, S.stands.bodies.blocks-size)
 
 module _ {m : Memories} {d : Desk} {s : Alloc} (S : StandsFor m d s) (f : ℕ) (hf : f < files) (b : Built) (e : file_of d f ≡ built b) where
   began : Mid Fine f (start d s m) m (file_of_row (file_at m.segment f)) b

@@ -1,12 +1,12 @@
 -- One turn of each loop over the places of a file.
 use Prim.Native.Nat.{ℕ, zero, suc, ◌+◌, ◌-◌, ◌≤◌, ◌<◌}
 use mathlib.Core.Path.{◌≡◌, refl, sym, ap, ◌∙◌}
-use mathlib.Core.Bool.{Bool, true, false}
+use mathlib.Core.Bool.{Bool, true, false, ◌||◌}
 use mathlib.Core.List.{List}
 use native.Mathlib.Omega.{arith}
 use lib.Dec.{eqb}
 use borrow.Author.Tests.{eq-eqb, ne_eqb}
-use Rattle.segment.specs.declared.PlaceRow.{PlaceRow}
+use Rattle.std.specs.List.{list_any, range_with_len}
 use Rattle.segment.specs.Fields.{place_at}
 use Rattle.rules.proofs.Split.{pick_true, pick-false}
 use Rattle.opening.specs.Finding.{free_from, row_holds, held_from, id_held, id_from}
@@ -31,28 +31,19 @@ unfolding free_from
 free-end s i zero w h = omega arith
 free-end s i (suc n) w h = absurd (omega arith)
 
--- v says whether the row of place i holds the ID
-module _ (s : List ℕ) (id i : ℕ) (r : PlaceRow) (v : Bool) (e : r ≡ place_at s i) (q : v ≡ row_holds id r) where
-  same : v ≡ row_holds id (place_at s i)
-  same = q ∙ ap (row_holds id) e
+-- the row of one of the n places starting at place j, that is i + a, holds the ID
 
-  pub held-here : (n : ℕ) → 0 < n → v ≡ true → held_from s id i n ≡ true
-  unfolding held_from
-  held-here zero h t = absurd (omega arith)
-  held-here (suc n) h t = pick_true _ _ _ (sym same ∙ t)
+as-pick : (t r : Bool) → (t || r) ≡ elim t [ true ↦ true | false ↦ r ]
+as-pick true r = refl
+as-pick false r = refl
 
-  pub held_on : (n : ℕ) → 0 < n → v ≡ false → held_from s id i n ≡ held_from s id (i + 1) (n - 1)
-  unfolding held_from
-  held_on zero h t = absurd (omega arith)
-  held_on (suc n) h t =
-      let m : suc n - 1 ≡ n = omega arith in
-      let k : i + 1 ≡ suc i = omega arith in
-      rw (m, k) (pick-false _ _ _ (sym same ∙ t))
-
-pub held-end : (s : List ℕ) (id i n : ℕ) → n ≤ 0 → held_from s id i n ≡ false
+pub held-any : (s : List ℕ) (id i a j n : ℕ) → i + a ≡ j → list_any (λ p. row_holds id (place_at s (i + p))) (range_with_len a n) ≡ held_from s id j n
 unfolding held_from
-held-end s id i zero h = refl
-held-end s id i (suc n) h = absurd (omega arith)
+held-any s id i a j zero e = refl
+held-any s id i a j (suc n) e =
+    ap (λ r. row_holds id (place_at s (i + a)) || r) (held-any s id i (a + 1) (suc j) n (omega arith))
+    ∙ as-pick (row_holds id (place_at s (i + a))) (held_from s id (suc j) n)
+    ∙ ap (λ k. elim (row_holds id (place_at s k)) [ true ↦ true | false ↦ held_from s id (suc j) n ]) e
 
 -- v says whether n is held
 module _ (s : List ℕ) (f n : ℕ) (v : Bool) (e : v ≡ id_held s f n) where

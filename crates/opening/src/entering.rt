@@ -1,6 +1,6 @@
 // Lets an accessor enter: a reader, or a writer with its open record.
-ghost use Rattle.std.specs.Prelude.{◌≡◌, ℕ, ◌+◌, ◌*◌, ◌<◌, length};
-ghost use Rattle.segment.specs.Layout.{segment_bytes, place_row_at};
+ghost use Rattle.std.specs.Prelude.{◌≡◌, ℕ, ◌+◌, ◌*◌, ◌<◌};
+ghost use Rattle.segment.specs.Layout.{place_row_at};
 ghost use Rattle.segment.specs.Table.{fill};
 ghost use Rattle.segment.specs.Fields.{place_words, file_at};
 ghost use Rattle.rules.specs.Limits.{files, places};
@@ -14,36 +14,35 @@ ghost use Rattle.opening.specs.Finding.{new_row};
 ghost use Rattle.opening.specs.Opens.{Each, Reads, Enters, OpensBy, Takes};
 
 use crate::finding::{free_id, free_place};
+use blocks::writing::NewRecord;
 use kinds::Answer;
 use kinds::limits::PLACES;
+use kinds::memories::{Blocks, Buffers};
 use kinds::record_types::OPEN;
 use kinds::sides::{READER, WRITER};
 use midst::{File, take_file};
-use segment::PlaceRow;
+use segment::{PlaceRow, Segment};
 use settling::conclude;
 use store::{purge, put};
 
 // Writes the row of an accessor that enters at place `acc` of file f.
-fn enter(segment: &mut [u8], f: usize, acc: u8, side: u16, id: u16, share: u16)
-    requires { (length segment.old ≡ segment_bytes) × (f < files) × (acc < places) }
+fn enter(segment: &mut Segment, f: usize, acc: u8, side: u16, id: u16, share: u16)
+    requires { (f < files) × (acc < places) }
     ensures { segment.new ≡ fill segment.old (place_row_at (places * f + acc)) (place_words (new_row side id share)) }
 {
     let row = PlaceRow {
         side,
         id,
         share,
-        timeout: 0,
-        extended: 0,
-        typed: 0,
-        keep: 0,
         first: 1,
+        ..PlaceRow::default()
     };
     segment::write_place(segment, PLACES * f + acc as usize, row);
 }
 
 // Takes file f in hand for a writer: access 1 "purges if no accessor is open, else appends". Judging has found which of the two.
-fn take(segment: &[u8], f: usize, purges: bool) -> File
-    requires { (length segment.now ≡ segment_bytes) × (f < files) × Ranged (file_of_row (file_at segment.now f)).ring }
+fn take(segment: &Segment, f: usize, purges: bool) -> File
+    requires { (f < files) × Ranged (file_of_row (file_at segment.now f)).ring }
     ensures { (access : ℕ) → purges ≡ purges_at segment.now f access → Takes access f segment.now result }
 {
     let file = take_file(segment, f);
@@ -55,9 +54,9 @@ fn take(segment: &[u8], f: usize, purges: bool) -> File
 
 // Opens a reader with this share.
 pub fn open_reader(
-    segment: &mut [u8],
-    blocks: &mut [u8],
-    buffers: &mut [u8],
+    segment: &mut Segment,
+    blocks: &mut Blocks,
+    buffers: &mut Buffers,
     f: usize,
     share: u16,
 ) -> Answer
@@ -73,9 +72,9 @@ pub fn open_reader(
 
 // Opens a writer with this share, of any access that writes: "A writer puts an open record".
 pub fn open_writer(
-    segment: &mut [u8],
-    blocks: &mut [u8],
-    buffers: &mut [u8],
+    segment: &mut Segment,
+    blocks: &mut Blocks,
+    buffers: &mut Buffers,
     f: usize,
     share: u16,
     purges: bool,
@@ -86,8 +85,12 @@ pub fn open_writer(
     let acc = free_place(segment, f);
     let id = free_id(segment, f);
     let file = take(segment, f, purges);
-    let nothing = [0u8; 0];
-    let written = put(blocks, f, file, OPEN, id, &nothing);
+    let record = NewRecord {
+        typ: OPEN,
+        wid: id,
+        data: &[],
+    };
+    let written = put(blocks, f, file, record);
     enter(segment, f, acc, WRITER, id, share);
     conclude(segment, blocks, buffers, f, written);
     Answer::Opened { acc, id }

@@ -16,7 +16,9 @@ use entering::{open_reader, open_writer};
 use geometry::{capacity, data_blocks};
 use kinds::Answer;
 use kinds::limits::{BUFFER_BYTES, PLACES};
-use segment::FileRow;
+use kinds::memories::{Blocks, Buffers};
+use segment::{FileRow, Segment};
+use words::bytes::known;
 
 // "Access 0 reads".
 const READS: u8 = 0;
@@ -26,9 +28,9 @@ pub const FILE_BUFFERS: usize = PLACES * BUFFER_BYTES;
 
 // Builds file f. "Build and load zero the share"; the buffers are zeroed too, since nothing is known of them before.
 pub fn build(
-    segment: &mut [u8],
-    blocks: &mut [u8],
-    buffers: &mut [u8],
+    segment: &mut Segment,
+    blocks: &mut Blocks,
+    buffers: &mut Buffers,
     f: usize,
     words: u16,
     factor: u8,
@@ -43,22 +45,23 @@ pub fn build(
         words,
         factor: factor as u16,
         blocks: count,
-        block: 0,
-        spent: 0,
-        held: 0,
+        ..FileRow::default()
     };
     clear(blocks, f);
     words::zero(buffers, FILE_BUFFERS * f, FILE_BUFFERS);
     segment::write_file(segment, f, row);
+    known(segment);
+    known(blocks);
+    known(buffers);
     let room = capacity(factor, count) as u16;
     Answer::Built { capacity: room }
 }
 
 // Opens an accessor of file f: access 0 reads, any other writes. Judging has found whether it purges. Multiaccess has been judged too, and has no effect here.
 pub fn open(
-    segment: &mut [u8],
-    blocks: &mut [u8],
-    buffers: &mut [u8],
+    segment: &mut Segment,
+    blocks: &mut Blocks,
+    buffers: &mut Buffers,
     f: usize,
     access: u8,
     share: u8,

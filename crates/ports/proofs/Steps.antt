@@ -35,3 +35,9 @@ module _ (s : List ℕ) (p e : ℕ) (h : e ≡ nth s p) where
   unfolding seek
   seek-step t zero a k b = absurd (omega arith)
   seek-step t (suc n) a k b = let m : suc n - 1 ≡ n = omega arith in rw (← h, lt-ltb e entries k, b, m)
+
+-- the walk to the end passes every entry
+pub end_slot-seek : (s : List ℕ) (p n : ℕ) → end_slot s p n ≡ seek (λ _. false) s p n
+unfolding end_slot seek
+end_slot-seek s p zero = refl
+end_slot-seek s p (suc n) = rw (end_slot-seek s (link_at (nth s p)) n)

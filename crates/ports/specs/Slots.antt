@@ -1,9 +1,11 @@
 -- What each operation on lists does to the segment's bytes. A slot is the number of a word that holds an entry's number or nil: a head, or an
 -- entry's link. A word below `entries` is an entry's number; any other ends the list, so no memory can lead a walk out of the segment.
-use Rattle.std.specs.Prelude.{ℕ, zero, suc, Bool, cond, List, ltb, eqb, get_or, replicate}
+use Rattle.std.specs.Prelude.{ℕ, zero, suc, ◌≡◌, ◌<◌, Bool, cond, List, ltb, eqb, get_or, replicate}
 use Rattle.rules.specs.Limits.{entries}
 use Rattle.segment.specs.Layout.{link_at, free_list, data_words}
+use Rattle.segment.specs.declared.Entry.{Entry}
 use Rattle.segment.specs.Table.{nth, put_nth, data_of, put_data}
+use Rattle.segment.specs.Fields.{entry_at}
 
 -- the slot at the end of the list that starts at slot p, after at most n links
 unfoldable pub end_slot : List ℕ → ℕ → ℕ → ℕ
@@ -21,6 +23,10 @@ has i v m = eqb (get_or m i 0) v
 
 abbrev pub over : ℕ → ℕ → List ℕ → Bool
 over i v m = ltb v (get_or m i 0)
+
+-- what `answers` says of each entry, the test says of its data
+abbrev pub IsTestOf : (Entry → Bool → Type 0) → List ℕ → (List ℕ → Bool) → Type 0
+IsTestOf answers s t = (e : ℕ) (b : Bool) → e < entries → answers (entry_at s e) b → b ≡ t (data_of s e)
 
 -- puts entry e in at slot p; `unlink` takes out what slot p holds
 unfoldable pub insert : List ℕ → ℕ → ℕ → List ℕ

@@ -2,18 +2,20 @@
 use Prim.Native.Nat.{ℕ, suc, ◌+◌, ◌-◌, ◌≤◌, ◌<◌}
 use mathlib.Core.Bool.{true, false}
 use mathlib.Core.List.{List, [], ◌∷◌}
-use mathlib.Core.Path.{◌≡◌, refl, ap}
+use mathlib.Core.Path.{◌≡◌, refl}
 use native.Mathlib.Omega.{arith}
-use native.Mathlib.Numerals.{add-one}
 use lib.Dec.{ltb, eqb}
-use lib.ListN.{length, get_or, take, drop, length-drop, drop_of_length-le}
-use lib.Seq.{sets, sets-eq, drop-cons, take_at}
-use borrow.Author.Tests.{ltb-true, ltb-false, lt-ltb, le-ltb, eq-eqb, ne_eqb}
+use Rattle.std.specs.Prelude.{Some, None}
+use Rattle.std.specs.List.{position, position_or_len}
+use Rattle.std.proofs.lemmas.List.Recursion.{is_position_or_len}
+use Rattle.std.proofs.lemmas.List.{take_rest}
+use lib.ListN.{length, take, drop, length-drop}
+use lib.Seq.{sets, sets-eq, take_at}
+use borrow.Author.Tests.{ltb-true, ltb-false, lt-ltb, le-ltb}
 use Rattle.rules.specs.Limits.{sheet_line_bytes}
 use Rattle.rules.specs.Line.{frame_in}
 use Rattle.rules.proofs.Split.{by_cases, pick_true, pick-false}
-use Rattle.reader.specs.declared.Next.{Next}
-use Rattle.reader.specs.Frames.{line_length, first_frame, line_span, line_end, frame_at, next_at, next_of}
+use Rattle.reader.specs.Frames.{line_length, first_frame, line_span, frame_at, next_at}
 
 -- the line in front
 
@@ -29,20 +31,6 @@ pub length-line : (t : List ℕ) → line_length t ≤ length t
 unfolding line_length
 length-line [] = omega arith
 length-line (x ∷ t) = let h = length-line t in by_cases (eqb x 10) (λ e. omega (arith, length-lf x t e)) (λ e. omega (arith, length-on x t e))
-
--- where the line at the cursor ends
-
-pub end-stop : (t : List ℕ) (at : ℕ) → at < length t → get_or t at 0 ≡ 10 → line_end t at ≡ at
-unfolding line_end
-end-stop t at h e = rw (drop-cons t at 0 h, length-lf (get_or t at 0) (drop (suc at) t) (eq-eqb (get_or t at 0) 10 e)) (omega arith)
-
-pub end_step : (t : List ℕ) (at : ℕ) → at < length t → (get_or t at 0 ≡ 10 → ⊥) → line_end t at ≡ line_end t (at + 1)
-unfolding line_end
-end_step t at h e = rw (add-one at, drop-cons t at 0 h, length-on (get_or t at 0) (drop (suc at) t) (ne_eqb (get_or t at 0) 10 e)) (omega arith)
-
-pub end-end : (t : List ℕ) (at : ℕ) → length t ≤ at → line_end t at ≡ at
-unfolding line_end line_length
-end-end t at h = rw (drop_of_length-le t h) (omega arith)
 
 -- the frame in front, by whether LF ends the line
 
@@ -62,24 +50,42 @@ pub span_none : (u : List ℕ) → length u ≤ line_length u → line_span u �
 unfolding line_span
 span_none u h = pick-false (ltb (line_length u) (length u)) _ _ (le-ltb (line_length u) (length u) h)
 
+-- where a search for LF ends
+
+length-is : (t : List ℕ) → line_length t ≡ position_or_len (λ x. eqb x 10) t
+length-is t = is_position_or_len line_length (λ x. eqb x 10) (unfold line_length in refl) (λ x xs. by_cases (eqb x 10) (λ e. rw (length-lf x xs e, e)) (λ e. rw (length-on x xs e, e) (omega arith))) t
+
+length-found : (t : List ℕ) (n : ℕ) → position (λ x. eqb x 10) t ≡ Some n → (line_length t ≡ n) × (n < length t)
+length-found t n e =
+    by_cases (ltb (line_length t) (length t))
+    (λ k. let l : line_length t ≡ n = cc (length-is t) in (l, omega (arith, ltb-true (line_length t) (length t) k)))
+    (λ k. absurd (cc (length-is t)))
+
+length-all : (t : List ℕ) → position (λ x. eqb x 10) t ≡ None → length t ≤ line_length t
+length-all t e =
+    by_cases (ltb (line_length t) (length t))
+    (λ k. absurd (cc (length-is t)))
+    (λ k. ltb-false (line_length t) (length t) k)
+
 -- and at the cursor
 
-pub next-line : (t : List ℕ) (at end : ℕ) → end ≡ line_end t at → at ≤ end → end < length t
-    → (frame_at t at ≡ frame_in sheet_line_bytes (take (end - at) (drop at t))) × (next_at t at ≡ end + 1)
-unfolding line_end frame_at next_at
-next-line t at end e h k =
-    let l = length-drop at t in
-    let n : end - at ≡ line_length (drop at t) = omega arith in
+pub next_ended : (t : List ℕ) (at n : ℕ) → position (λ x. eqb x 10) (take (length t - at) (drop at t)) ≡ Some n
+    → (frame_at t at ≡ frame_in sheet_line_bytes (take n (take (length t - at) (drop at t)))) × (next_at t at ≡ at + (n + 1))
+unfolding frame_at next_at
+next_ended t at n e =
+    let p = length-found (drop at t) n (rw take_rest at e) in
     let m : line_length (drop at t) < length (drop at t) = omega arith in
-    (rw n (frame-line (drop at t) m), omega (arith, span-line (drop at t) m))
+    (rw (take_rest, ← p.0) (frame-line (drop at t) m), omega (arith, span-line (drop at t) m))
 
-pub next-none : (t : List ℕ) (at end : ℕ) → end ≡ line_end t at → at ≤ length t → end ≡ length t
-    → (frame_at t at ≡ []) × (next_at t at ≡ end)
-unfolding line_end frame_at next_at
-next-none t at end e h k =
-    let l = length-drop at t in
-    let m : length (drop at t) ≤ line_length (drop at t) = omega arith in
-    (frame-none (drop at t) m, omega (arith, span_none (drop at t) m))
+pub frame_unended : (t : List ℕ) (at : ℕ) → position (λ x. eqb x 10) (take (length t - at) (drop at t)) ≡ None → frame_at t at ≡ []
+unfolding frame_at
+frame_unended t at e = frame-none (drop at t) (length-all (drop at t) (rw take_rest at e))
+
+pub next_unended : (t : List ℕ) (at : ℕ) → at ≤ length t → position (λ x. eqb x 10) (take (length t - at) (drop at t)) ≡ None → next_at t at ≡ length t
+unfolding next_at
+next_unended t at h e =
+    let m = length-all (drop at t) (rw take_rest at e) in
+    omega (arith, length-drop at t, span_none (drop at t) m, length-line (drop at t))
 
 pub behind-within : (t : List ℕ) (at : ℕ) → at ≤ length t → next_at t at ≤ length t
 unfolding next_at
@@ -95,12 +101,5 @@ put_first : (xs vs : List ℕ) → length vs ≤ length xs → take (length vs) 
 put_first xs vs h = rw (sets-eq vs xs 0 (omega arith)) (take_at vs (drop (0 + length vs) xs) (length vs) refl)
 
 -- the part of the memory that was read is the frame
-pub frame-read : (t zs frame : List ℕ) (at : ℕ) (n : Next) → n ≡ next_of t at → frame ≡ sets zs 0 (frame_at t at) → n.size ≤ length zs → take (n.size - 0) frame ≡ frame_at t at
-frame-read t zs frame at n e f h =
-    let s : n.size ≡ length (frame_at t at) = ap (λ (x : Next). x.size) e in
-    let z : n.size - 0 ≡ length (frame_at t at) = omega arith in
-    rw (z, f) (put_first zs (frame_at t at) (omega arith))
-
--- what the code hands back
-pub next-is : (t : List ℕ) (at : ℕ) (n : Next) → n.size ≡ length (frame_at t at) → n.at ≡ next_at t at → n ≡ next_of t at
-next-is t at n e k = λ i. record { size = e i; at = k i }
+pub frame-read : (t zs frame : List ℕ) (at n : ℕ) → n ≡ length (frame_at t at) → frame ≡ sets zs 0 (frame_at t at) → n ≤ length zs → take n frame ≡ frame_at t at
+frame-read t zs frame at n s f h = rw (s, f) (put_first zs (frame_at t at) (omega arith))

@@ -1,5 +1,5 @@
 -- Laws of a sheet's first frame, by the tests that the code makes.
-use Prim.Native.Nat.{ℕ, ◌-◌, ◌≤◌, ◌<◌}
+use Prim.Native.Nat.{ℕ, ◌≤◌}
 use mathlib.Core.Bool.{Bool, true, false, ◌&&◌, true≢false}
 use mathlib.Core.List.{List}
 use mathlib.Core.Path.{◌≡◌, refl, sym, ap, ◌∙◌}
@@ -7,17 +7,18 @@ use native.Mathlib.Omega.{arith}
 use lib.Dec.{leb, eqb}
 use lib.ListN.{length, get_or, take}
 use lib.Seq.{sets}
-use borrow.Author.Tests.{eqb-true, le-leb, lt-leb, eq-eqb, ne_eqb}
+use borrow.Author.Tests.{eqb-true, eq-eqb, ne_eqb}
 use Rattle.words.specs.Word.{word_at}
 use Rattle.rules.specs.Limits.{most_words, most_factor, least_capacity}
-use Rattle.rules.specs.Geometry.{capacity, within, in_range, fits_share}
+use Rattle.rules.specs.Geometry.{capacity, within, fits_share}
 use Rattle.rules.specs.Sheet.{good_head}
 use Rattle.rules.proofs.Split.{by_cases, pick_true, pick-false, and-true}
 use Rattle.geometry.proofs.Sizes.{within-is}
-use Rattle.reader.specs.declared.Next.{Next}
-use Rattle.reader.specs.declared.Head.{Head}
-use Rattle.reader.specs.Sheets.{good_numbers, no_head, says_head, head_of}
-use Rattle.reader.specs.Frames.{frame_at, next_at, next_of}
+use Rattle.std.specs.Prelude.{Some, None, IfSome}
+use Rattle.std.specs.Bool.{then_some}
+use mathlib.Core.Logic.{◌⊎◌, inl, inr}
+use Rattle.reader.specs.Sheets.{good_numbers, says_head, head_of}
+use Rattle.reader.specs.Frames.{frame_at, next_at}
 use Rattle.reader.proofs.Frames.{behind-within, frame-read}
 
 -- rows of tests
@@ -33,29 +34,6 @@ and_none false = refl
 regroup : (x c d e f g h : Bool) → x && c && d && e && f && g && h ≡ x && (c && d && e && f && g) && h
 regroup true c d e f g h = refl
 regroup false c d e f g h = refl
-
--- the numbers
-
-pub range-both : (r b : ℕ) → in_range r b 1 1 ≡ (within 1 most_words r && within 1 most_factor b)
-unfolding in_range within
-range-both r b = and-all (within 1 most_words r && within 1 most_factor b && true) ∙ and-all (within 1 most_words r && within 1 most_factor b)
-
-pub numbers-range : (r b d n : ℕ) → in_range r b 1 1 ≡ false → good_numbers r b d n ≡ false
-unfolding good_numbers
-numbers-range r b d n e = rw (sym (range-both r b) ∙ e)
-
-pub numbers-share : (r b d n : ℕ) → fits_share r b d ≡ false → good_numbers r b d n ≡ false
-unfolding good_numbers
-numbers-share r b d n e = rw (e, and_none (within 1 most_words r && within 1 most_factor b && leb least_capacity (capacity b d)))
-
-module _ (r b d n room : ℕ) (e : in_range r b 1 1 ≡ true) (k : fits_share r b d ≡ true) (c : room ≡ capacity b d) where
-  pub numbers-held : least_capacity ≤ room → leb n room ≡ good_numbers r b d n
-  unfolding good_numbers
-  numbers-held h = rw (sym (range-both r b) ∙ e, k, ← c, le-leb least_capacity room h)
-
-  pub numbers-room : room < least_capacity → leb least_capacity room ≡ good_numbers r b d n
-  unfolding good_numbers
-  numbers-room h = rw (sym (range-both r b) ∙ e, k, ← c, lt-leb least_capacity room h)
 
 -- the frame
 
@@ -91,48 +69,43 @@ head-words h n e =
 
 -- what it says
 
-head-good : (h : List ℕ) (at : ℕ) → good_head h (word_at h 6) ≡ true → says_head h at ≡ record { words = word_at h 1; factor = get_or h 3 0; blocks = word_at h 4; held = word_at h 6; at = at }
+head-good : (h : List ℕ) (at : ℕ) → good_head h (word_at h 6) ≡ true → says_head h at ≡ Some (record { words = word_at h 1; factor = get_or h 3 0; blocks = word_at h 4; held = word_at h 6; at = at })
 unfolding says_head
 head-good h at e = pick_true (good_head h (word_at h 6)) _ _ e
 
-head-bad : (h : List ℕ) (at : ℕ) → good_head h (word_at h 6) ≡ false → says_head h at ≡ no_head
+head-bad : (h : List ℕ) (at : ℕ) → good_head h (word_at h 6) ≡ false → says_head h at ≡ None
 unfolding says_head
 head-bad h at e = pick-false (good_head h (word_at h 6)) _ _ e
 
-pub says-short : (h : List ℕ) (at : ℕ) → (length h ≡ 8 → ⊥) → says_head h at ≡ no_head
-says-short h at e = head-bad h at (rw (head-numbers h (word_at h 6), ne_eqb (length h) 8 e))
+pub says-none : (h : List ℕ) (at : ℕ) → (length h ≡ 8 → ⊥) ⊎ (get_or h 0 0 ≡ 1 → ⊥) → says_head h at ≡ None
+says-none h at (inl e) = head-bad h at (rw (head-numbers h (word_at h 6), ne_eqb (length h) 8 e))
+says-none h at (inr e) = head-bad h at (rw (head-numbers h (word_at h 6), ne_eqb (get_or h 0 0) 1 e, and_none (eqb (length h) 8)))
 
-pub says_other : (h : List ℕ) (at : ℕ) → (get_or h 0 0 ≡ 1 → ⊥) → says_head h at ≡ no_head
-says_other h at e = head-bad h at (rw (head-numbers h (word_at h 6), ne_eqb (get_or h 0 0) 1 e, and_none (eqb (length h) 8)))
-
-module _ (h : List ℕ) (at words blocks held : ℕ) (w : words ≡ word_at h 1) (d : blocks ≡ word_at h 4) (n : held ≡ word_at h 6) where
-  says-numbers : {x : Bool} → good_numbers words (get_or h 3 0) blocks held ≡ x → good_numbers (word_at h 1) (get_or h 3 0) (word_at h 4) (word_at h 6) ≡ x
-  says-numbers e = rw (w, d, n) at e
-
-  pub says-bad : good_numbers words (get_or h 3 0) blocks held ≡ false → says_head h at ≡ no_head
-  says-bad e = head-bad h at (rw (head-numbers h (word_at h 6), says-numbers e, and_none (eqb (length h) 8 && eqb (get_or h 0 0) 1)))
-
-  pub says-good : length h ≡ 8 → get_or h 0 0 ≡ 1 → good_numbers words (get_or h 3 0) blocks held ≡ true → record { words = words; factor = get_or h 3 0; blocks = blocks; held = held; at = at } ≡ says_head h at
-  says-good l o e =
-      rw (w, d, n)
-      (sym (head-good h at (rw (head-numbers h (word_at h 6), eq-eqb (length h) 8 l, eq-eqb (get_or h 0 0) 1 o, says-numbers e, eq-eqb (word_at h 6) (word_at h 6) refl))))
+pub says-some : (h : List ℕ) (at : ℕ) → length h ≡ 8 → get_or h 0 0 ≡ 1
+    → says_head h at ≡ then_some (good_numbers (word_at h 1) (get_or h 3 0) (word_at h 4) (word_at h 6)) (record { words = word_at h 1; factor = get_or h 3 0; blocks = word_at h 4; held = word_at h 6; at = at })
+says-some h at l o =
+    let held = word_at h 6 in
+    let e : good_head h held ≡ good_numbers (word_at h 1) (get_or h 3 0) (word_at h 4) held = head-numbers h held ∙ rw (eq-eqb (length h) 8 l, eq-eqb (get_or h 0 0) 1 o, eq-eqb held held refl) (and-all _) in
+    by_cases (good_head h held)
+    (λ k. head-good h at k ∙ rw (sym e ∙ k))
+    (λ k. head-bad h at k ∙ rw (sym e ∙ k))
 
 -- of a text
 
-pub text-good : (t : List ℕ) → good_head (frame_at t 0) (word_at (frame_at t 0) 6) ≡ true → head_of t ≡ record { words = word_at (frame_at t 0) 1; factor = get_or (frame_at t 0) 3 0; blocks = word_at (frame_at t 0) 4; held = word_at (frame_at t 0) 6; at = next_at t 0 }
+pub text-good : (t : List ℕ) → good_head (frame_at t 0) (word_at (frame_at t 0) 6) ≡ true → head_of t ≡ Some (record { words = word_at (frame_at t 0) 1; factor = get_or (frame_at t 0) 3 0; blocks = word_at (frame_at t 0) 4; held = word_at (frame_at t 0) 6; at = next_at t 0 })
 unfolding head_of
 text-good t e = head-good (frame_at t 0) (next_at t 0) e
 
-pub text-bad : (t : List ℕ) → good_head (frame_at t 0) (word_at (frame_at t 0) 6) ≡ false → head_of t ≡ no_head
+pub text-bad : (t : List ℕ) → good_head (frame_at t 0) (word_at (frame_at t 0) 6) ≡ false → head_of t ≡ None
 unfolding head_of
 text-bad t e = head-bad (frame_at t 0) (next_at t 0) e
 
-pub head-within : (t : List ℕ) → (head_of t).at ≤ length t
+pub head-within : (t : List ℕ) → IfSome (head_of t) (λ h. h.at ≤ length t)
 head-within t =
     by_cases (good_head (frame_at t 0) (word_at (frame_at t 0) 6))
     (λ e. rw (text-good t e) (behind-within t 0 (omega arith)))
-    (λ e. rw (text-bad t e) (omega arith))
+    (λ e. rw (text-bad t e) tt)
 
-pub head_read : (t zs frame : List ℕ) (n : Next) (r : Head) → n ≡ next_of t 0 → frame ≡ sets zs 0 (frame_at t 0) → n.size ≤ length zs → r ≡ says_head (take (n.size - 0) frame) n.at → r ≡ head_of t
+pub head_read : (t zs frame : List ℕ) (n at : ℕ) → n ≡ length (frame_at t 0) → frame ≡ sets zs 0 (frame_at t 0) → n ≤ length zs → at ≡ next_at t 0 → says_head (take n frame) at ≡ head_of t
 unfolding head_of
-head_read t zs frame n r e f h k = k ∙ rw (frame-read t zs frame 0 n e f h) (ap (λ (x : Next). says_head (frame_at t 0) x.at) e)
+head_read t zs frame n at e f h a = rw (frame-read t zs frame 0 n e f h, a)

@@ -6,34 +6,13 @@ use mathlib.Core.Path.{◌≡◌, refl, sym, ap, ◌∙◌}
 use native.Mathlib.Omega.{arith}
 use lib.Dec.{leb, eqb}
 use lib.ListN.{length}
-use borrow.Author.Tests.{leb-true, le-leb, lt-leb}
+use borrow.Author.Tests.{leb-true}
 use Rattle.words.specs.Word.{word_at}
 use Rattle.rules.specs.Limits.{most_type}
 use Rattle.rules.specs.Sheet.{good_rec, rec_of}
-use Rattle.rules.proofs.Split.{by_cases, pick_true, pick-false, pass-true, and-true}
+use Rattle.rules.proofs.Split.{pick_true, pick-false, pass-true, and-true}
 use Rattle.reader.specs.Frames.{frame_at, next_at}
 use Rattle.reader.specs.Sheets.{most_size, recs_from, good_from}
-
--- one record's frame, by the tests that the code makes
-
-pub rec-short : (r : ℕ) (fr : List ℕ) → length fr < 4 → good_rec r fr ≡ false
-unfolding good_rec
-rec-short r fr h = rw (lt-leb 4 (length fr) h)
-
-pub rec-type : (r : ℕ) (fr : List ℕ) → most_type < word_at fr 0 → good_rec r fr ≡ false
-unfolding good_rec
-rec-type r fr h = by_cases (leb 4 (length fr)) (λ e. rw (e, lt-leb (word_at fr 0) most_type h)) (λ e. rw e)
-
-pub rec-id : (r : ℕ) (fr : List ℕ) → word_at fr 2 < 1 → good_rec r fr ≡ false
-unfolding good_rec
-rec-id r fr h =
-    by_cases (leb 4 (length fr) && leb (word_at fr 0) most_type)
-    (λ e. rw (e, lt-leb 1 (word_at fr 2) h))
-    (λ e. rw e)
-
-pub rec-size : (r : ℕ) (fr : List ℕ) → 4 ≤ length fr → word_at fr 0 ≤ most_type → 1 ≤ word_at fr 2 → good_rec r fr ≡ leb (length fr) (most_size r (word_at fr 0))
-unfolding good_rec most_size
-rec-size r fr h k l = rw (le-leb 4 (length fr) h, le-leb (word_at fr 0) most_type k, le-leb 1 (word_at fr 2) l)
 
 -- a good one
 pub rec-good : (r : ℕ) (fr : List ℕ) → good_rec r fr ≡ true → (4 ≤ length fr) × (word_at fr 0 ≤ most_type) × (1 ≤ word_at fr 2) × (length fr ≤ most_size r (word_at fr 0))

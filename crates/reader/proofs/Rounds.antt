@@ -12,8 +12,7 @@ use Rattle.rules.specs.Limits.{most_type}
 use Rattle.rules.specs.State.{Rec}
 use Rattle.rules.specs.Sheet.{good_rec, rec_of}
 use Rattle.rules.proofs.Split.{bothc}
-use Rattle.reader.specs.declared.Next.{Next}
-use Rattle.reader.specs.Frames.{frame_at, next_of, rec_in}
+use Rattle.reader.specs.Frames.{frame_at, next_at, rec_in}
 use Rattle.reader.specs.Sheets.{most_size, recs_from, good_from}
 use Rattle.reader.proofs.Frames.{frame-read}
 use Rattle.reader.proofs.Records.{rec-good, recs-step, from_step, from-bad, good-step}
@@ -28,28 +27,29 @@ rec-front fr zs size e h k =
     let l : length (drop 4 fr) ≡ size - 4 = length-drop 4 fr ∙ omega arith in
     rw (sets-eq fr zs 0 (omega arith), word-front fr q 0 (omega arith), word-front fr q 2 (omega arith), drop-append-le 4 fr q (omega arith), take_at (drop 4 fr) q (size - 4) l)
 
-size-most : (r typ : ℕ) → most_size r typ ≤ 4 + 2 * r
+pub size-most : (r typ : ℕ) → most_size r typ ≤ 4 + 2 * r
 unfolding most_size
 size-most r typ = bothc (λ (x : ℕ). x ≤ 4 + 2 * r) (eqb typ 0) (λ _. omega arith) (λ _. omega arith)
 
--- the next of good records lies in the memory, and those after it are good
-pub record Handed (r : ℕ) (t frame : List ℕ) (at left : ℕ) (n : Next) : Type 0 where
-  pub long : 4 ≤ n.size
-  pub short : n.size ≤ 4 + 2 * r
-  pub size : n.size ≤ most_size r (word_at frame 0)
+-- the next of good records lies in the first `n` bytes of the memory, and those after it are good
+pub record Handed (r : ℕ) (t frame : List ℕ) (at left n : ℕ) : Type 0 where
+  pub long : 4 ≤ n
+  pub short : n ≤ 4 + 2 * r
+  pub size : n ≤ most_size r (word_at frame 0)
   pub typ : word_at frame 0 ≤ most_type
   pub wid : 1 ≤ word_at frame 2
-  pub recs : recs_from t at left ≡ rec_in frame n.size ∷ recs_from t n.at (left - 1)
-  pub good : good_from r t n.at (left - 1) ≡ true
+  pub recs : recs_from t at left ≡ rec_in frame n ∷ recs_from t (next_at t at) (left - 1)
+  pub good : good_from r t (next_at t at) (left - 1) ≡ true
 
-module _ (r : ℕ) (t zs frame : List ℕ) (at left : ℕ) (n : Next) (some_left : 0 < left) (e : n ≡ next_of t at) (f : frame ≡ sets zs 0 (frame_at t at)) (h : n.size ≤ length zs) where
-  pub round-on : {b : Bool} → b ≡ good_rec r (take (n.size - 0) frame) → b ≡ true → good_from r t at left ≡ good_from r t n.at (left - 1)
-  round-on k g =
-      let q : good_rec r (frame_at t at) ≡ true = sym (ap (λ (x : List ℕ). good_rec r x) (frame-read t zs frame at n e f h)) ∙ sym k ∙ g in
-      from_step r t at left some_left q ∙ ap (λ (x : Next). good_from r t x.at (left - 1)) (sym e)
+module _ (r : ℕ) (t zs frame : List ℕ) (at left n : ℕ) (some_left : 0 < left) (e : n ≡ length (frame_at t at)) (f : frame ≡ sets zs 0 (frame_at t at)) (h : n ≤ length zs) where
+  good-read : {b x : Bool} → b ≡ good_rec r (take n frame) → b ≡ x → good_rec r (frame_at t at) ≡ x
+  good-read k g = sym (ap (λ (l : List ℕ). good_rec r l) (frame-read t zs frame at n e f h)) ∙ sym k ∙ g
 
-  pub round-bad : {b : Bool} → b ≡ good_rec r (take (n.size - 0) frame) → b ≡ false → good_from r t at left ≡ false
-  round-bad k g = from-bad r t at left some_left (sym (ap (λ (x : List ℕ). good_rec r x) (frame-read t zs frame at n e f h)) ∙ sym k ∙ g)
+  pub round-on : {b : Bool} → b ≡ good_rec r (take n frame) → b ≡ true → good_from r t at left ≡ good_from r t (next_at t at) (left - 1)
+  round-on k g = from_step r t at left some_left (good-read k g)
+
+  pub round-bad : {b : Bool} → b ≡ good_rec r (take n frame) → b ≡ false → good_from r t at left ≡ false
+  round-bad k g = from-bad r t at left some_left (good-read k g)
 
   -- the next record is handed out, if the records are known to be good
   pub handed : good_from r t at left ≡ true → Handed r t frame at left n
@@ -57,16 +57,15 @@ module _ (r : ℕ) (t zs frame : List ℕ) (at left : ℕ) (n : Next) (some_left
   handed g =
       let p = good-step r t at left some_left g in
       let q = rec-good r (frame_at t at) p.0 in
-      let s : n.size ≡ length (frame_at t at) = ap (λ (x : Next). x.size) e in
-      let i : rec_in frame n.size ≡ rec_of (frame_at t at) = rw f (rec-front (frame_at t at) zs n.size s (omega arith) h) in
+      let i : rec_in frame n ≡ rec_of (frame_at t at) = rw f (rec-front (frame_at t at) zs n e (omega arith) h) in
       let y : word_at frame 0 ≡ word_at (frame_at t at) 0 = ap (λ (x : Rec). x.typ) i in
       let w : word_at frame 2 ≡ word_at (frame_at t at) 2 = ap (λ (x : Rec). x.wid) i in
       record {
         long = omega arith;
         short = omega (arith, size-most r (word_at (frame_at t at) 0));
-        size = rw (y, s) q.3;
+        size = rw (y, e) q.3;
         typ = rw y q.1;
         wid = rw w q.2;
-        recs = recs-step t at left some_left ∙ rw (← i) (ap (λ (x : Next). rec_in frame n.size ∷ recs_from t x.at (left - 1)) (sym e));
-        good = ap (λ (x : Next). good_from r t x.at (left - 1)) e ∙ p.1;
+        recs = recs-step t at left some_left ∙ rw (← i);
+        good = p.1;
       }

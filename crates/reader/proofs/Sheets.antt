@@ -2,7 +2,8 @@
 use Prim.Native.Nat.{ℕ, ◌≤◌, ◌<◌}
 use mathlib.Core.Bool.{Bool, true, false, ◌&&◌, true≢false}
 use mathlib.Core.List.{List, [], ◌∷◌, map}
-use mathlib.Core.Option.{Option, none, some}
+use mathlib.Core.Option as maths
+use mathlib.Core.Option.{none, some}
 use mathlib.Core.Path.{◌≡◌, refl, sym, ap, ◌∙◌, subst}
 use native.Mathlib.Omega.{arith}
 use lib.Dec.{ltb, eqb}
@@ -16,17 +17,18 @@ use Rattle.rules.specs.Sheet.{Sheet, all_lines, good_head, good_recs, rec_of, fr
 use Rattle.rules.proofs.Split.{by_cases, pick_true, and-true, true-and}
 use Rattle.hexadecimal.proofs.Lines as hex
 use Rattle.reader.specs.Frames.{line_length, frame_at, next_at}
+use Rattle.std.specs.Prelude.{Option, Some, None, MatchOption}
 use Rattle.reader.specs.declared.Head.{Head}
 use Rattle.reader.specs.Sheets.{head_of, recs_from, good_from, is_some}
 use Rattle.reader.proofs.Frames.{frame-line, behind-within}
 use Rattle.reader.proofs.Lines.{onto, lines_none}
-use Rattle.reader.proofs.Heads.{head-held, head-length, head-words, text-good, text-bad, head-within}
+use Rattle.reader.proofs.Heads.{head-held, head-length, head-words, text-good, text-bad}
 use Rattle.reader.proofs.Records.{length-recs}
 use Rattle.reader.proofs.Lined.{frame-there, lines_at, Lined, recs_of, lined, unlined}
 
 -- reading lines
 
-picked : {A : Type 0} (t : Bool) (x : Option A) (a : A) → elim t as (λ (b : Bool). Option A) [ true ↦ x | false ↦ none ] ≡ some a → (t ≡ true) × (x ≡ some a)
+picked : {A : Type 0} (t : Bool) (x : maths.Option A) (a : A) → elim t as (λ (b : Bool). maths.Option A) [ true ↦ x | false ↦ none ] ≡ some a → (t ≡ true) × (x ≡ some a)
 picked true x a e = (refl, e)
 picked false x a e = let z : ◌≡◌ {A = ℕ} 0 1 = cc in absurd (omega arith)
 
@@ -113,57 +115,72 @@ sheet-good t s e =
         let L : Lined (word_at (frame_at t 0) 1) l (length l.whole) = rw g q.2 in
         (h.1, ap (λ (n : ℕ). good_from (word_at (frame_at t 0) 1) t (next_at t 0) n) h.0 ∙ unlined (word_at (frame_at t 0) 1) t (length l.whole) (next_at t 0) (behind-within t 0 (omega arith)) L)
 
--- what a sheet says is what its frames say, the head first and then record after record
-pub record Reads (t : List ℕ) (s : Sheet) : Type 0 where
-  pub words : 1 ≤ (head_of t).words
-  pub geo : s.geo ≡ record { words = (head_of t).words; factor = (head_of t).factor; blocks = (head_of t).blocks }
-  pub held : length s.recs ≡ (head_of t).held
-  pub next : (head_of t).at ≡ next_at t 0
-  pub at : (head_of t).at ≤ length t
-  pub recs : s.recs ≡ recs_from t (head_of t).at (head_of t).held
-  pub good : good_from (head_of t).words t (head_of t).at (head_of t).held ≡ true
+-- what a sheet says is what its frames say, the head h first and then record after record
+pub record Reads (t : List ℕ) (s : Sheet) (h : Head) : Type 0 where
+  pub words : 1 ≤ h.words
+  pub geo : s.geo ≡ record { words = h.words; factor = h.factor; blocks = h.blocks }
+  pub held : length s.recs ≡ h.held
+  pub next : h.at ≡ next_at t 0
+  pub at : h.at ≤ length t
+  pub recs : s.recs ≡ recs_from t h.at h.held
+  pub good : good_from h.words t h.at h.held ≡ true
 
-reads : (t : List ℕ) → Good t → Reads t (sheet_of t)
+-- what the first frame of a text says
+abbrev head_in : List ℕ → Head
+head_in t = record { words = word_at (frame_at t 0) 1; factor = get_or (frame_at t 0) 3 0; blocks = word_at (frame_at t 0) 4; held = word_at (frame_at t 0) 6; at = next_at t 0 }
+
+reads : (t : List ℕ) → Good t → Reads t (sheet_of t) (head_in t)
 unfolding sheet_of geo_of
 reads t G =
-    let e = text-good t G.0 in
     record {
-      words = rw e (head-words (frame_at t 0) (word_at (frame_at t 0) 6) G.0);
-      geo = rw e;
-      held = rw e (length-recs t (word_at (frame_at t 0) 6) (next_at t 0));
-      next = rw e;
-      at = head-within t;
-      recs = rw e;
-      good = rw e G.1;
+      words = head-words (frame_at t 0) (word_at (frame_at t 0) 6) G.0;
+      geo = refl;
+      held = length-recs t (word_at (frame_at t 0) 6) (next_at t 0);
+      next = refl;
+      at = behind-within t 0 (omega arith);
+      recs = refl;
+      good = G.1;
     }
 
-pub sheet-reads : (t : List ℕ) (s : Sheet) → read_sheet t ≡ some s → Reads t s
-sheet-reads t s e =
+-- a sheet has a head
+pub sheet-head : (t : List ℕ) (s : Sheet) → read_sheet t ≡ some s → (h : Head) × (head_of t ≡ Some h)
+sheet-head t s e = (head_in t, text-good t (sheet-good t s e).0)
+
+-- what the head says is read of the sheet
+pub sheet-reads : (t : List ℕ) (s : Sheet) → read_sheet t ≡ some s → (h : Head) → head_of t ≡ Some h → Reads t s h
+sheet-reads t s e h k =
     let G = sheet-good t s e in
-    let k = good-sheet t G in
+    let o = good-sheet t G in
     let i : sheet_of t ≡ s = cc in
-    subst (λ (x : Sheet). Reads t x) i (reads t G)
+    let j : head_in t ≡ h = cc (text-good t G.0) in
+    subst (λ (x : Sheet). Reads t x h) i (subst (λ (x : Head). Reads t (sheet_of t) x) j (reads t G))
 
 -- whether it is one
 
-pub some_is : {A : Type 0} (o : Option A) → is_some o ≡ true → (a : A) × (o ≡ some a)
+pub some_is : {A : Type 0} (o : maths.Option A) → is_some o ≡ true → (a : A) × (o ≡ some a)
 unfolding is_some
 some_is none e = absurd (true≢false (sym e))
 some_is (some a) e = (a, refl)
 
-pub sheet-none : (t : List ℕ) → (head_of t).words ≡ 0 → is_some (read_sheet t) ≡ false
+sheet-none : (t : List ℕ) → head_of t ≡ None → is_some (read_sheet t) ≡ false
 sheet-none t h =
     by_cases (is_some (read_sheet t))
-    (λ e. let p = some_is (read_sheet t) e in absurd (omega (arith, (sheet-reads t p.0 p.1).words)))
+    (λ e. let p = some_is (read_sheet t) e in let q = sheet-head t p.0 p.1 in absurd (cc))
     (λ e. e)
 
-pub sheet-some : (t : List ℕ) → ((head_of t).words ≡ 0 → ⊥) → is_some (read_sheet t) ≡ good_from (head_of t).words t (head_of t).at (head_of t).held
+sheet-some : (t : List ℕ) (h : Head) → head_of t ≡ Some h → is_some (read_sheet t) ≡ good_from h.words t h.at h.held
 unfolding is_some
-sheet-some t h =
+sheet-some t h k =
     by_cases (good_head (frame_at t 0) (word_at (frame_at t 0) 6))
     (λ g. by_cases (is_some (read_sheet t))
-    (λ e. let p = some_is (read_sheet t) e in e ∙ sym (sheet-reads t p.0 p.1).good)
-    (λ e. by_cases (good_from (head_of t).words t (head_of t).at (head_of t).held)
-    (λ k. absurd (true≢false (ap is_some (sym (good-sheet t (g, rw (text-good t g) at k))) ∙ e)))
-    (λ k. e ∙ sym k)))
-    (λ g. absurd (h (ap (λ (x : Head). x.words) (text-bad t g))))
+    (λ e. let p = some_is (read_sheet t) e in e ∙ sym (sheet-reads t p.0 p.1 h k).good)
+    (λ e. by_cases (good_from h.words t h.at h.held)
+    (λ d. let j : h ≡ head_in t = cc (text-good t g) in
+    absurd (true≢false (ap is_some (sym (good-sheet t (g, subst (λ (x : Head). good_from x.words t x.at x.held ≡ true) j d))) ∙ e)))
+    (λ d. e ∙ sym d)))
+    (λ g. absurd (cc (text-bad t g)))
+
+-- a text is a sheet if it has a head, and good records follow it
+pub sheet-is : (t : List ℕ) (o : Option Head) (b : Bool) → o ≡ head_of t → MatchOption o (b ≡ false) (λ h. b ≡ good_from h.words t h.at h.held) → b ≡ is_some (read_sheet t)
+sheet-is t None b e f = f ∙ sym (sheet-none t (sym e))
+sheet-is t (Some h) b e f = f ∙ sym (sheet-some t h (sym e))

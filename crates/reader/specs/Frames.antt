@@ -4,8 +4,6 @@ use Rattle.words.specs.Word.{word_at}
 use Rattle.rules.specs.State.{Rec}
 use Rattle.rules.specs.Limits.{sheet_line_bytes}
 use Rattle.rules.specs.Line.{frame_in}
-use Rattle.reader.specs.declared.Next.{Next}
-use Rattle.reader.specs.declared.Reader.{Reader}
 
 -- the number of bytes before a text's first LF; of all its bytes, if it has none
 unfoldable pub line_length : List ℕ → ℕ
@@ -20,22 +18,12 @@ first_frame t = elim (ltb (line_length t) (length t)) [ true ↦ frame_in sheet_
 unfoldable pub line_span : List ℕ → ℕ
 line_span t = elim (ltb (line_length t) (length t)) [ true ↦ suc (line_length t) | false ↦ line_length t ]
 
--- the end of the line that starts at a cursor; `frame_at` is its frame, `next_at` the cursor after it
-unfoldable pub line_end : List ℕ → ℕ → ℕ
-line_end t at = at + line_length (drop at t)
-
+-- the frame of the line that starts at a cursor, and the cursor after it
 unfoldable pub frame_at : List ℕ → ℕ → List ℕ
 frame_at t at = first_frame (drop at t)
 
 unfoldable pub next_at : List ℕ → ℕ → ℕ
 next_at t at = at + line_span (drop at t)
-
-abbrev pub next_of : List ℕ → ℕ → Next
-next_of t at = record { size = length (frame_at t at); at = next_at t at }
-
--- a reader after it has handed out the frame of its line
-abbrev pub behind : Reader → Reader
-behind r = record { text = r.text; at = next_at r.text.now r.at; size = length (frame_at r.text.now r.at) }
 
 -- the record in the first bytes of a memory
 abbrev pub rec_in : List ℕ → ℕ → Rec

@@ -1,6 +1,7 @@
 -- What a sheet's frames say, one after another.
-use Rattle.std.specs.Prelude.{ℕ, zero, suc, ◌+◌, ◌*◌, Bool, true, false, cond, ◌&&◌, List, [], ◌∷◌, leb, eqb, length, get_or}
-use Rattle.std.proofs.Math.Option.{Option, none, some}
+use Rattle.std.specs.Prelude.{ℕ, zero, suc, ◌+◌, ◌*◌, Bool, true, false, cond, ◌&&◌, List, [], ◌∷◌, leb, eqb, length, get_or, Option, Some, None}
+use Rattle.std.proofs.Math.Option as maths
+use Rattle.std.proofs.Math.Option.{none, some}
 use Rattle.words.specs.Word.{word_at}
 use Rattle.rules.specs.Limits.{most_words, most_factor, least_capacity}
 use Rattle.rules.specs.Geometry.{capacity, within, fits_share}
@@ -13,18 +14,15 @@ use Rattle.reader.specs.Frames.{frame_at, next_at}
 unfoldable pub good_numbers : ℕ → ℕ → ℕ → ℕ → Bool
 good_numbers r b d n = within 1 most_words r && within 1 most_factor b && leb least_capacity (capacity b d) && fits_share r b d && leb n (capacity b d)
 
-abbrev pub no_head : Head
-no_head = record { words = 0; factor = 0; blocks = 0; held = 0; at = 0 }
-
 -- what a frame says as the first of a sheet, with the cursor after it
-unfoldable pub says_head : List ℕ → ℕ → Head
+unfoldable pub says_head : List ℕ → ℕ → Option Head
 says_head h at =
     elim (good_head h (word_at h 6)) [
-      | true ↦ record { words = word_at h 1; factor = get_or h 3 0; blocks = word_at h 4; held = word_at h 6; at = at }
-      | false ↦ no_head
+      | true ↦ Some (record { words = word_at h 1; factor = get_or h 3 0; blocks = word_at h 4; held = word_at h 6; at = at })
+      | false ↦ None
     ]
 
-unfoldable pub head_of : List ℕ → Head
+unfoldable pub head_of : List ℕ → Option Head
 head_of t = says_head (frame_at t 0) (next_at t 0)
 
 -- "data of at most 2R bytes, none in open and close records"
@@ -41,6 +39,6 @@ unfoldable pub good_from : ℕ → List ℕ → ℕ → ℕ → Bool
 good_from r t at zero = eqb at (length t)
 good_from r t at (suc n) = elim (good_rec r (frame_at t at)) [ true ↦ good_from r t (next_at t at) n | false ↦ false ]
 
-unfoldable pub is_some : {A : Type 0} → Option A → Bool
+unfoldable pub is_some : {A : Type 0} → maths.Option A → Bool
 is_some none = false
 is_some (some x) = true

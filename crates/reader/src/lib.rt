@@ -2,12 +2,12 @@
 // Also tests whether a text is a sheet.
 #![tactic(auto)]
 
-ghost use Rattle.std.specs.Prelude.{◌≡◌, ◌≤◌, length};
+ghost use Rattle.std.specs.Prelude.{◌≡◌, ◌==◌, ◌≤◌, length, position, IfSome};
 ghost use Rattle.std.proofs.lemmas.List.Edits.{sets};
 ghost use Rattle.rules.specs.Limits.{sheet_line_bytes};
 ghost use Rattle.rules.specs.Sheet.{good_rec, read_sheet};
-ghost use Rattle.reader.specs.Frames.{line_end, frame_at, next_of, behind};
-ghost use Rattle.reader.specs.Sheets.{good_numbers, no_head, says_head, head_of, most_size, good_from, is_some};
+ghost use Rattle.reader.specs.Frames.{frame_at, next_at};
+ghost use Rattle.reader.specs.Sheets.{good_numbers, says_head, head_of, most_size, good_from, is_some};
 
 use geometry::{capacity, fits_share, in_range};
 use hexadecimal::LF;
@@ -34,22 +34,52 @@ pub const ID: usize = 2;
 
 pub const RECORD_HEAD: usize = 4;
 
-// The length of a frame, and the cursor after its line.
-#[derive(Clone, Copy)]
-pub struct Next {
-    pub size: usize,
-    pub at: usize,
+// The number of bytes before the first LF, if there is one.
+fn line_length(text: &[u8]) -> Option<usize>
+    ensures { result ≡ position (λ b. b == 10) text.now }
+{
+    text.iter().position(|b| *b == LF)
 }
 
-// A reader over the lent text: where the next line begins, and the length of the frame that was handed out last.
+// A reader over a text: where the next line begins.
 #[derive(Clone, Copy)]
 pub struct Reader<'a> {
     pub text: &'a [u8],
     pub at: usize,
-    pub size: usize,
+    ghost within: { at ≤ length text.now },
 }
 
-// What a sheet's first frame says, and the cursor after it. A valid head never has 0 words.
+impl<'a> Reader<'a> {
+    // A reader at the text's first line.
+    pub fn new(text: &'a [u8]) -> Reader<'a>
+        ensures { (result.text ≡ text.entry) × (result.at ≡ 0) }
+    {
+        Reader { text, at: 0 }
+    }
+
+    // Hands out the frame of the next line: writes it, starting at the first byte of `frame`, gives its length, and goes to the line after it.
+    // A line that says no frame, or that no LF ends, is an empty frame.
+    // Kept: the length is given and no slice of `frame`: behind a slice that is lent on, `bytes` could not say that the rest of it stays.
+    #[tactic(auto, using(crate::proofs::Frames::next_ended, crate::proofs::Frames::frame_unended, crate::proofs::Frames::next_unended))]
+    pub fn hand_out(&mut self, frame: &mut [u8]) -> usize
+        requires { sheet_line_bytes ≤ length frame.old }
+        ensures size { result ≡ length (frame_at self.old.text.now self.old.at) }
+        ensures bytes { frame.new ≡ sets frame.old 0 (frame_at self.old.text.now self.old.at) }
+        ensures text { self.new.text ≡ self.old.text }
+        ensures at { self.new.at ≡ next_at self.old.text.now self.old.at }
+        ensures bound { result ≤ sheet_line_bytes }
+    {
+        let rest = &self.text[self.at..];
+        let Some(length) = line_length(rest) else {
+            self.at = self.text.len();
+            return 0;
+        };
+        self.at += length + 1;
+        hexadecimal::decode(&rest[..length], SHEET_LINE_BYTES, frame)
+    }
+}
+
+// What a sheet's first frame says, and the cursor after it.
 #[derive(Clone, Copy)]
 pub struct Head {
     pub words: u16,
@@ -59,125 +89,48 @@ pub struct Head {
     pub at: usize,
 }
 
-// Where the line at the cursor ends: at its LF, or at the end of the text.
-fn line_end(text: &[u8], at: usize) -> usize
-    requires { at ≤ length text.now }
-    ensures { (result ≡ line_end text.now at) × (at ≤ result) × (result ≤ length text.now) }
-{
-    let mut end = at;
-    while end < text.len() {
-        if text[end] == LF {
-            return end;
-        }
-        end += 1;
-    }
-    end
-}
-
-// Writes the frame of the line at the cursor, starting at the first byte of `frame`. A line that says no frame, or that no LF ends, is an empty frame.
-pub fn next_frame(text: &[u8], at: usize, frame: &mut [u8]) -> Next
-    requires { (at ≤ length text.now) × (sheet_line_bytes ≤ length frame.old) }
-    ensures next { result ≡ next_of text.now at }
-    ensures bytes { frame.new ≡ sets frame.old 0 (frame_at text.now at) }
-    ensures bound { (result.size ≤ sheet_line_bytes) × (result.at ≤ length text.now) }
-{
-    let end = line_end(text, at);
-    if end == text.len() {
-        return Next { size: 0, at: end };
-    }
-    let size = hexadecimal::decode(&text[at..end], SHEET_LINE_BYTES, frame);
-    Next { size, at: end + 1 }
-}
-
-// A reader at the text's first line.
-pub fn open<'a>(text: &'a [u8]) -> Reader<'a>
-    ensures { result ≡ record { text = text.entry; at = 0; size = 0 } }
-{
-    Reader {
-        text,
-        at: 0,
-        size: 0,
-    }
-}
-
-// Hands out the next frame, as `next_frame` does, and gives the reader at the line after it.
-pub fn hand_out<'a>(reader: Reader<'a>, frame: &mut [u8]) -> Reader<'a>
-    requires { (reader.at ≤ length reader.text.now) × (sheet_line_bytes ≤ length frame.old) }
-    ensures { (result ≡ behind reader.entry) × (frame.new ≡ sets frame.old 0 (frame_at reader.entry.text.now reader.entry.at)) × (result.size ≤ sheet_line_bytes) × (result.at ≤ length result.text.now) }
-{
-    let next = next_frame(reader.text, reader.at, frame);
-    Reader {
-        text: reader.text,
-        at: next.at,
-        size: next.size,
-    }
-}
-
 // "R and B in range, C ≥ 3, D × block size ≤ 2,048, records ≤ C". The range test is given one record in one extent, which are in range.
-fn good_numbers(words: u16, factor: u8, blocks: u16, held: u16) -> bool
-    ensures { result ≡ good_numbers words factor blocks held }
+#[tactic(auto, unfolding(crate::specs::Sheets::good_numbers, rules::specs::Geometry::in_range, rules::specs::Geometry::within))]
+fn good_numbers(head: Head) -> bool
+    ensures { result ≡ good_numbers head.words head.factor head.blocks head.held }
 {
-    if !in_range(words, factor, 1, 1) {
-        return false;
-    }
-    if !fits_share(words, factor, blocks) {
-        return false;
-    }
-    let room = capacity(factor, blocks);
-    LEAST_CAPACITY <= room && held as u32 <= room
-}
-
-// The head of a text whose first frame is not that of a sheet: all 0.
-fn no_head() -> Head
-    ensures { result ≡ no_head }
-{
-    Head {
-        words: 0,
-        factor: 0,
-        blocks: 0,
-        held: 0,
-        at: 0,
-    }
+    let room = capacity(head.factor, head.blocks);
+    in_range(head.words, head.factor, 1, 1)
+        && fits_share(head.words, head.factor, head.blocks)
+        && LEAST_CAPACITY <= room
+        && u32::from(head.held) <= room
 }
 
 // What a frame says as the first of a sheet, with the cursor after it.
-fn head_of(frame: &[u8], at: usize) -> Head
+fn head_of(frame: &[u8], at: usize) -> Option<Head>
     ensures { result ≡ says_head frame.now at }
 {
-    if frame.len() != HEAD_BYTES {
-        return no_head();
+    if frame.len() != HEAD_BYTES || frame[0] != HEAD {
+        return None;
     }
-    if frame[0] != HEAD {
-        return no_head();
-    }
-    let words = words::get(frame, HEAD_WORDS);
-    let factor = frame[HEAD_FACTOR];
-    let blocks = words::get(frame, HEAD_BLOCKS);
-    let held = words::get(frame, HEAD_HELD);
-    if !good_numbers(words, factor, blocks, held) {
-        return no_head();
-    }
-    Head {
-        words,
-        factor,
-        blocks,
-        held,
+    let head = Head {
+        words: words::get(frame, HEAD_WORDS),
+        factor: frame[HEAD_FACTOR],
+        blocks: words::get(frame, HEAD_BLOCKS),
+        held: words::get(frame, HEAD_HELD),
         at,
-    }
+    };
+    good_numbers(head).then_some(head)
 }
 
-// What the text's first frame says; all 0 if it is not the first frame of a sheet.
-pub fn read_head(text: &[u8]) -> Head
+// What the text's first frame says, if it is the first frame of a sheet.
+pub fn read_head(text: &[u8]) -> Option<Head>
     ensures value { result ≡ head_of text.now }
-    ensures at_in_bounds { result.at ≤ length text.now }
+    ensures at_in_bounds { IfSome result (λ head. head.at ≤ length text.now) }
 {
     let mut frame = [0u8; SHEET_LINE_BYTES];
-    let next = next_frame(text, 0, &mut frame);
-    let size = next.size;
-    head_of(&frame[0..size], next.at)
+    let mut reader = Reader::new(text);
+    let size = reader.hand_out(&mut frame);
+    head_of(&frame[..size], reader.at)
 }
 
 // The bytes of the longest frame of a record of that type.
+#[tactic(auto, unfolding(crate::specs::Sheets::most_size))]
 fn most_size(words: u16, typ: u16) -> usize
     ensures { result ≡ most_size words typ }
 {
@@ -189,6 +142,7 @@ fn most_size(words: u16, typ: u16) -> usize
 }
 
 // "types 0 to 2, IDs ≥ 1, data of at most 2R bytes, none in open and close records"
+#[tactic(auto, unfolding(rules::specs::Sheet::good_rec, crate::specs::Sheets::most_size))]
 fn good_record(frame: &[u8], words: u16) -> bool
     ensures { result ≡ good_rec words frame.now }
 {
@@ -196,42 +150,28 @@ fn good_record(frame: &[u8], words: u16) -> bool
         return false;
     }
     let typ = words::get(frame, TYPE);
-    if typ > MOST_TYPE {
-        return false;
-    }
-    if words::get(frame, ID) < 1 {
-        return false;
-    }
-    frame.len() <= most_size(words, typ)
+    typ <= MOST_TYPE && 1 <= words::get(frame, ID) && frame.len() <= most_size(words, typ)
 }
 
-// Whether `held` good records follow from the cursor, and nothing after them.
-fn good_records(text: &[u8], words: u16, start: usize, held: u16, frame: &mut [u8]) -> bool
-    requires { (start ≤ length text.now) × (sheet_line_bytes ≤ length frame.old) }
-    ensures { result ≡ good_from words text.now start held }
+// Whether as many good records as the head says follow it, and nothing after them.
+fn good_records(text: &[u8], head: Head) -> bool
+    requires { head.at ≤ length text.now }
+    ensures { result ≡ good_from head.words text.now head.at head.held }
 {
-    let mut at = start;
-    let mut left = held;
-    while left > 0 {
-        let next = next_frame(text, at, frame);
-        let size = next.size;
-        if !good_record(&frame[0..size], words) {
+    let mut frame = [0u8; SHEET_LINE_BYTES];
+    let mut reader = Reader { text, at: head.at };
+    for _ in 0..head.held {
+        let size = reader.hand_out(&mut frame);
+        if !good_record(&frame[..size], head.words) {
             return false;
         }
-        at = next.at;
-        left -= 1;
     }
-    at == text.len()
+    reader.at == text.len()
 }
 
 // Whether a text is a sheet, as load asks.
 pub fn is_sheet(text: &[u8]) -> bool
     ensures { result ≡ is_some (read_sheet text.now) }
 {
-    let mut frame = [0u8; SHEET_LINE_BYTES];
-    let head = read_head(text);
-    if head.words == 0 {
-        return false;
-    }
-    good_records(text, head.words, head.at, head.held, &mut frame)
+    read_head(text).is_some_and(|head| good_records(text, head))
 }

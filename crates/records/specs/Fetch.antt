@@ -1,6 +1,6 @@
 -- What a read or a look finds.
-use Rattle.std.specs.Prelude.{ℕ, zero, suc, ◌+◌, ◌≡◌, Bool, true, false, cond, List, ltb, eqb}
-use Rattle.std.proofs.Math.Option.{Option, none, some}
+use Rattle.std.specs.Prelude.{ℕ, zero, suc, ◌+◌, ◌≡◌, Bool, true, false, cond, List, ltb, eqb, Option, Some, None}
+use Rattle.std.proofs.Math.Option as math
 use Rattle.words.specs.Word.{word_at}
 use Rattle.rules.specs.State.{Rec, Geo, Store}
 use Rattle.rules.specs.Store.{discard}
@@ -10,8 +10,6 @@ use Rattle.shares.specs.Places.{place_of}
 use Rattle.ring.specs.declared.Ring.{Ring}
 use Rattle.ring.specs.Ring.{geo, ring_of}
 use Rattle.records.specs.declared.cursor.Cursor.{Cursor}
-use Rattle.records.specs.declared.reading.Found.{Found}
-use Rattle.records.specs.declared.reading.Found.TheVariants.{At, Nothing}
 
 -- the share and the ring stand for the store
 pub record Stores (w : ℕ) (r : Ring) (xs : List ℕ) (s : Store) : Type 0 where
@@ -31,19 +29,16 @@ pub record Comes (w : ℕ) (q r : Ring) (xs : List ℕ) : Type 0 where
   pub share : (s : Store) (S : Stores w q xs s) → (to s S).share ≡ xs
   pub same : (s : Store) (S : Stores w q xs s) → discard (geo w q) (to s S) ≡ discard (geo w q) s
 
-unfoldable pub least : ℕ → ℕ → ℕ
-least a b = cond (ltb a b) a b
-
 -- "the file's oldest data record" of n records, starting at the one that has u before it
-unfoldable pub oldest_of : Geo → List ℕ → ℕ → ℕ → ℕ → Found
-oldest_of g xs k u zero = Nothing
+unfoldable pub oldest_of : Geo → List ℕ → ℕ → ℕ → ℕ → Option ℕ
+oldest_of g xs k u zero = None
 oldest_of g xs k u (suc n) =
-    elim (eqb (word_at xs (place_of g xs k u + 2)) 0) [ true ↦ At (place_of g xs k u) | false ↦ oldest_of g xs k (suc u) n ]
+    elim (eqb (word_at xs (place_of g xs k u + 2)) 0) [ true ↦ Some (place_of g xs k u) | false ↦ oldest_of g xs k (suc u) n ]
 
-unfoldable pub found : List ℕ → Found → Option Rec
-found xs Nothing = none
-found xs (At p) = some (rec_at xs p)
+unfoldable pub found : List ℕ → Option ℕ → math.Option Rec
+found xs None = math.none
+found xs (Some p) = math.some (rec_at xs p)
 
--- the record under a cursor, or nothing if its ring holds none
-unfoldable pub shown : Cursor → Found
-shown c = elim (ltb 0 c.ring.held) [ true ↦ At c.at | false ↦ Nothing ]
+-- the place of the record under a cursor, or none if its ring holds none
+unfoldable pub shown : Cursor → Option ℕ
+shown c = elim (ltb 0 c.ring.held) [ true ↦ Some c.at | false ↦ None ]

@@ -27,10 +27,8 @@ fn skip(share: &[u8], at: usize, n: u16) -> usize
     ensures { (e : ℕ) → Behind share.now e at n → result ≡ skip share.now e at n }
 {
     let mut p = at;
-    let mut left = n;
-    while left > 0 {
+    for _ in 0..n {
         p = next(share, p);
-        left -= 1;
     }
     p
 }

@@ -14,14 +14,8 @@ pub struct Record {
     pub size: u16,
 }
 
-// Where the oldest data record stands, if there is one.
-#[derive(Clone, Copy)]
-pub enum Found {
-    At(usize),
-    Nothing,
-}
-
 // The place right after the record at `at`.
+#[tactic(auto, unfolding(shares::specs::Back::next))]
 pub fn next(share: &[u8], at: usize) -> usize
     requires { at + 2 ≤ length share.now }
     ensures value { result ≡ next share.now at }
@@ -32,6 +26,7 @@ pub fn next(share: &[u8], at: usize) -> usize
 }
 
 // What the head of the record at `at` says.
+#[tactic(auto, unfolding(shares::specs::Back::rec_at))]
 pub fn header(share: &[u8], at: usize) -> Record
     requires { Readable share.now at }
     ensures { result ≡ header_of (rec_at share.now at) }
@@ -44,7 +39,7 @@ pub fn header(share: &[u8], at: usize) -> Record
 }
 
 // The frame of the record at `at` in a sheet: type, ID and data, as they follow its first word.
-pub fn frame<'a>(share: &'a [u8], at: usize) -> &'a [u8]
+pub fn frame(share: &[u8], at: usize) -> &[u8]
     requires { Readable share.now at }
     ensures { result.now ≡ rec_frame (rec_at share.now at) }
 {

@@ -1,13 +1,15 @@
-// The refusal number of an event, from numbers alone: the file's R, the accessor's side, what it has outstanding, and the event's own. 0 if it is not refused.
+// Whether an event is refused, and with which number, from numbers alone: the file's R, the accessor's side, what it has outstanding, and the event's own.
 // No memory is lent: a desk kept in any form can look these numbers up and ask here. "the lowest that applies is given"
 #![tactic(auto)]
 
 ghost use Rattle.std.specs.Prelude.{◌≡◌};
+ghost use Rattle.kinds.specs.Refusals.{refusal_number};
 ghost use Rattle.refusing.specs.Verdicts.{free, while_free, nothing_refusal, read_refusal, write_refusal, close_refusal, switch_refusal, reader_refusal, control_refusal, code_refusal, build_refusal, modes_in_range};
 
 use kinds::limits::MOST_MODE;
+use kinds::refusals::Refusal;
 use kinds::sides::WRITER;
-use kinds::{Control, Outstanding, refusals};
+use kinds::{Control, Outstanding};
 
 // The largest value of a setting, "with 0 or 1".
 const MOST_SETTING: u16 = 1;
@@ -22,91 +24,91 @@ fn is_free(request: Outstanding) -> bool
     }
 }
 
-pub fn read_refusal(side: u16, request: Outstanding, count: u16) -> u8
-    ensures { result ≡ read_refusal count side request }
+pub fn read_refusal(side: u16, request: Outstanding, count: u16) -> Result<(), Refusal>
+    ensures { refusal_number result ≡ read_refusal count side request }
 {
     if !is_free(request) {
-        return refusals::OUTSTANDING;
+        return Err(Refusal::Outstanding);
     }
     if side == WRITER {
-        return refusals::SIDE;
+        return Err(Refusal::Side);
     }
     if !transfer_counts::readable(count) {
-        return refusals::RANGE;
+        return Err(Refusal::Range);
     }
-    refusals::NONE
+    Ok(())
 }
 
 // The refusal number of a write, which has at most 2R bytes.
-pub fn write_refusal(words: u16, side: u16, request: Outstanding, count: u16) -> u8
-    ensures { result ≡ write_refusal count words side request }
+pub fn write_refusal(words: u16, side: u16, request: Outstanding, count: u16) -> Result<(), Refusal>
+    ensures { refusal_number result ≡ write_refusal count words side request }
 {
     if !is_free(request) {
-        return refusals::OUTSTANDING;
+        return Err(Refusal::Outstanding);
     }
     if side != WRITER {
-        return refusals::SIDE;
+        return Err(Refusal::Side);
     }
     if 2 * (words as u32) < transfer_counts::count_bytes(count) {
-        return refusals::RANGE;
+        return Err(Refusal::Range);
     }
-    refusals::NONE
+    Ok(())
 }
 
 // The refusal number of collect, and of control 43.
-pub fn nothing_refusal(request: Outstanding) -> u8
-    ensures { result ≡ nothing_refusal request }
+pub fn nothing_refusal(request: Outstanding) -> Result<(), Refusal>
+    ensures { refusal_number result ≡ nothing_refusal request }
 {
     if is_free(request) {
-        return refusals::NOTHING;
+        return Err(Refusal::Nothing);
     }
-    refusals::NONE
+    Ok(())
 }
 
-pub fn close_refusal(request: Outstanding) -> u8
-    ensures { result ≡ close_refusal request }
+pub fn close_refusal(request: Outstanding) -> Result<(), Refusal>
+    ensures { refusal_number result ≡ close_refusal request }
 {
     match request {
-        Outstanding::Nothing => refusals::NONE,
-        Outstanding::Waiting => refusals::NONE,
-        Outstanding::Completed => refusals::OUTSTANDING,
+        Outstanding::Nothing => Ok(()),
+        Outstanding::Waiting => Ok(()),
+        Outstanding::Completed => Err(Refusal::Outstanding),
     }
 }
 
-// The refusal number of a control that gets `number` if nothing is outstanding.
-fn while_free(request: Outstanding, number: u8) -> u8
-    ensures { result ≡ while_free request number }
+// The refusal of a control that gets `otherwise` if nothing is outstanding.
+fn while_free(request: Outstanding, otherwise: Result<(), Refusal>) -> Result<(), Refusal>
+    ensures { refusal_number result ≡ while_free request (refusal_number otherwise) }
 {
     if is_free(request) {
-        return number;
+        return otherwise;
     }
-    refusals::OUTSTANDING
+    Err(Refusal::Outstanding)
 }
 
-fn switch_refusal(value: u16) -> u8
-    ensures { result ≡ switch_refusal value }
+fn switch_refusal(value: u16) -> Result<(), Refusal>
+    ensures { refusal_number result ≡ switch_refusal value }
 {
     if value <= MOST_SETTING {
-        return refusals::NONE;
+        return Ok(());
     }
-    refusals::RANGE
+    Err(Refusal::Range)
 }
 
-fn reader_refusal(side: u16, value: u16) -> u8
-    ensures { result ≡ reader_refusal side value }
+fn reader_refusal(side: u16, value: u16) -> Result<(), Refusal>
+    ensures { refusal_number result ≡ reader_refusal side value }
 {
     if side == WRITER {
-        return refusals::SIDE;
+        return Err(Refusal::Side);
     }
     switch_refusal(value)
 }
 
-pub fn control_refusal(side: u16, request: Outstanding, control: Control) -> u8
-    ensures { result ≡ control_refusal control side request }
+pub fn control_refusal(side: u16, request: Outstanding, control: Control) -> Result<(), Refusal>
+    ensures { refusal_number result ≡ control_refusal control side request }
 {
     match control {
-        Control::Timeout(_) => while_free(request, refusals::NONE),
-        Control::Verify(_) => while_free(request, refusals::NONE),
+        Control::Timeout(_) => while_free(request, Ok(())),
+        Control::Verify(_) => while_free(request, Ok(())),
         Control::Abort(_) => nothing_refusal(request),
         Control::Extended(value) => while_free(request, switch_refusal(value)),
         Control::Typed(value) => while_free(request, reader_refusal(side, value)),
@@ -115,24 +117,24 @@ pub fn control_refusal(side: u16, request: Outstanding, control: Control) -> u8
 }
 
 // The refusal number of a control event whose code is none of the six.
-pub fn code_refusal(request: Outstanding) -> u8
-    ensures { result ≡ code_refusal request }
+pub fn code_refusal(request: Outstanding) -> Result<(), Refusal>
+    ensures { refusal_number result ≡ code_refusal request }
 {
-    while_free(request, refusals::RANGE)
+    while_free(request, Err(Refusal::Range))
 }
 
 // The refusal number of a build of a file that is not built.
-pub fn build_refusal(words: u16, factor: u8, records: u16, extents: u8) -> u8
-    ensures { result ≡ build_refusal words factor records extents }
+pub fn build_refusal(words: u16, factor: u8, records: u16, extents: u8) -> Result<(), Refusal>
+    ensures { refusal_number result ≡ build_refusal words factor records extents }
 {
     if !geometry::in_range(words, factor, records, extents) {
-        return refusals::RANGE;
+        return Err(Refusal::Range);
     }
     let blocks = geometry::data_blocks(records, factor, extents);
     if !geometry::fits_share(words, factor, blocks) {
-        return refusals::SIZE;
+        return Err(Refusal::Size);
     }
-    refusals::NONE
+    Ok(())
 }
 
 // Whether the numbers of an open are in their ranges.

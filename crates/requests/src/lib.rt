@@ -2,20 +2,20 @@
 // The callers know that there is a free entry to take and that the request is where it is looked for.
 #![tactic(auto)]
 
-ghost use Rattle.std.specs.Prelude.{◌≡◌, ◌<◌, length};
+ghost use Rattle.std.specs.Prelude.{◌≡◌, ◌<◌};
 ghost use Rattle.rules.specs.Limits.{entries};
-ghost use Rattle.segment.specs.Layout.{list_count, file_rows, segment_bytes, free_list, reply_port, desk_places};
+ghost use Rattle.segment.specs.Layout.{list_count, file_rows, free_list, reply_port, desk_places};
 ghost use Rattle.segment.specs.Table.{nth};
 ghost use Rattle.segment.specs.Fields.{entry_words};
 ghost use Rattle.requests.specs.Moves.{entry_of, out, armed, queued, waiting, disarmed, completed, cancelled, collected};
 
 use segment::forms::running_timer;
-use segment::{Entry, layout};
+use segment::{Entry, Segment, layout};
 
 // Arms a timer of these seconds for a place, after all timers that have as little left.
-fn arm(s: &mut [u8], place: u16, seconds: u16)
-    requires s_len { length s.old ≡ segment_bytes }
-    requires free_list_bound { nth s.old free_list < entries }
+#[tactic(auto, unfolding(crate::specs::Moves::armed))]
+fn arm(s: &mut Segment, place: u16, seconds: u16)
+    requires { nth s.old free_list < entries }
     ensures { s.new ≡ armed s.old place seconds }
 {
     let e = ports::take_entry(s, running_timer(place, seconds));
@@ -24,9 +24,9 @@ fn arm(s: &mut [u8], place: u16, seconds: u16)
 }
 
 // Inserts the request m at the end of list l.
-fn queue(s: &mut [u8], l: usize, m: Entry)
-    requires s_len { length s.old ≡ segment_bytes }
-    requires l_lt_list_count { (l < list_count) × (nth s.old free_list < entries) }
+#[tactic(auto, unfolding(crate::specs::Moves::queued))]
+fn queue(s: &mut Segment, l: usize, m: Entry)
+    requires { (l < list_count) × (nth s.old free_list < entries) }
     ensures { s.new ≡ queued s.old l (entry_words m) }
 {
     let e = ports::take_entry(s, m);
@@ -34,9 +34,9 @@ fn queue(s: &mut [u8], l: usize, m: Entry)
 }
 
 // Makes the request m wait in list l, with a timer unless `seconds` is 0.
-pub fn wait(s: &mut [u8], l: usize, m: Entry, seconds: u16)
-    requires s_len { length s.old ≡ segment_bytes }
-    requires l_lt_list_count { (l < list_count) × (nth s.old free_list < entries) × (nth (queued s.old l (entry_words m)) free_list < entries) }
+#[tactic(auto, using(std::proofs::lemmas::Bool::Decides::nat_tests), unfolding(crate::specs::Moves::waiting))]
+pub fn wait(s: &mut Segment, l: usize, m: Entry, seconds: u16)
+    requires { (l < list_count) × (nth s.old free_list < entries) × (nth (queued s.old l (entry_words m)) free_list < entries) }
     ensures { s.new ≡ waiting s.old l (entry_words m) m.place seconds }
 {
     let place = m.place;
@@ -47,9 +47,9 @@ pub fn wait(s: &mut [u8], l: usize, m: Entry, seconds: u16)
 }
 
 // Takes the entry of a place out of list l, and gives its number.
-fn take_out(s: &mut [u8], l: usize, place: u16) -> u16
-    requires s_len { length s.old ≡ segment_bytes }
-    requires l_lt_list_count { l < list_count }
+#[tactic(auto, unfolding(crate::specs::Moves::slot_of, crate::specs::Moves::entry_of, crate::specs::Moves::out))]
+fn take_out(s: &mut Segment, l: usize, place: u16) -> u16
+    requires { l < list_count }
     ensures { (result ≡ entry_of s.old l place) × (s.new ≡ out s.old l place) }
 {
     let p = ports::seek_place(s, l, place);
@@ -57,8 +57,8 @@ fn take_out(s: &mut [u8], l: usize, place: u16) -> u16
 }
 
 // Removes the timer of a place, if there is one.
-fn disarm(s: &mut [u8], place: u16)
-    requires { length s.old ≡ segment_bytes }
+#[tactic(auto, using(std::proofs::lemmas::Bool::Decides::nat_tests), unfolding(crate::specs::Moves::disarmed))]
+fn disarm(s: &mut Segment, place: u16)
     ensures { s.new ≡ disarmed s.old place }
 {
     let e = take_out(s, layout::TIMER_LIST, place);
@@ -68,9 +68,9 @@ fn disarm(s: &mut [u8], place: u16)
 }
 
 // Completes the request of m's place, whose entry is at slot p: the entry becomes m, on the place's reply port.
-pub fn complete(s: &mut [u8], p: usize, m: Entry)
-    requires s_len { length s.old ≡ segment_bytes }
-    requires p_lt_file_rows { (p < file_rows) × (m.place < desk_places) × (nth s.old p < entries) }
+#[tactic(auto, unfolding(crate::specs::Moves::completed))]
+pub fn complete(s: &mut Segment, p: usize, m: Entry)
+    requires { (p < file_rows) × (m.place < desk_places) × (nth s.old p < entries) }
     ensures { s.new ≡ completed s.old p m.place (entry_words m) }
 {
     let place = m.place;
@@ -81,9 +81,9 @@ pub fn complete(s: &mut [u8], p: usize, m: Entry)
 }
 
 // Removes the request of a place, whose entry is at slot p.
-pub fn cancel(s: &mut [u8], p: usize, place: u16)
-    requires s_len { length s.old ≡ segment_bytes }
-    requires p_lt_file_rows { (p < file_rows) × (nth s.old p < entries) }
+#[tactic(auto, unfolding(crate::specs::Moves::cancelled))]
+pub fn cancel(s: &mut Segment, p: usize, place: u16)
+    requires { (p < file_rows) × (nth s.old p < entries) }
     ensures { s.new ≡ cancelled s.old p place }
 {
     let e = ports::unlink_at(s, p);
@@ -92,9 +92,9 @@ pub fn cancel(s: &mut [u8], p: usize, place: u16)
 }
 
 // Removes the completed request of a place from its reply port.
-pub fn collect(s: &mut [u8], place: u16)
-    requires s_len { length s.old ≡ segment_bytes }
-    requires place_lt_desk_places { (place < desk_places) × (nth s.old (reply_port place) < entries) }
+#[tactic(auto, unfolding(crate::specs::Moves::collected))]
+pub fn collect(s: &mut Segment, place: u16)
+    requires { (place < desk_places) × (nth s.old (reply_port place) < entries) }
     ensures { s.new ≡ collected s.old place }
 {
     let e = ports::unlink_at(s, layout::REPLY_PORTS + place as usize);

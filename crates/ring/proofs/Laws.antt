@@ -1,15 +1,14 @@
--- Laws of the ring's numbers: the count of blocks that wraps, the ring after a record is gone, and the exits of `purged`.
+-- Laws of the ring's numbers: the count of blocks that wraps, and the ring after a record is gone.
 use Prim.Native.Nat.{ℕ, ◌+◌, ◌-◌, ◌*◌, ◌/◌, ◌%◌, ◌≤◌, ◌<◌}
-use mathlib.Core.Path.{◌≡◌, refl, sym, ap, ◌∙◌}
+use mathlib.Core.Path.{◌≡◌, refl, sym}
 use native.Mathlib.Omega.{arith}
 use native.Mathlib.Nat.{div-le_of_le-mul, mod-lt, mod-eq_of_lt}
 use lib.Dec.{ltb, leb, eqb}
-use borrow.Author.Tests.{ltb-true, ltb-false, leb-true, eq-eqb, ne_eqb}
-use Rattle.rules.proofs.Split.{both, pick_true, pick-false}
+use borrow.Author.Tests.{ltb-true, ltb-false, leb-true}
+use Rattle.rules.proofs.Split.{both}
 use Rattle.ring.specs.declared.Ring.{Ring}
-use Rattle.ring.specs.declared.Place.{Place}
 use Rattle.shares.proofs.Ring.{mod-high}
-use Rattle.ring.specs.Ring.{Ranged, wrapped, place, tail, at, advanced, purged}
+use Rattle.ring.specs.Ring.{Ranged, wrapped, place, at, advanced}
 
 -- a block's number wraps to a block of the ring
 pub wrapped-less : (d k : ℕ) → k < d + d → wrapped d k < d
@@ -47,20 +46,3 @@ unfolding advanced
 advanced-inside r =
     both (λ (x : Ring). (x.spent ≡ 0 → ⊥) → x ≡ at r r.block (r.spent + 1) (r.held - 1)) (leb r.held 1) (λ _ n. absurd (n refl))
     (λ _. both (λ (x : Ring). (x.spent ≡ 0 → ⊥) → x ≡ at r r.block (r.spent + 1) (r.held - 1)) (eqb (r.spent + 1) r.factor) (λ _ n. absurd (n refl)) (λ _ n. refl))
-
--- Purged.
-
-module _ (r q : Ring) (t : Place) (e : t ≡ tail r) where
-  index : (tail r).index ≡ t.index
-  index = ap (λ (p : Place). p.index) (sym e)
-
-  pub purged-start : t.index ≡ 0 → q ≡ at r t.block 0 0 → q ≡ purged r
-  unfolding purged
-  purged-start z f = f ∙ (ap (λ (p : Place). at r p.block 0 0) e ∙ sym (pick_true (eqb (tail r).index 0) _ _ (eq-eqb (tail r).index 0 (index ∙ z))))
-
-  pub purged-begun : (t.index ≡ 0 → ⊥) → (k : ℕ) → k ≡ wrapped r.blocks (t.block + 1) → q ≡ at r k 0 0 → q ≡ purged r
-  unfolding purged
-  purged-begun z k w f =
-      f
-      ∙ (ap (λ (n : ℕ). at r n 0 0) (w ∙ ap (λ (p : Place). wrapped r.blocks (p.block + 1)) e)
-      ∙ sym (pick-false (eqb (tail r).index 0) _ _ (ne_eqb (tail r).index 0 (λ h. z (sym index ∙ h)))))

@@ -18,7 +18,7 @@ use Rattle.shares.specs.Holds.{Sized, InShare}
 use Rattle.shares.proofs.Taken.{advance-last, advance-more}
 use Rattle.shares.proofs.Says.{used-most, spent-most}
 use Rattle.ring.specs.declared.Ring.{Ring}
-use Rattle.ring.specs.Ring.{ring_of, Fitted, Ranged, used, wrapped, place, tail, at, put, advanced, purged}
+use Rattle.ring.specs.Ring.{ring_of, Fitted, Ranged, wrapped, place, tail, at, put, advanced, purged}
 use Rattle.ring.proofs.Laws.{wrapped-mod, rounds}
 
 -- all numbers of a store that is held are in their ranges

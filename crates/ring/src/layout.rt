@@ -30,6 +30,7 @@ pub struct Span {
     pub size: usize,
 }
 
+#[tactic(auto, unfolding(rules::specs::Store::block_bytes))]
 pub fn block_span(ring: Ring, words: u16, block: u16) -> Span
     requires { Fitted words ring × (block < ring.blocks) }
     ensures value { result ≡ span_of (geo words ring) block }

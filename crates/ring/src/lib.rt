@@ -25,6 +25,7 @@ pub struct Place {
 }
 
 // k modulo the number of blocks, for k < 2·blocks.
+#[tactic(auto, unfolding(crate::specs::Ring::wrapped))]
 pub fn wrapped(blocks: u16, k: u16) -> u16
     ensures { result ≡ spec.wrapped blocks k }
 {
@@ -41,6 +42,7 @@ impl Ring {
     }
 
     // The place with `before` records before it since the start of the oldest block.
+    #[tactic(auto, using(crate::proofs::Laws::place_inside), unfolding(crate::specs::Ring::place))]
     pub fn place(self, before: u16) -> Place
         requires ranged { spec.Ranged self }
         requires before_bound { before ≤ self.factor * self.blocks }
@@ -54,6 +56,7 @@ impl Ring {
     }
 
     // Where the next record goes.
+    #[tactic(auto, unfolding(crate::specs::Ring::tail))]
     pub fn tail(self) -> Place
         requires { spec.Ranged self }
         ensures value { result ≡ spec.tail self }
@@ -66,11 +69,10 @@ impl Ring {
         ensures { result ≡ spec.at self block spent held }
     {
         Ring {
-            factor: self.factor,
-            blocks: self.blocks,
             block,
             spent,
             held,
+            ..self
         }
     }
 
@@ -83,6 +85,7 @@ impl Ring {
     }
 
     // The ring without its oldest record. An emptied file goes on at the next block; else the oldest block is spent, or one more place of it is.
+    #[tactic(auto, unfolding(crate::specs::Ring::advanced))]
     pub fn advanced(self) -> Ring
         requires { spec.Ranged self }
         ensures { result ≡ spec.advanced self }
@@ -100,6 +103,7 @@ impl Ring {
     }
 
     // The ring without any record: the file goes on at the block after the last record's.
+    #[tactic(auto, unfolding(crate::specs::Ring::purged))]
     pub fn purged(self) -> Ring
         requires { spec.Ranged self }
         ensures { result ≡ spec.purged self }

@@ -8,5 +8,3 @@ use Rattle.segment.specs.Fields.{place_words, spared}
 pub length-spared : (r : PlaceRow) → length (spared (place_words r)) ≡ place_width
 unfolding place_words
 length-spared r = refl
-
--- what is written is read

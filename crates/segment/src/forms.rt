@@ -13,10 +13,7 @@ pub fn waiting_read(place: u16, unit: u16, limit: u16, keep: u16) -> Entry
         unit,
         limit,
         keep,
-        status: 0,
-        log: 0,
-        size: 0,
-        seconds: 0,
+        ..Entry::default()
     }
 }
 
@@ -27,12 +24,8 @@ pub fn waiting_write(place: u16, unit: u16, size: u16) -> Entry
     Entry {
         place,
         unit,
-        limit: 0,
-        keep: 0,
-        status: 0,
-        log: 0,
         size,
-        seconds: 0,
+        ..Entry::default()
     }
 }
 
@@ -42,13 +35,10 @@ pub fn completed_request(place: u16, status: u16, log: u16, size: u16) -> Entry
 {
     Entry {
         place,
-        unit: 0,
-        limit: 0,
-        keep: 0,
         status,
         log,
         size,
-        seconds: 0,
+        ..Entry::default()
     }
 }
 
@@ -58,12 +48,7 @@ pub fn running_timer(place: u16, seconds: u16) -> Entry
 {
     Entry {
         place,
-        unit: 0,
-        limit: 0,
-        keep: 0,
-        status: 0,
-        log: 0,
-        size: 0,
         seconds,
+        ..Entry::default()
     }
 }

@@ -1,18 +1,24 @@
 // The segment, word by word: heads and links, entries, the rows of files and of places. docs/SEGMENT.md has the picture.
 // The words may hold anything: a caller with a bad segment reads numbers and stays inside the segment.
+// Kept: the bounds of entries, files and places are clauses on numbers: a type for each would ask more of the callers, whose numbers are words and sums.
 #![tactic(auto)]
 
-ghost use Rattle.std.specs.Prelude.{◌≡◌, ◌+◌, ◌<◌, ◌≤◌, length};
+ghost use Rattle.std.specs.Prelude.{◌≡◌, ◌+◌, ◌<◌, ◌≤◌};
 ghost use Rattle.rules.specs.Limits.{files, entries};
-ghost use Rattle.segment.specs.Layout.{desk_places, link_at, data_at, data_words, file_width, place_width, file_rows, file_row_at, place_row_at, segment_words, segment_bytes};
+ghost use Rattle.segment.specs.Layout.{desk_places, link_at, data_at, data_words, file_width, place_width, file_rows, file_row_at, place_row_at, segment_words};
 ghost use Rattle.segment.specs.Table.{nth, put_nth, row, fill, put_data};
 ghost use Rattle.segment.specs.Fields.{entry_words, file_words, place_words, entry_at, file_at, place_at};
 
+mod conversions;
 pub mod forms;
 pub mod layout;
 
+// The segment's bytes.
+pub type Segment = [u8; layout::SEGMENT_BYTES];
+
 // The data of an entry: of a waiting or completed request, or of a timer, which has only a place and seconds.
-#[derive(Clone, Copy)]
+// Kept: the fields are words, here and in the rows, and no enums or bools: `read_entry` and its like promise what stands in any memory, sound or not.
+#[derive(Clone, Copy, Default)]
 pub struct Entry {
     // 8 × file + accessor
     pub place: u16,
@@ -27,7 +33,7 @@ pub struct Entry {
 }
 
 // The row of a file: R, B and D; the oldest block, the records spent in it, and the records held.
-#[derive(Clone, Copy)]
+#[derive(Clone, Copy, Default)]
 pub struct FileRow {
     pub words: u16,
     pub factor: u16,
@@ -38,7 +44,7 @@ pub struct FileRow {
 }
 
 // The row of an accessor place.
-#[derive(Clone, Copy)]
+#[derive(Clone, Copy, Default)]
 pub struct PlaceRow {
     // 0 not open, 1 a reader, 2 a writer
     pub side: u16,
@@ -52,46 +58,42 @@ pub struct PlaceRow {
 }
 
 // Word k of the segment.
-pub fn get(s: &[u8], k: usize) -> u16
-    requires s_len { length s.now ≡ segment_bytes }
-    requires k_lt_segment_words { k < segment_words }
+#[tactic(auto, unfolding(crate::specs::Table::nth))]
+pub fn get(s: &Segment, k: usize) -> u16
+    requires { k < segment_words }
     ensures { result ≡ nth s.now k }
 {
     words::get(s, 2 * k)
 }
 
 // Stores v as word k.
-pub fn put(s: &mut [u8], k: usize, v: u16)
-    requires s_len { length s.old ≡ segment_bytes }
-    requires k_lt_segment_words { k < segment_words }
+#[tactic(auto, unfolding(crate::specs::Table::put_nth))]
+pub fn put(s: &mut Segment, k: usize, v: u16)
+    requires { k < segment_words }
     ensures { s.new ≡ put_nth s.old k v }
 {
     words::put(s, 2 * k, v);
 }
 
-// Fills vs with the words of the segment, starting at word k.
-fn get_row(s: &[u8], k: usize, vs: &mut [u16])
-    requires s_len { length s.now ≡ segment_bytes }
-    requires vs_bound { k + length vs.old ≤ segment_words }
-    ensures { vs.new ≡ row s.now k (length vs.old) }
+// The N words of the segment that begin with word k.
+fn get_row<const N: usize>(s: &Segment, k: usize) -> [u16; N]
+    requires { k + N ≤ segment_words }
+    ensures { result ≡ row s.now k N }
 {
-    let mut i = 0;
-    while i < vs.len() {
-        vs[i] = get(s, k + i);
-        i += 1;
+    let mut vs = [0; N];
+    for (i, v) in vs.iter_mut().enumerate() {
+        *v = get(s, k + i);
     }
+    vs
 }
 
 // Stores the words vs, starting at word k.
-fn put_row(s: &mut [u8], k: usize, vs: &[u16])
-    requires s_len { length s.old ≡ segment_bytes }
-    requires vs_bound { k + length vs.now ≤ segment_words }
-    ensures { s.new ≡ fill s.old k vs.now }
+fn put_row<const N: usize>(s: &mut Segment, k: usize, vs: [u16; N])
+    requires { k + N ≤ segment_words }
+    ensures { s.new ≡ fill s.old k vs.entry }
 {
-    let mut i = 0;
-    while i < vs.len() {
-        put(s, k + i, vs[i]);
-        i += 1;
+    for (i, v) in vs.iter().enumerate() {
+        put(s, k + i, *v);
     }
 }
 
@@ -128,147 +130,101 @@ fn place_at(i: usize) -> usize
 }
 
 // Reads entry e's data.
-pub fn read_entry(s: &[u8], e: u16) -> Entry
-    requires s_len { length s.now ≡ segment_bytes }
-    requires e_lt_entries { e < entries }
+#[tactic(auto, unfolding(crate::specs::Fields::entry_at, crate::specs::Table::data_of))]
+pub fn read_entry(s: &Segment, e: u16) -> Entry
+    requires { e < entries }
     ensures { result ≡ entry_at s.now e }
 {
-    let mut w = [0u16; layout::DATA_WORDS];
-    get_row(s, data_at(e), &mut w);
-    Entry {
-        place: w[layout::ENTRY_PLACE],
-        unit: w[layout::ENTRY_UNIT],
-        limit: w[layout::ENTRY_LIMIT],
-        keep: w[layout::ENTRY_KEEP],
-        status: w[layout::ENTRY_STATUS],
-        log: w[layout::ENTRY_LOG],
-        size: w[layout::ENTRY_SIZE],
-        seconds: w[layout::ENTRY_SECONDS],
-    }
+    Entry::from(get_row(s, data_at(e)))
 }
 
 // Makes m the data of entry e.
-pub fn write_entry(s: &mut [u8], e: u16, m: Entry)
-    requires s_len { length s.old ≡ segment_bytes }
-    requires e_lt_entries { e < entries }
+#[tactic(auto, unfolding(crate::specs::Table::put_data))]
+pub fn write_entry(s: &mut Segment, e: u16, m: Entry)
+    requires { e < entries }
     ensures { s.new ≡ put_data s.old e (entry_words m) }
 {
-    let w = [
-        m.place, m.unit, m.limit, m.keep, m.status, m.log, m.size, m.seconds, 0,
-    ];
-    put_row(s, data_at(e), &w);
+    put_row(s, data_at(e), m.into());
 }
 
-// The place of entry e, read alone.
-pub fn entry_place(s: &[u8], e: u16) -> u16
-    requires s_len { length s.now ≡ segment_bytes }
-    requires e_lt_entries { e < entries }
+// The place of entry e. The compiler drops the loads of the other words, here and in the functions like it.
+pub fn entry_place(s: &Segment, e: u16) -> u16
+    requires { e < entries }
     ensures { result ≡ (entry_at s.now e).place }
 {
-    get(s, data_at(e) + layout::ENTRY_PLACE)
+    read_entry(s, e).place
 }
 
-// The seconds of entry e, read alone.
-pub fn entry_seconds(s: &[u8], e: u16) -> u16
-    requires s_len { length s.now ≡ segment_bytes }
-    requires e_lt_entries { e < entries }
+// The seconds of entry e.
+pub fn entry_seconds(s: &Segment, e: u16) -> u16
+    requires { e < entries }
     ensures { result ≡ (entry_at s.now e).seconds }
 {
-    get(s, data_at(e) + layout::ENTRY_SECONDS)
+    read_entry(s, e).seconds
 }
 
 // Reads the row of file f.
-pub fn read_file(s: &[u8], f: usize) -> FileRow
-    requires s_len { length s.now ≡ segment_bytes }
-    requires f_lt_files { f < files }
+#[tactic(auto, unfolding(crate::specs::Fields::file_at))]
+pub fn read_file(s: &Segment, f: usize) -> FileRow
+    requires { f < files }
     ensures { result ≡ file_at s.now f }
 {
-    let mut w = [0u16; layout::FILE_ROW_WORDS];
-    get_row(s, file_at(f), &mut w);
-    FileRow {
-        words: w[layout::FILE_WORDS],
-        factor: w[layout::FILE_FACTOR],
-        blocks: w[layout::FILE_BLOCKS],
-        block: w[layout::FILE_BLOCK],
-        spent: w[layout::FILE_SPENT],
-        held: w[layout::FILE_HELD],
-    }
+    FileRow::from(get_row(s, file_at(f)))
 }
 
 // Makes r the row of file f.
-pub fn write_file(s: &mut [u8], f: usize, r: FileRow)
-    requires s_len { length s.old ≡ segment_bytes }
-    requires f_lt_files { f < files }
+pub fn write_file(s: &mut Segment, f: usize, r: FileRow)
+    requires { f < files }
     ensures { s.new ≡ fill s.old (file_row_at f) (file_words r) }
 {
-    let w = [r.words, r.factor, r.blocks, r.block, r.spent, r.held, 0, 0];
-    put_row(s, file_at(f), &w);
+    put_row(s, file_at(f), r.into());
 }
 
 // Reads the row of place i.
-pub fn read_place(s: &[u8], i: usize) -> PlaceRow
-    requires s_len { length s.now ≡ segment_bytes }
-    requires i_lt_desk_places { i < desk_places }
+#[tactic(auto, unfolding(crate::specs::Fields::place_at))]
+pub fn read_place(s: &Segment, i: usize) -> PlaceRow
+    requires { i < desk_places }
     ensures { result ≡ place_at s.now i }
 {
-    let mut w = [0u16; layout::PLACE_ROW_WORDS];
-    get_row(s, place_at(i), &mut w);
-    PlaceRow {
-        side: w[layout::PLACE_SIDE],
-        id: w[layout::PLACE_ID],
-        share: w[layout::PLACE_SHARE],
-        timeout: w[layout::PLACE_TIMEOUT],
-        extended: w[layout::PLACE_EXTENDED],
-        typed: w[layout::PLACE_TYPED],
-        keep: w[layout::PLACE_KEEP],
-        first: w[layout::PLACE_FIRST],
-    }
+    PlaceRow::from(get_row(s, place_at(i)))
 }
 
-// The side of place i, read alone.
-pub fn place_side(s: &[u8], i: usize) -> u16
-    requires s_len { length s.now ≡ segment_bytes }
-    requires i_lt_desk_places { i < desk_places }
+// The side of place i.
+pub fn place_side(s: &Segment, i: usize) -> u16
+    requires { i < desk_places }
     ensures { result ≡ (place_at s.now i).side }
 {
-    get(s, place_at(i) + layout::PLACE_SIDE)
+    read_place(s, i).side
 }
 
-// The ID of place i, read alone.
-pub fn place_id(s: &[u8], i: usize) -> u16
-    requires s_len { length s.now ≡ segment_bytes }
-    requires i_lt_desk_places { i < desk_places }
+// The ID of place i.
+pub fn place_id(s: &Segment, i: usize) -> u16
+    requires { i < desk_places }
     ensures { result ≡ (place_at s.now i).id }
 {
-    get(s, place_at(i) + layout::PLACE_ID)
+    read_place(s, i).id
 }
 
-// Control 46 of place i, read alone.
-pub fn place_typed(s: &[u8], i: usize) -> u16
-    requires s_len { length s.now ≡ segment_bytes }
-    requires i_lt_desk_places { i < desk_places }
+// Control 46 of place i.
+pub fn place_typed(s: &Segment, i: usize) -> u16
+    requires { i < desk_places }
     ensures { result ≡ (place_at s.now i).typed }
 {
-    get(s, place_at(i) + layout::PLACE_TYPED)
+    read_place(s, i).typed
 }
 
-// Control 47 of place i, read alone.
-pub fn place_keep(s: &[u8], i: usize) -> u16
-    requires s_len { length s.now ≡ segment_bytes }
-    requires i_lt_desk_places { i < desk_places }
+// Control 47 of place i.
+pub fn place_keep(s: &Segment, i: usize) -> u16
+    requires { i < desk_places }
     ensures { result ≡ (place_at s.now i).keep }
 {
-    get(s, place_at(i) + layout::PLACE_KEEP)
+    read_place(s, i).keep
 }
 
 // Makes r the row of place i.
-pub fn write_place(s: &mut [u8], i: usize, r: PlaceRow)
-    requires s_len { length s.old ≡ segment_bytes }
-    requires i_lt_desk_places { i < desk_places }
+pub fn write_place(s: &mut Segment, i: usize, r: PlaceRow)
+    requires { i < desk_places }
     ensures { s.new ≡ fill s.old (place_row_at i) (place_words r) }
 {
-    let w = [
-        r.side, r.id, r.share, r.timeout, r.extended, r.typed, r.keep, r.first,
-    ];
-    put_row(s, place_at(i), &w);
+    put_row(s, place_at(i), r.into());
 }

@@ -3,11 +3,10 @@ use Prim.Native.Nat.{ℕ, ◌+◌, ◌-◌, ◌*◌, ◌≤◌, ◌<◌}
 use mathlib.Core.Path.{◌≡◌, ap, sym, ◌∙◌}
 use mathlib.Core.List.{List, [], ◌∷◌, ◌++◌}
 use native.Mathlib.Omega.{arith}
-use native.Mathlib.Numerals.{add-one}
 use borrow.Author.Tests.{leb-true, leb-false, lt-leb}
 use lib.Dec.{leb}
-use lib.ListN.{length, set, take, drop, length-append, length-drop}
-use lib.Seq.{sets, sets-eq, length-take-le, take_all, take-suc-set, take-append-le, take-take, take_at}
+use lib.ListN.{length, take, drop, length-append, length-drop}
+use lib.Seq.{sets, sets-eq, length-take-le, take_all, take-append-le, take-take, take_at}
 use Rattle.rules.specs.Limits.{line_bytes}
 use Rattle.rules.specs.Line.{is_line, line_frame, frame_in}
 use Rattle.rules.proofs.Split.{by_cases}
@@ -19,18 +18,6 @@ filled_more out vs used r e h =
     let first = length-take-le used out (omega arith) in
     let whole : length (take used out ++ vs) ≡ r = omega (arith, e, first, length-append (take used out) vs) in
     ap (take r) (sets-eq vs out used h) ∙ take_at (take used out ++ vs) (drop (used + length vs) out) r whole
-
--- a byte is stored after the n that are held
-pub held_more : (line : List ℕ) (n m b : ℕ) → length line ≡ m → n < m → take (n + 1) (set line n b) ≡ take m (take n line ++ (b ∷ []))
-held_more line n m b l h =
-    let size : length (take n line ++ (b ∷ [])) ≡ n + 1 = omega (arith, length-append (take n line) (b ∷ []), length-take-le n line (omega arith)) in
-    rw (add-one n) (take-suc-set line n b (omega arith) ∙ sym (take_all m (take n line ++ (b ∷ [])) (omega arith)))
-
--- m are held: the next is not
-pub held-most : (line : List ℕ) (n m b : ℕ) → length line ≡ m → n ≤ m → m ≤ n → take n line ≡ take m (take n line ++ (b ∷ []))
-held-most line n m b l h k =
-    let size = length-take-le n line (omega arith) in
-    sym (take-append-le m (take n line) (b ∷ []) (omega arith) ∙ take_all m (take n line) (omega arith))
 
 pub kept_more : (p : List ℕ) (m b : ℕ) → take m (take m p ++ (b ∷ [])) ≡ take m (p ++ (b ∷ []))
 kept_more p m b =

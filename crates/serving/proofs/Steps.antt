@@ -17,7 +17,7 @@ use Rattle.rules.proofs.Split.{by_cases, pick_true, pick-false}
 use Rattle.hexadecimal.proofs.Trip.{length_digits}
 use Rattle.promises.proofs.Events.{event-says}
 use Rattle.lines.specs.Asked.{answer_line, Gives, Asked}
-use Rattle.lines.proofs.Parts.{front, put_first}
+use Rattle.lines.proofs.Parts.{put_first}
 use Rattle.serving.specs.Going.{most_held, Going, line_ends, byte, goes, ends, written, Printed, At}
 use Rattle.serving.proofs.Parts.{filled_more, kept_more, frame-kept, some-held, none-held}
 use Rattle.memory.specs.Memories.{Memories}
@@ -47,8 +47,8 @@ line-answered g m line out m' out' used r a h k e p =
     }
 
 -- the line that is held says what the whole line says
-pub frame-held : (g : Going) (ms : Memories) (line out : List ℕ) (n m : ℕ) → At g ms line out n m → line_frame (take (n - 0) line) ≡ line_frame g.part
-frame-held g ms line out n m a = ap line_frame (front n line ∙ a.held) ∙ frame-kept g.part
+pub frame-held : (g : Going) (ms : Memories) (line out : List ℕ) (n m : ℕ) → At g ms line out n m → line_frame (take n line) ≡ line_frame g.part
+frame-held g ms line out n m a = ap line_frame a.held ∙ frame-kept g.part
 
 pub byte-line : (g : Going) (b : ℕ) → b ≡ 10 → byte g b ≡ line_ends g
 unfolding byte

@@ -1,6 +1,6 @@
 -- What is printed of a text is what is printed of its parts, one after the other.
 use Rattle.std.proofs.Common.{Bool, true, false, Option}
-use Prim.Native.Nat.{ℕ, ◌+◌, ◌-◌, ◌≤◌, ◌<◌}
+use Prim.Native.Nat.{ℕ, ◌+◌, ◌-◌, ◌<◌}
 use mathlib.Core.Path.{◌≡◌, refl, ap, sym, ◌∙◌, subst}
 use mathlib.Core.Bool.{true≢false}
 use mathlib.Core.List.{List, [], ◌∷◌, ◌++◌, append_assoc, append-nil}
@@ -13,7 +13,6 @@ use Rattle.std.proofs.KnownBytes.{Appends-nil, Appends-trans, Consumes-nil, Cons
 use Rattle.rules.proofs.Split.{by_cases, pick_true, pick-false}
 use Rattle.memory.specs.Memories.{Memories}
 use Rattle.memory.specs.Fine.{StandsFor}
-use Rattle.lines.proofs.Parts.{front}
 use Rattle.rules.specs.Desk.{Desk}
 use Rattle.rules.specs.Allocation.{Alloc}
 use Rattle.serving.specs.Going.{Going, begun, line_ends, byte, goes, ends, written, Printed, At}
@@ -122,23 +121,18 @@ said-none w true g = subst (λ (x : List ℕ). Appends w w x) (sym (answers-none
 said-none w false g = Appends-nil w
 
 -- a piece more of a chunk was taken, and its output written
-pub piece-said : (w w' w'' : Option (List ℕ)) (aloud : Bool) (g : Going) (l : List ℕ) (ms : Memories) (line out : List ℕ) (i k n m : ℕ)
-    → At (goes (written (goes g (take i l))) (take k (take (length l - i) (drop i l)))) ms line out n m
-    → Appends w w' (said aloud (answers g (take i l))) → Appends w' w'' (said aloud (take (m - 0) out))
+pub piece-said : (w w' w'' : Option (List ℕ)) (aloud : Bool) (g : Going) (l : List ℕ) (ms : Memories) (line out filled : List ℕ) (i k n m : ℕ)
+    → At (goes (written (goes g (take i l))) (take k (take (length l - i) (drop i l)))) ms line out n m → filled ≡ take m out
+    → Appends w w' (said aloud (answers g (take i l))) → Appends w' w'' (said aloud filled)
     → Appends w w'' (said aloud (answers g (take (i + k) l)))
 unfolding answers
-piece-said w w' w'' aloud g l ms line out i k n m a p q =
+piece-said w w' w'' aloud g l ms line out filled i k n m a e p q =
     let rest : take (length l - i) (drop i l) ≡ drop i l = take_all (length l - i) (drop i l) (omega (arith, length-drop i l)) in
-    let piece : take (m - 0) out ≡ answers (goes g (take i l)) (take k (drop i l)) =
-    front m out ∙ a.printed.filled ∙ ap (λ (x : List ℕ). answers (goes g (take i l)) (take k x)) rest in
-    said-more w w' w'' aloud (answers g (take i l)) (take (m - 0) out) (answers g (take (i + k) l))
+    let piece : filled ≡ answers (goes g (take i l)) (take k (drop i l)) =
+    e ∙ a.printed.filled ∙ ap (λ (x : List ℕ). answers (goes g (take i l)) (take k x)) rest in
+    said-more w w' w'' aloud (answers g (take i l)) filled (answers g (take (i + k) l))
     (ap (answers g) (take-add i k l) ∙ answers-append g (take i l) (take k (drop i l)) ∙ ap (λ (x : List ℕ). answers g (take i l) ++ x) (sym piece))
     p q
-
--- the whole of a chunk was taken
-pub chunk-said : (w w' : Option (List ℕ)) (aloud : Bool) (g : Going) (l : List ℕ) (i : ℕ) → length l ≤ i
-    → Appends w w' (said aloud (answers g (take i l))) → Appends w w' (said aloud (answers g l))
-chunk-said w w' aloud g l i h = subst (λ (x : List ℕ). Appends w w' (said aloud (answers g x))) (take_all i l h)
 
 -- a desk at which nothing was read yet
 pub heard-none : (r w : Option (List ℕ)) (aloud : Bool) (g : Going) (m : Memories) (line out : List ℕ) (n : ℕ) → Consumes r r []
@@ -146,26 +140,26 @@ pub heard-none : (r w : Option (List ℕ)) (aloud : Bool) (g : Going) (m : Memor
 unfolding goes
 heard-none r w aloud g m line out n c a = record { text = []; read = c; printed = said-none w aloud g; on = a }
 
-pub begun-heard : (r w : Option (List ℕ)) (aloud : Bool) (d : Desk) (s : Alloc) (m : Memories) (line out : List ℕ) → StandsFor m d s → Heard r r w w aloud (begun d s) m line out 0
+pub begun-heard : (r w : Option (List ℕ)) (aloud : Bool) (d : Desk) (s : Alloc) (m : Memories) (line out : List ℕ) (n : ℕ) → n ≡ 0 → StandsFor m d s
+    → Heard r r w w aloud (begun d s) m line out n
 unfolding begun written
-begun-heard r w aloud d s m line out h =
-    heard-none r w aloud (begun d s) m line out 0 (Consumes-nil r) (record { printed = record { stands = h; filled = refl }; held = refl })
+begun-heard r w aloud d s m line out n e h =
+    heard-none r w aloud (begun d s) m line out n (Consumes-nil r) (record { printed = record { stands = h; filled = refl }; held = ap (λ (k : ℕ). take k line) e })
 
 -- a read that gives nothing, though there is room, finds the end
-pub none-read : (r r' : Option (List ℕ)) (n : ℕ) (chunk chunk' : List ℕ) → n ≡ 0 → 0 < length chunk → length chunk' ≡ length chunk
-    → Consumes r r' (take n chunk') × (n ≡ 0 → 0 < length chunk' → IsAtEnd r') → Consumes r r' [] × IsAtEnd r'
-none-read r r' n chunk chunk' z some same h =
-    (subst (λ (k : ℕ). Consumes r r' (take k chunk')) z h.0, h.1 z (omega (arith, some, same)))
+pub none-read : (r r' : Option (List ℕ)) (n : ℕ) (chunk : List ℕ) → n ≡ 0 → 0 < length chunk
+    → Consumes r r' (take n chunk) × (n ≡ 0 → 0 < length chunk → IsAtEnd r') → Consumes r r' [] × IsAtEnd r'
+none-read r r' n chunk z some h = (subst (λ (k : ℕ). Consumes r r' (take k chunk)) z h.0, h.1 z some)
 
 -- the input ends where nothing more is read
-pub told-end : (r r' w w' : Option (List ℕ)) (aloud : Bool) (g : Going) (m : Memories) (out : List ℕ) (n : ℕ) → Consumes r r' [] → IsAtEnd r'
-    → Printed (ends (written g)) m out n → Appends w w' (said aloud (take (n - 0) out)) → Told r r' w w' aloud g m
+pub told-end : (r r' w w' : Option (List ℕ)) (aloud : Bool) (g : Going) (m : Memories) (out filled : List ℕ) (n : ℕ) → Consumes r r' [] → IsAtEnd r'
+    → Printed (ends (written g)) m out n → filled ≡ take n out → Appends w w' (said aloud filled) → Told r r' w w' aloud g m
 unfolding all_answers goes
-told-end r r' w w' aloud g m out n c e p q = record {
+told-end r r' w w' aloud g m out filled n c e p f q = record {
   text = [];
   read = c;
   end = e;
-  printed = subst (λ (x : List ℕ). Appends w w' (said aloud x)) (front n out ∙ p.filled) q;
+  printed = subst (λ (x : List ℕ). Appends w w' (said aloud x)) (f ∙ p.filled) q;
   stands = ends-stands g m p.stands;
 }
 

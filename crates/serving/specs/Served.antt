@@ -1,21 +1,15 @@
 -- The desk after a text that was read is served. Nothing is known of the text, except that there was one.
-use Rattle.std.specs.Prelude.{◌≡◌, Bool, true, false, List, ℕ}
+use Rattle.std.specs.Prelude.{◌≡◌, false, List, ℕ}
 use Rattle.rules.specs.Desk.{Desk}
 use Rattle.rules.specs.Allocation.{Alloc}
 use Rattle.memory.specs.Memories.{Memories}
 use Rattle.memory.specs.Fine.{StandsFor}
 use Rattle.sound.specs.Sound.{soundly}
-use Rattle.serving.specs.Going.{Going, begun, goes, written, At}
+use Rattle.serving.specs.Going.{Going, begun, goes}
 
 -- the memories stand for the desk after some text
 abbrev pub Behind : Going → Memories → Type 0
 Behind g m = (t : List ℕ) × StandsFor m (goes g t).desk (goes g t).alloc
-
--- the memories stand for the desk after some text; if more is to be read, the line that has not ended is held
-pub record Turned (g : Going) (m : Memories) (line out : List ℕ) (n : ℕ) (more : Bool) : Type 0 where
-  pub text : List ℕ
-  pub stands : StandsFor m (goes g text).desk (goes g text).alloc
-  pub on : more ≡ true → At (written (goes g text)) m line out n 0
 
 -- memories that stood for a desk stand for the desk after the frames of some text
 abbrev pub Served : Memories → Memories → Type 0

@@ -1,11 +1,10 @@
 // The calls that a line in digits makes on the desk.
-ghost use Rattle.std.specs.Prelude.{◌≤◌, length};
-
-use crate::judging::{Played, asked_end, begin, end, judge, judge_status};
-use crate::text::{first, number, put, put_replaced, within};
+use crate::judging::{Session, begin, end, judge, parts};
+use crate::text::{from, number, put_replaced};
 use hexadecimal::LF;
-use kinds::limits::{ANSWER_ROOM, BLOCKS_BYTES, BUFFERS_BYTES, RECORD_ROOM};
-use lines::answer_line;
+use kinds::limits::{BLOCKS_BYTES, BUFFERS_BYTES, RECORD_ROOM};
+use kinds::refusals;
+use lines::{ANSWER_LINE, Filled, answer_line};
 use loading::load;
 use looking::{look, look_status};
 use saving::{SHEET_ROOM, save};
@@ -22,108 +21,78 @@ const SHEET: usize = 4;
 // The digits of the bytes that look shows.
 const SHOWN: usize = 2 * RECORD_ROOM;
 
-// The digits of the longest answer, and LF.
-const ANSWER_LINE: usize = 2 * ANSWER_ROOM + 1;
+// Room for the two digits of a status, a space and a sheet.
+const TOLD: usize = 2 + 1 + SHEET_ROOM;
 
-// Returns the length of a text without its last LF.
-fn without_last(n: usize) -> usize {
-    if n == 0 {
-        return 0;
+// Tells a status, and after a space what is given, lines as words.
+fn tell_status(told: &mut Filled<TOLD>, status: u8, given: &[u8]) {
+    let _ = write!(told, "{status:02X}");
+    if !given.is_empty() {
+        told.push(b' ');
+        put_replaced(told, given, LF, b' ');
     }
-    n - 1
 }
 
 // Saves, `? FILE`: the frames of the sheet are given.
-fn call_save<O: Write>(
-    output: &mut O,
-    segment: &[u8],
-    blocks: &[u8],
-    buffers: &[u8],
-    line: &[u8],
-    at: Played,
-) -> Played {
+fn call_save(segment: &[u8], blocks: &[u8], buffers: &[u8], line: &[u8], told: &mut Filled<TOLD>) {
     let mut sheet = [0u8; SHEET_ROOM];
-    let saved = save(segment, blocks, buffers, number(line, FILE), &mut sheet);
-    judge_status(
-        output,
-        line,
-        saved.status,
-        &sheet,
-        without_last(saved.length),
-        at,
-    )
+    let saved = save(
+        segment,
+        blocks,
+        buffers,
+        number(from(line, FILE)),
+        &mut sheet,
+    );
+    match saved {
+        Ok(n) => tell_status(told, 0, &sheet[..n.saturating_sub(1)]),
+        Err(refusal) => tell_status(told, refusal.number(), &[]),
+    }
 }
 
 // Looks, `@ FILE READER`: the bytes shown are given.
-fn call_look<'a, O: Write>(
-    output: &mut O,
-    segment: &[u8],
-    blocks: &'a [u8],
-    buffers: &'a [u8],
-    line: &[u8],
-    at: Played,
-) -> Played {
+fn call_look(segment: &[u8], blocks: &[u8], buffers: &[u8], line: &[u8], told: &mut Filled<TOLD>) {
     let mut shown = [0u8; SHOWN];
-    let file = number(line, FILE);
-    let reader = number(line, READER);
-    let part = look(segment, blocks, buffers, file, reader);
-    let n = hexadecimal::encode(part, &mut shown);
-    let status = look_status(segment, blocks, buffers, file, reader);
-    judge_status(output, line, status, &shown, n, at)
-}
-
-// Writes the sheet whose frames stand in what is asked; returns where it ends.
-fn put_sheet(asked: &[u8], out: &mut [u8]) -> usize
-    ensures { result ≤ length out.old }
-{
-    let from = within(asked, SHEET);
-    let last = put_replaced(out, 0, &asked[from..], b' ', LF);
-    let end = put(out, last, LF);
-    within(out, end)
+    let file = number(from(line, FILE));
+    let reader = number(from(line, READER));
+    let n = hexadecimal::encode(look(segment, blocks, buffers, file, reader), &mut shown);
+    let status = refusals::status(look_status(segment, blocks, buffers, file, reader));
+    tell_status(told, status, &shown[..n]);
 }
 
 // Loads, `+ FILE FRAME ..`: nothing is given.
-fn call_load<O: Write>(
-    output: &mut O,
+fn call_load(
     segment: &mut [u8; SEGMENT_BYTES],
     blocks: &mut [u8; BLOCKS_BYTES],
     buffers: &mut [u8; BUFFERS_BYTES],
     line: &[u8],
-    at: Played,
-) -> Played {
-    let mut sheet = [0u8; SHEET_ROOM];
-    let asked = asked_end(line);
-    let n = put_sheet(&line[0..asked], &mut sheet);
-    let status = load(segment, blocks, buffers, number(line, FILE), &sheet[0..n]);
-    judge_status(output, line, status, &sheet, 0, at)
+    told: &mut Filled<TOLD>,
+) {
+    let (asked, _) = parts(line);
+    let mut sheet = Filled::<SHEET_ROOM>::new();
+    put_replaced(&mut sheet, from(asked, SHEET), b' ', LF);
+    sheet.push(LF);
+    let loaded = load(
+        segment,
+        blocks,
+        buffers,
+        number(from(line, FILE)),
+        sheet.as_slice(),
+    );
+    tell_status(told, refusals::status(loaded), &[]);
 }
 
-// Asks an event.
-fn call_event<O: Write>(
-    output: &mut O,
+// Asks an event: its answer is told.
+fn call_event(
     segment: &mut [u8; SEGMENT_BYTES],
     blocks: &mut [u8; BLOCKS_BYTES],
     buffers: &mut [u8; BUFFERS_BYTES],
     line: &[u8],
-    at: Played,
-) -> Played {
-    let mut told = [0u8; ANSWER_LINE];
-    let asked = asked_end(line);
-    let end = answer_line(segment, blocks, buffers, &line[0..asked], &mut told, 0);
-    judge(output, line, &told, end - 1, at)
-}
-
-// Begins a session on a fresh desk, `= NAME`.
-fn call_fresh<O: Write>(
-    output: &mut O,
-    segment: &mut [u8; SEGMENT_BYTES],
-    blocks: &mut [u8; BLOCKS_BYTES],
-    buffers: &mut [u8; BUFFERS_BYTES],
-    line: &[u8],
-    at: Played,
-) -> Played {
-    fresh::fresh(segment, blocks, buffers);
-    begin(output, line, at)
+    told: &mut Filled<TOLD>,
+) {
+    let (asked, _) = parts(line);
+    let mut answer = [0u8; ANSWER_LINE];
+    let end = answer_line(segment, blocks, buffers, asked, &mut answer, 0);
+    let _ = told.write_all(&answer[..end - 1]);
 }
 
 // Asks what a line in digits asks, by its first byte.
@@ -133,15 +102,20 @@ pub fn call<O: Write>(
     blocks: &mut [u8; BLOCKS_BYTES],
     buffers: &mut [u8; BUFFERS_BYTES],
     line: &[u8],
-    at: Played,
-) -> Played {
-    match first(line) {
-        0 => end(output, at),
-        b'-' => at,
-        b'=' => call_fresh(output, segment, blocks, buffers, line, at),
-        b'?' => call_save(output, segment, blocks, buffers, line, at),
-        b'+' => call_load(output, segment, blocks, buffers, line, at),
-        b'@' => call_look(output, segment, blocks, buffers, line, at),
-        _ => call_event(output, segment, blocks, buffers, line, at),
+    session: Session,
+) -> Session {
+    let mut told = Filled::new();
+    match line.first() {
+        None | Some(0) => return end(output, session),
+        Some(b'-') => return session,
+        Some(b'=') => {
+            let _ = fresh::fresh(segment, blocks, buffers);
+            return begin(output, line, session);
+        }
+        Some(b'?') => call_save(segment, blocks, buffers, line, &mut told),
+        Some(b'+') => call_load(segment, blocks, buffers, line, &mut told),
+        Some(b'@') => call_look(segment, blocks, buffers, line, &mut told),
+        Some(_) => call_event(segment, blocks, buffers, line, &mut told),
     }
+    judge(output, line, told.as_slice(), session)
 }

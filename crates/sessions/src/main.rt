@@ -15,16 +15,9 @@ use streams::read_full;
 // Room for the text: about twice what it has.
 const TEXT_BYTES: usize = 65536;
 
-// Returns whether the input ends where the text that was read ends. If it does not, says so.
-fn ended<I: Read, O: Write>(input: &mut I, output: &mut O) -> bool {
-    let mut next = [0u8; 1];
-    if let Ok(0) = input.read(&mut next) {
-        return true;
-    }
-    let _ = output.write_all(
-        b"the text is not read to its end: a read failed, or there is no room for it\n",
-    );
-    false
+// Whether the input ends here.
+fn ended<I: Read>(input: &mut I) -> bool {
+    matches!(input.read(&mut [0]), Ok(0))
 }
 
 fn main(rt: HostRuntime) {
@@ -32,7 +25,11 @@ fn main(rt: HostRuntime) {
     let mut output = rt.stdout();
     let mut text = [0u8; TEXT_BYTES];
     let n = read_full(&mut input, &mut text);
-    if ended(&mut input, &mut output) {
-        play(&mut output, &text[0..n]);
+    if ended(&mut input) {
+        play(&mut output, &text[..n]);
+    } else {
+        let _ = output.write_all(
+            b"the text is not read to its end: a read failed, or there is no room for it\n",
+        );
     }
 }

@@ -8,71 +8,30 @@
 //     @ FILE READER=STATUS BYTES     look: the status, and the bytes shown
 // and an empty line, which ends the session. FILE and READER are one digit.
 use crate::calls::call;
-use crate::judging::{Played, end};
-use crate::spelling::{SPELT, spell};
-use crate::text::{after, find};
+use crate::judging::{Session, end};
+use crate::spelling::spell;
 use hexadecimal::LF;
 use kinds::limits::{BLOCKS_BYTES, BUFFERS_BYTES};
 use segment::layout::SEGMENT_BYTES;
 use std::io::Write;
-
-// Plays one line; returns how its session goes.
-fn play_line<O: Write>(
-    output: &mut O,
-    segment: &mut [u8; SEGMENT_BYTES],
-    blocks: &mut [u8; BLOCKS_BYTES],
-    buffers: &mut [u8; BUFFERS_BYTES],
-    forms: &[u8],
-    line: &[u8],
-    at: Played,
-) -> Played {
-    let mut spelt = [0u8; SPELT];
-    let n = spell(forms, line, &mut spelt);
-    call(output, segment, blocks, buffers, &spelt[0..n], at)
-}
-
-// Plays the lines of all sessions.
-fn play_lines<O: Write>(
-    output: &mut O,
-    segment: &mut [u8; SEGMENT_BYTES],
-    blocks: &mut [u8; BLOCKS_BYTES],
-    buffers: &mut [u8; BUFFERS_BYTES],
-    forms: &[u8],
-    lines: &[u8],
-) {
-    let mut at = Played {
-        begun: false,
-        well: true,
-    };
-    let mut from = 0;
-    while from < lines.len() {
-        let to = find(lines, from, LF);
-        at = play_line(
-            output,
-            segment,
-            blocks,
-            buffers,
-            forms,
-            &lines[from..to],
-            at,
-        );
-        from = after(lines, to);
-    }
-    end(output, at);
-}
 
 // Plays the sessions of a text.
 pub fn play<O: Write>(output: &mut O, text: &[u8]) {
     let mut segment = [0u8; SEGMENT_BYTES];
     let mut blocks = [0u8; BLOCKS_BYTES];
     let mut buffers = [0u8; BUFFERS_BYTES];
-    let head = find(text, 0, b'=');
-    play_lines(
-        output,
-        &mut segment,
-        &mut blocks,
-        &mut buffers,
-        &text[0..head],
-        &text[head..],
-    );
+    let head = text.iter().position(|b| *b == b'=').unwrap_or(text.len());
+    let (forms, lines) = text.split_at(head);
+    let mut session = Session::Over;
+    for line in lines.split(|b| *b == LF) {
+        session = call(
+            output,
+            &mut segment,
+            &mut blocks,
+            &mut buffers,
+            spell(forms, line).as_slice(),
+            session,
+        );
+    }
+    end(output, session);
 }

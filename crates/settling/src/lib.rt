@@ -2,8 +2,7 @@
 // The file is in hand. The settled file is handed back or put into its row. The memories are those of a call in its midst.
 #![tactic(auto)]
 
-ghost use Rattle.std.specs.Prelude.{◌≡◌, ◌<◌, ltb, length};
-ghost use Rattle.segment.specs.Layout.{segment_bytes};
+ghost use Rattle.std.specs.Prelude.{◌≡◌, ◌<◌, ltb};
 ghost use Rattle.rules.specs.Limits.{files};
 ghost use Rattle.rules.specs.State.{Built};
 ghost use Rattle.rules.specs.Settle.{settle};
@@ -18,17 +17,21 @@ mod readers;
 mod writers;
 
 use accessors::sides::count_side;
+use kinds::memories::{Blocks, Buffers};
 use kinds::sides::WRITER;
 use kinds::statuses;
 use midst::{File, put_file, put_ring};
 use readers::serve_reader;
-use segment::layout;
+use segment::{Segment, layout};
+use words::bytes::known;
 use writers::serve_writer;
 
 // The status of a request that was served.
+// Kept: a status is a word in an entry and a byte in an answer, and the one number serves for both.
 const DONE: u16 = statuses::DONE as u16;
 
 // The result of one turn: whether a request was served, and the file after it.
+// Kept: the file is handed back in both cases, since records may have gone from it though nobody was served.
 #[derive(Clone, Copy)]
 pub struct Turn {
     pub moved: bool,
@@ -37,9 +40,9 @@ pub struct Turn {
 
 // Settles the file and hands it back. No turn changes how many writers are open, so they are counted once, before the loop.
 pub fn settle(
-    segment: &mut [u8],
-    blocks: &mut [u8],
-    buffers: &mut [u8],
+    segment: &mut Segment,
+    blocks: &mut Blocks,
+    buffers: &mut Buffers,
     f: usize,
     from: File,
     writers: u16,
@@ -66,9 +69,9 @@ pub fn settle(
 
 // Settles the file and writes it back into its row. A caller that uses this in place of `conclude` has counted the open writers.
 pub fn settle_back(
-    segment: &mut [u8],
-    blocks: &mut [u8],
-    buffers: &mut [u8],
+    segment: &mut Segment,
+    blocks: &mut Blocks,
+    buffers: &mut Buffers,
     f: usize,
     file: File,
     writers: u16,
@@ -78,12 +81,21 @@ pub fn settle_back(
 {
     let settled = settle(segment, blocks, buffers, f, file, writers);
     put_file(segment, f, settled);
+    known(segment);
+    known(blocks);
+    known(buffers);
 }
 
 // Ends a call that has acted: settles the file and writes its row. Most often nobody waits, and the file is written as it is. `settle_back` has several callers so
 // that the compiler keeps it out of line: the common path then does not save the settling loop's registers.
 // The open writers are counted only if a writer waits: nothing else needs them.
-pub fn conclude(segment: &mut [u8], blocks: &mut [u8], buffers: &mut [u8], f: usize, file: File)
+pub fn conclude(
+    segment: &mut Segment,
+    blocks: &mut Blocks,
+    buffers: &mut Buffers,
+    f: usize,
+    file: File,
+)
     requires { Amid f (lent segment.old blocks.old buffers.old) file }
     ensures { Settles f (was segment.old blocks.old buffers.old) file (left segment.new blocks.new buffers.new) }
 {
@@ -97,15 +109,16 @@ pub fn conclude(segment: &mut [u8], blocks: &mut [u8], buffers: &mut [u8], f: us
         return;
     }
     put_file(segment, f, file);
+    known(segment);
 }
 
 // Ends a read or a write that was served at once, as `conclude` does. The file's row is still as the call found it, so if nobody waits, as most often, only the three
 // ring words are written. `conclude` has other callers too, so that the compiler keeps it out of line and inlines this function: its callers then do not save the settling
 // loop's registers.
 pub fn quick_conclude(
-    segment: &mut [u8],
-    blocks: &mut [u8],
-    buffers: &mut [u8],
+    segment: &mut Segment,
+    blocks: &mut Blocks,
+    buffers: &mut Buffers,
     f: usize,
     file: File,
 )
@@ -115,6 +128,7 @@ pub fn quick_conclude(
     if segment::get(segment, layout::READ_QUEUES + f) >= layout::ENTRIES {
         if segment::get(segment, layout::WRITE_QUEUES + f) >= layout::ENTRIES {
             put_ring(segment, f, file);
+            known(segment);
             return;
         }
     }
@@ -122,8 +136,8 @@ pub fn quick_conclude(
 }
 
 // Whether a writer is open. If one waits, one is; W is then counted by settling.
-pub fn has_writer(segment: &[u8], f: usize) -> bool
-    requires { (length segment.now ≡ segment_bytes) × (f < files) × Counts f segment.now }
+pub fn has_writer(segment: &Segment, f: usize) -> bool
+    requires { (f < files) × Counts f segment.now }
     ensures { result ≡ ltb 0 (count_side segment.now f 2) }
 {
     if segment::get(segment, layout::WRITE_QUEUES + f) < layout::ENTRIES {

@@ -1,14 +1,13 @@
 // Serves the first waiting reader.
 ghost use Rattle.std.specs.Prelude.{◌≡◌, ◌*◌, ◌≤◌, ◌<◌, length};
 ghost use Rattle.std.proofs.lemmas.List.Edits.{sets};
-ghost use Rattle.segment.specs.Layout.{segment_bytes, read_queue, desk_places};
+ghost use Rattle.segment.specs.Layout.{read_queue, desk_places};
 ghost use Rattle.segment.specs.Table.{nth};
 ghost use Rattle.rules.specs.Limits.{files, entries, buffer_bytes};
 ghost use Rattle.rules.specs.State.{Built};
 ghost use Rattle.rules.specs.Settle.{handed, serve_reader, at_head};
 ghost use Rattle.requests.specs.Moves.{completed};
 ghost use Rattle.rules.specs.Buffers.{filled};
-ghost use Rattle.buffers.specs.Buffer.{buffers_bytes};
 ghost use Rattle.memory.specs.Memories.{memories, lent, was};
 ghost use Rattle.memory.specs.Fine.{Fine};
 ghost use Rattle.midst.specs.Mid.{Start, Mid};
@@ -16,16 +15,18 @@ ghost use Rattle.settling.specs.Turns.{Amid, Served, read_words};
 
 use crate::{DONE, Turn};
 use blocks::by_file::share;
+use kinds::memories::{Blocks, Buffers};
 use midst::File;
 use records::fetch::handed;
 use segment::forms::completed_request;
-use segment::{Entry, layout};
+use segment::{Entry, Segment, layout};
 use store::fetch;
 use transfer_counts::log_of;
 
 // Hands the bytes to the waiting read m, the first of its queue, and completes it.
-fn hand_over(segment: &mut [u8], buffers: &mut [u8], f: usize, m: Entry, bytes: &[u8])
-    requires segment_len { (length segment.old ≡ segment_bytes) × (length buffers.old ≡ buffers_bytes) × (f < files) }
+#[tactic(auto, unfolding(crate::specs::Turns::read_words, segment::specs::Fields::entry_words))]
+fn hand_over(segment: &mut Segment, buffers: &mut Buffers, f: usize, m: Entry, bytes: &[u8])
+    requires f_lt_files { f < files }
     requires place_lt_desk_places { (m.place < desk_places) × (length bytes.now ≤ buffer_bytes) × (nth segment.old (read_queue f) < entries) }
     ensures segment { segment.new ≡ completed segment.old (read_queue f) m.place (read_words m (length bytes.now)) }
     ensures buffers { buffers.new ≡ sets buffers.old (buffer_bytes * m.place) (filled bytes.now) }
@@ -38,9 +39,9 @@ fn hand_over(segment: &mut [u8], buffers: &mut [u8], f: usize, m: Entry, bytes: 
 
 // Gives the first waiting reader its record, if there is one for it.
 pub fn serve_reader(
-    segment: &mut [u8],
-    blocks: &[u8],
-    buffers: &mut [u8],
+    segment: &mut Segment,
+    blocks: &Blocks,
+    buffers: &mut Buffers,
     f: usize,
     file: File,
 ) -> Turn

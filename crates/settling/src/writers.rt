@@ -1,6 +1,6 @@
 // Serves the first waiting writer.
 ghost use Rattle.std.specs.Prelude.{◌≡◌, ◌≤◌, ◌<◌, length};
-ghost use Rattle.segment.specs.Layout.{segment_bytes, write_queue, desk_places};
+ghost use Rattle.segment.specs.Layout.{write_queue, desk_places};
 ghost use Rattle.segment.specs.Table.{nth};
 ghost use Rattle.rules.specs.Limits.{files, entries, buffer_bytes};
 ghost use Rattle.rules.specs.State.{Built};
@@ -9,8 +9,7 @@ ghost use Rattle.rules.specs.Settle.{serve_writer, at_head};
 ghost use Rattle.rules.specs.Memories.{share_at};
 ghost use Rattle.requests.specs.Moves.{completed};
 ghost use Rattle.blocks.specs.Writing.{rec_of, Ready};
-ghost use Rattle.blocks.specs.Memory.{blocks_bytes};
-ghost use Rattle.buffers.specs.Buffer.{buffers_bytes, emptied};
+ghost use Rattle.buffers.specs.Buffer.{emptied};
 ghost use Rattle.memory.specs.Memories.{lent, was, left};
 ghost use Rattle.memory.specs.Fine.{Fine};
 ghost use Rattle.midst.specs.Mid.{Start, Mid};
@@ -18,24 +17,27 @@ ghost use Rattle.store.specs.Door.{Keeps};
 ghost use Rattle.settling.specs.Turns.{Amid, Beside, Served, wrote_words, data_of};
 
 use crate::{DONE, Turn};
+use blocks::writing::NewRecord;
+use kinds::memories::{Blocks, Buffers};
 use kinds::record_types::DATA;
 use midst::File;
 use segment::forms::completed_request;
-use segment::{Entry, layout};
+use segment::{Entry, Segment, layout};
 use store::{fits, put};
 use transfer_counts::log_of;
 
 // Makes the data of the waiting write m, the first of its queue, a record of the writer with the ID, and completes the write.
+#[tactic(auto, unfolding(crate::specs::Turns::wrote_words, segment::specs::Fields::entry_words))]
 fn take(
-    segment: &mut [u8],
-    blocks: &mut [u8],
-    buffers: &mut [u8],
+    segment: &mut Segment,
+    blocks: &mut Blocks,
+    buffers: &mut Buffers,
     f: usize,
     file: File,
     m: Entry,
     id: u16,
 ) -> File
-    requires segment_len { (length segment.old ≡ segment_bytes) × (length blocks.old ≡ blocks_bytes) × (length buffers.old ≡ buffers_bytes) × (f < files) }
+    requires f_lt_files { f < files }
     requires place_lt_desk_places { (m.place < desk_places) × (m.size ≤ buffer_bytes) × (nth segment.old (write_queue f) < entries) }
     requires ready { Ready file.words file.ring (share_at f blocks.old) (length (data_of m buffers.old)) }
     ensures put { Keeps f (put_rec (rec_of 0 id (data_of m buffers.old))) blocks.old file blocks.new result }
@@ -44,7 +46,12 @@ fn take(
 {
     let place = m.place as usize;
     let data = buffers::lies(buffers, place, m.size as usize);
-    let next = put(blocks, f, file, DATA, id, data);
+    let record = NewRecord {
+        typ: DATA,
+        wid: id,
+        data,
+    };
+    let next = put(blocks, f, file, record);
     buffers::clear_at(buffers, place);
     let done = completed_request(m.place, DONE, log_of(m.unit == 1, m.size), 0);
     requests::complete(segment, layout::WRITE_QUEUES + f, done);
@@ -53,9 +60,9 @@ fn take(
 
 // Puts the record of the first waiting writer, if it fits beside `writers` open writers.
 pub fn serve_writer(
-    segment: &mut [u8],
-    blocks: &mut [u8],
-    buffers: &mut [u8],
+    segment: &mut Segment,
+    blocks: &mut Blocks,
+    buffers: &mut Buffers,
     f: usize,
     file: File,
     writers: u16,

@@ -5,7 +5,7 @@ use mathlib.Core.Path.{◌≡◌}
 use mathlib.Core.List.{List}
 use native.Mathlib.Omega.{arith}
 use native.Mathlib.Numerals.{add-one}
-use borrow.Author.Tests.{leb-true, le-leb, lt-leb}
+use borrow.Author.Tests.{leb-true}
 use Rattle.rules.specs.Limits.{room_words, most_factor, least_capacity, share_words}
 use Rattle.rules.specs.Geometry.{capacity, block_size, within}
 use Rattle.rules.specs.State.{Geo}
@@ -14,8 +14,8 @@ use Rattle.geometry.proofs.Sizes.{product-most}
 use Rattle.laws.specs.Changes.{GoodGeo}
 use Rattle.ring.specs.Ring.{geo, Fitted}
 use Rattle.ring.specs.declared.Ring.{Ring}
-use Rattle.sound.specs.Rows.{file_word, built_at, geo_at, good_geo, unbuilt_ok}
-use Rattle.sound.specs.Sound.{built_ok, file_ok, files_ok}
+use Rattle.sound.specs.Rows.{file_word, geo_at, good_geo}
+use Rattle.sound.specs.Sound.{file_ok, files_ok}
 
 pub geo-good : (g : Geo) → good_geo g ≡ true → GoodGeo g
 unfolding good_geo within
@@ -58,21 +58,15 @@ unfolding geo_at
 few-places s f b d p q h n = product-most b d 16 65535 (rw p (geo-good (geo_at s f) h).factor-high) n
 
 module _ (s blocks : List ℕ) (f : ℕ) where
-  pub files-bad : (n : ℕ) → 0 < n → file_ok s blocks f ≡ false → files_ok s blocks f n ≡ false
+  -- the files from f, of n of which k are passed
+  pub files_bad : (n k : ℕ) → k < n → file_ok s blocks f ≡ false → files_ok s blocks f (n - k) ≡ false
   unfolding files_ok
-  files-bad zero a d = absurd (omega arith)
-  files-bad (suc n) a d = rw (d, files_ok)
+  files_bad n k a d = let m : n - k ≡ suc (n - (k + 1)) = omega arith in rw (m, d, files_ok)
 
-  pub files-step : (n : ℕ) → 0 < n → file_ok s blocks f ≡ true → files_ok s blocks f n ≡ files_ok s blocks (f + 1) (n - 1)
+  pub files_next : (n k : ℕ) → k < n → file_ok s blocks f ≡ true → files_ok s blocks f (n - k) ≡ files_ok s blocks (f + 1) (n - (k + 1))
   unfolding files_ok
-  files-step zero a d = absurd (omega arith)
-  files-step (suc n) a d = let m : suc n - 1 ≡ n = omega arith in rw (m, add-one f, d, files_ok)
+  files_next n k a d = let m : n - k ≡ suc (n - (k + 1)) = omega arith in rw (m, add-one f, d, files_ok)
 
-module _ (s blocks : List ℕ) (f v : ℕ) (e : v ≡ file_word s f 0) where
-  pub built-file : 1 ≤ v → file_ok s blocks f ≡ built_ok s blocks f
-  unfolding file_ok built_at
-  built-file h = rw (← e, le-leb 1 v h, file_ok)
-
-  pub unbuilt-file : v < 1 → file_ok s blocks f ≡ unbuilt_ok s f
-  unfolding file_ok built_at
-  unbuilt-file h = rw (← e, lt-leb 1 v h, file_ok)
+  pub files_over : (n k : ℕ) → n ≤ k → files_ok s blocks f (n - k) ≡ true
+  unfolding files_ok
+  files_over n k a = let m : n - k ≡ 0 = omega arith in rw m

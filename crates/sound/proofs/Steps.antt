@@ -13,7 +13,7 @@ use Rattle.segment.specs.Layout.{nil, link_at, data_at, reply_port}
 use Rattle.segment.specs.Table.{nth}
 use Rattle.accessors.specs.Outstanding.{queue_of}
 use Rattle.sound.specs.Rows.{zero_words, place_ok, places_ok}
-use Rattle.sound.specs.Walks.{Walked, entry_word, place_in, walked, free_entry, read_entry, write_entry, port_entry, timer_entry, free_walk, queue_walk, timer_walk, port_walk, and_then, queue_walks, port_walks, all_met}
+use Rattle.sound.specs.Walks.{Walked, entry_word, place_in, walked, free_entry, read_entry, write_entry, port_entry, timer_entry, free_walk, queue_walk, timer_walk, port_walk, and_then, queue_walks, port_walks}
 use Rattle.sound.specs.Parts.{owned}
 
 -- what a test says that was called, and held or did not
@@ -36,15 +36,18 @@ module _ (s : List ℕ) (p v : ℕ) (e : v ≡ nth s p) where
   zero-step (suc n) a d = let m : suc n - 1 ≡ n = omega arith in rw (m, add-one p, ← e, eq-eqb v 0 d, zero_words)
 
 module _ (s : List ℕ) (p : ℕ) where
-  pub places-bad : (n : ℕ) → 0 < n → place_ok s p ≡ false → places_ok s p n ≡ false
+  -- the places from p, of n of which k are passed
+  pub places_bad : (n k : ℕ) → k < n → place_ok s p ≡ false → places_ok s p (n - k) ≡ false
   unfolding places_ok
-  places-bad zero a d = absurd (omega arith)
-  places-bad (suc n) a d = rw (d, places_ok)
+  places_bad n k a d = let m : n - k ≡ suc (n - (k + 1)) = omega arith in rw (m, d, places_ok)
 
-  pub places-step : (n : ℕ) → 0 < n → place_ok s p ≡ true → places_ok s p n ≡ places_ok s (p + 1) (n - 1)
+  pub places_next : (n k : ℕ) → k < n → place_ok s p ≡ true → places_ok s p (n - k) ≡ places_ok s (p + 1) (n - (k + 1))
   unfolding places_ok
-  places-step zero a d = absurd (omega arith)
-  places-step (suc n) a d = let m : suc n - 1 ≡ n = omega arith in rw (m, add-one p, d, places_ok)
+  places_next n k a d = let m : n - k ≡ suc (n - (k + 1)) = omega arith in rw (m, add-one p, d, places_ok)
+
+  pub places_over : (n k : ℕ) → n ≤ k → places_ok s p (n - k) ≡ true
+  unfolding places_ok
+  places_over n k a = let m : n - k ≡ 0 = omega arith in rw m
 
 pub or-false : (t : Bool) → t ≡ (t || false)
 or-false true = refl
@@ -88,57 +91,51 @@ module _ (s : List ℕ) (p : ℕ) (seen busy : List ℕ) where
     pub free_step : (n : ℕ) → 0 < n → v < entries → (eqb (get_or seen v 0) 0 && free_entry s v) ≡ true → free_walk s p seen busy n ≡ free_walk s (link_at v) (set seen v 1) busy (n - 1)
     free_step n a h d = rw e (free-step' n a (rw e at h) (rw e at d))
 
-module _ (s : List ℕ) (side f p : ℕ) (seen busy : List ℕ) where
-  queue-end' : (n : ℕ) → 0 < n → entries ≤ nth s p → queue_walk s side f p seen busy n ≡ walked (eqb (nth s p) nil) seen busy
+module _ (s : List ℕ) (side f p : ℕ) (seen busy : List ℕ) (n k : ℕ) (a : k < n) where
+  queue-end' : entries ≤ nth s p → queue_walk s side f p seen busy (n - k) ≡ walked (eqb (nth s p) nil) seen busy
   unfolding queue_walk
-  queue-end' zero a h = absurd (omega arith)
-  queue-end' (suc n) a h = rw (le-ltb (nth s p) entries h, queue_walk)
+  queue-end' h = let m : n - k ≡ suc (n - (k + 1)) = omega arith in rw (m, le-ltb (nth s p) entries h, queue_walk)
 
-  queue-bad' : (n : ℕ) → 0 < n → nth s p < entries → (eqb (get_or seen (nth s p) 0) 0 && cond (eqb side 1) (read_entry s busy f (nth s p)) (write_entry s busy f (nth s p))) ≡ false → queue_walk s side f p seen busy n ≡ walked false seen busy
+  queue-bad' : nth s p < entries → (eqb (get_or seen (nth s p) 0) 0 && cond (eqb side 1) (read_entry s busy f (nth s p)) (write_entry s busy f (nth s p))) ≡ false → queue_walk s side f p seen busy (n - k) ≡ walked false seen busy
   unfolding queue_walk
-  queue-bad' zero a h d = absurd (omega arith)
-  queue-bad' (suc n) a h d = rw (lt-ltb (nth s p) entries h, d, queue_walk)
+  queue-bad' h d = let m : n - k ≡ suc (n - (k + 1)) = omega arith in rw (m, lt-ltb (nth s p) entries h, d, queue_walk)
 
-  queue-step' : (n : ℕ) → 0 < n → nth s p < entries → (eqb (get_or seen (nth s p) 0) 0 && cond (eqb side 1) (read_entry s busy f (nth s p)) (write_entry s busy f (nth s p))) ≡ true → queue_walk s side f p seen busy n ≡ queue_walk s side f (link_at (nth s p)) (set seen (nth s p) 1) (set busy (place_in s (nth s p)) 1) (n - 1)
+  queue-next' : nth s p < entries → (eqb (get_or seen (nth s p) 0) 0 && cond (eqb side 1) (read_entry s busy f (nth s p)) (write_entry s busy f (nth s p))) ≡ true → queue_walk s side f p seen busy (n - k) ≡ queue_walk s side f (link_at (nth s p)) (set seen (nth s p) 1) (set busy (place_in s (nth s p)) 1) (n - (k + 1))
   unfolding queue_walk
-  queue-step' zero a h d = absurd (omega arith)
-  queue-step' (suc n) a h d = let m : suc n - 1 ≡ n = omega arith in rw (m, lt-ltb (nth s p) entries h, d, queue_walk)
+  queue-next' h d = let m : n - k ≡ suc (n - (k + 1)) = omega arith in rw (m, lt-ltb (nth s p) entries h, d, queue_walk)
 
   module _ (v : ℕ) (e : v ≡ nth s p) where
-    pub queue-end : (n : ℕ) → 0 < n → entries ≤ v → queue_walk s side f p seen busy n ≡ walked (eqb v nil) seen busy
-    queue-end n a h = rw e (queue-end' n a (rw e at h))
+    pub queue_end : entries ≤ v → queue_walk s side f p seen busy (n - k) ≡ walked (eqb v nil) seen busy
+    queue_end h = rw e (queue-end' (rw e at h))
 
-    pub queue-bad : (n : ℕ) → 0 < n → v < entries → (eqb (get_or seen v 0) 0 && cond (eqb side 1) (read_entry s busy f v) (write_entry s busy f v)) ≡ false → queue_walk s side f p seen busy n ≡ walked false seen busy
-    queue-bad n a h d = queue-bad' n a (rw e at h) (rw e at d)
+    pub queue_bad : v < entries → (eqb (get_or seen v 0) 0 && cond (eqb side 1) (read_entry s busy f v) (write_entry s busy f v)) ≡ false → queue_walk s side f p seen busy (n - k) ≡ walked false seen busy
+    queue_bad h d = queue-bad' (rw e at h) (rw e at d)
 
-    pub queue-step : (n : ℕ) → 0 < n → v < entries → (eqb (get_or seen v 0) 0 && cond (eqb side 1) (read_entry s busy f v) (write_entry s busy f v)) ≡ true → queue_walk s side f p seen busy n ≡ queue_walk s side f (link_at v) (set seen v 1) (set busy (place_in s v) 1) (n - 1)
-    queue-step n a h d = rw e (queue-step' n a (rw e at h) (rw e at d))
+    pub queue_next : v < entries → (eqb (get_or seen v 0) 0 && cond (eqb side 1) (read_entry s busy f v) (write_entry s busy f v)) ≡ true → queue_walk s side f p seen busy (n - k) ≡ queue_walk s side f (link_at v) (set seen v 1) (set busy (place_in s v) 1) (n - (k + 1))
+    queue_next h d = rw e (queue-next' (rw e at h) (rw e at d))
 
-module _ (s : List ℕ) (low p : ℕ) (seen busy : List ℕ) where
-  timer-end' : (n : ℕ) → 0 < n → entries ≤ nth s p → timer_walk s low p seen busy n ≡ walked (eqb (nth s p) nil) seen busy
+module _ (s : List ℕ) (low p : ℕ) (seen busy : List ℕ) (n k : ℕ) (a : k < n) where
+  timer-end' : entries ≤ nth s p → timer_walk s low p seen busy (n - k) ≡ walked (eqb (nth s p) nil) seen busy
   unfolding timer_walk
-  timer-end' zero a h = absurd (omega arith)
-  timer-end' (suc n) a h = rw (le-ltb (nth s p) entries h, timer_walk)
+  timer-end' h = let m : n - k ≡ suc (n - (k + 1)) = omega arith in rw (m, le-ltb (nth s p) entries h, timer_walk)
 
-  timer-bad' : (n : ℕ) → 0 < n → nth s p < entries → (eqb (get_or seen (nth s p) 0) 0 && timer_entry s busy low (nth s p)) ≡ false → timer_walk s low p seen busy n ≡ walked false seen busy
+  timer-bad' : nth s p < entries → (eqb (get_or seen (nth s p) 0) 0 && timer_entry s busy low (nth s p)) ≡ false → timer_walk s low p seen busy (n - k) ≡ walked false seen busy
   unfolding timer_walk
-  timer-bad' zero a h d = absurd (omega arith)
-  timer-bad' (suc n) a h d = rw (lt-ltb (nth s p) entries h, d, timer_walk)
+  timer-bad' h d = let m : n - k ≡ suc (n - (k + 1)) = omega arith in rw (m, lt-ltb (nth s p) entries h, d, timer_walk)
 
-  timer-step' : (n : ℕ) → 0 < n → nth s p < entries → (eqb (get_or seen (nth s p) 0) 0 && timer_entry s busy low (nth s p)) ≡ true → timer_walk s low p seen busy n ≡ timer_walk s (entry_word s (nth s p) 7) (link_at (nth s p)) (set seen (nth s p) 1) (set busy (place_in s (nth s p)) 3) (n - 1)
+  timer-next' : nth s p < entries → (eqb (get_or seen (nth s p) 0) 0 && timer_entry s busy low (nth s p)) ≡ true → timer_walk s low p seen busy (n - k) ≡ timer_walk s (entry_word s (nth s p) 7) (link_at (nth s p)) (set seen (nth s p) 1) (set busy (place_in s (nth s p)) 3) (n - (k + 1))
   unfolding timer_walk
-  timer-step' zero a h d = absurd (omega arith)
-  timer-step' (suc n) a h d = let m : suc n - 1 ≡ n = omega arith in rw (m, lt-ltb (nth s p) entries h, d, timer_walk)
+  timer-next' h d = let m : n - k ≡ suc (n - (k + 1)) = omega arith in rw (m, lt-ltb (nth s p) entries h, d, timer_walk)
 
   module _ (v : ℕ) (e : v ≡ nth s p) where
-    pub timer-end : (n : ℕ) → 0 < n → entries ≤ v → timer_walk s low p seen busy n ≡ walked (eqb v nil) seen busy
-    timer-end n a h = rw e (timer-end' n a (rw e at h))
+    pub timer_end : entries ≤ v → timer_walk s low p seen busy (n - k) ≡ walked (eqb v nil) seen busy
+    timer_end h = rw e (timer-end' (rw e at h))
 
-    pub timer-bad : (n : ℕ) → 0 < n → v < entries → (eqb (get_or seen v 0) 0 && timer_entry s busy low v) ≡ false → timer_walk s low p seen busy n ≡ walked false seen busy
-    timer-bad n a h d = timer-bad' n a (rw e at h) (rw e at d)
+    pub timer_bad : v < entries → (eqb (get_or seen v 0) 0 && timer_entry s busy low v) ≡ false → timer_walk s low p seen busy (n - k) ≡ walked false seen busy
+    timer_bad h d = timer-bad' (rw e at h) (rw e at d)
 
-    pub timer-step : (n : ℕ) → 0 < n → v < entries → (eqb (get_or seen v 0) 0 && timer_entry s busy low v) ≡ true → timer_walk s low p seen busy n ≡ timer_walk s (entry_word s v 7) (link_at v) (set seen v 1) (set busy (place_in s v) 3) (n - 1)
-    timer-step n a h d = rw e (timer-step' n a (rw e at h) (rw e at d))
+    pub timer_next : v < entries → (eqb (get_or seen v 0) 0 && timer_entry s busy low v) ≡ true → timer_walk s low p seen busy (n - k) ≡ timer_walk s (entry_word s v 7) (link_at v) (set seen v 1) (set busy (place_in s v) 3) (n - (k + 1))
+    timer_next h d = rw e (timer-next' (rw e at h) (rw e at d))
 
 -- both tests of an entry held, or one of them did not
 pub both-held : {x : ℕ} {t : Bool} → x ≡ 0 → t ≡ true → (eqb x 0 && t) ≡ true
@@ -149,16 +146,6 @@ met-before {x} t d = rw (ne_eqb x 0 d)
 
 pub unfit : {x : ℕ} {t : Bool} → x ≡ 0 → t ≡ false → (eqb x 0 && t) ≡ false
 unfit {x} h k = rw (eq-eqb x 0 h, k)
-
-pub met-bad : (seen : List ℕ) (n : ℕ) → 0 < n → (get_or seen (n - 1) 0 ≡ 1 → ⊥) → all_met seen n ≡ false
-unfolding all_met
-met-bad seen zero a d = absurd (omega arith)
-met-bad seen (suc n) a d = let m : suc n - 1 ≡ n = omega arith in rw (ne_eqb (get_or seen n 0) 1 (rw m at d), all_met)
-
-pub met-step : (seen : List ℕ) (n : ℕ) → 0 < n → get_or seen (n - 1) 0 ≡ 1 → all_met seen n ≡ all_met seen (n - 1)
-unfolding all_met
-met-step seen zero a d = absurd (omega arith)
-met-step seen (suc n) a d = let m : suc n - 1 ≡ n = omega arith in rw (m, eq-eqb (get_or seen n 0) 1 (rw m at d), all_met)
 
 -- the place that an entry names was tested
 
@@ -201,30 +188,34 @@ then-off w next seen busy e = rw e (then-false next seen busy)
 
 -- the queues of all files
 
-module _ (s : List ℕ) (side f h : ℕ) (e : h ≡ queue_of f side) (seen busy seen' busy' : List ℕ) where
-  pub queues-bad : (n : ℕ) → 0 < n → queue_walk s side f h seen busy (entries + 1) ≡ walked false seen' busy' → queue_walks s side f seen busy n ≡ walked false seen' busy'
+module _ (s : List ℕ) (side f h : ℕ) (e : h ≡ queue_of f side) (seen busy seen' busy' : List ℕ) (n k : ℕ) (a : k < n) where
+  pub queues_bad : walked false seen' busy' ≡ queue_walk s side f h seen busy (entries + 1) → queue_walks s side f seen busy (n - k) ≡ walked false seen' busy'
   unfolding queue_walks
-  queues-bad zero a w = absurd (omega arith)
-  queues-bad (suc n) a w = then-off _ _ seen' busy' (rw e at w)
+  queues_bad w = let m : n - k ≡ suc (n - (k + 1)) = omega arith in rw m (then-off _ _ seen' busy' (sym (rw e at w)))
 
-  pub queues-step : (n : ℕ) → 0 < n → queue_walk s side f h seen busy (entries + 1) ≡ walked true seen' busy'
-      → queue_walks s side f seen busy n ≡ queue_walks s side (f + 1) seen' busy' (n - 1)
+  pub queues_next : walked true seen' busy' ≡ queue_walk s side f h seen busy (entries + 1)
+      → queue_walks s side f seen busy (n - k) ≡ queue_walks s side (f + 1) seen' busy' (n - (k + 1))
   unfolding queue_walks
-  queues-step zero a w = absurd (omega arith)
-  queues-step (suc n) a w = let m : suc n - 1 ≡ n = omega arith in rw (m, add-one f) (then-on _ _ seen' busy' (rw e at w))
+  queues_next w = let m : n - k ≡ suc (n - (k + 1)) = omega arith in rw (m, add-one f) (then-on _ _ seen' busy' (sym (rw e at w)))
+
+pub queues_over : (s : List ℕ) (side f : ℕ) (seen busy : List ℕ) (n k : ℕ) → n ≤ k → queue_walks s side f seen busy (n - k) ≡ walked true seen busy
+unfolding queue_walks
+queues_over s side f seen busy n k a = let m : n - k ≡ 0 = omega arith in rw m
 
 -- the ports of all places
 
-module _ (s : List ℕ) (i : ℕ) (seen busy seen' busy' : List ℕ) where
-  pub ports-bad : (n : ℕ) → 0 < n → port_walk s i seen busy ≡ walked false seen' busy' → port_walks s i seen busy n ≡ walked false seen' busy'
+module _ (s : List ℕ) (i : ℕ) (seen busy seen' busy' : List ℕ) (n k : ℕ) (a : k < n) where
+  pub ports_bad : walked false seen' busy' ≡ port_walk s i seen busy → port_walks s i seen busy (n - k) ≡ walked false seen' busy'
   unfolding port_walks
-  ports-bad zero a w = absurd (omega arith)
-  ports-bad (suc n) a w = then-off _ _ seen' busy' w
+  ports_bad w = let m : n - k ≡ suc (n - (k + 1)) = omega arith in rw m (then-off _ _ seen' busy' (sym w))
 
-  pub ports-step : (n : ℕ) → 0 < n → port_walk s i seen busy ≡ walked true seen' busy' → port_walks s i seen busy n ≡ port_walks s (i + 1) seen' busy' (n - 1)
+  pub ports_next : walked true seen' busy' ≡ port_walk s i seen busy → port_walks s i seen busy (n - k) ≡ port_walks s (i + 1) seen' busy' (n - (k + 1))
   unfolding port_walks
-  ports-step zero a w = absurd (omega arith)
-  ports-step (suc n) a w = let m : suc n - 1 ≡ n = omega arith in rw (m, add-one i) (then-on _ _ seen' busy' w)
+  ports_next w = let m : n - k ≡ suc (n - (k + 1)) = omega arith in rw (m, add-one i) (then-on _ _ seen' busy' (sym w))
+
+pub ports_over : (s : List ℕ) (i : ℕ) (seen busy : List ℕ) (n k : ℕ) → n ≤ k → port_walks s i seen busy (n - k) ≡ walked true seen busy
+unfolding port_walks
+ports_over s i seen busy n k a = let m : n - k ≡ 0 = omega arith in rw m
 
 -- one port: past the entries; met, unfit or not alone; or as it should be
 

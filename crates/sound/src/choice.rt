@@ -1,8 +1,7 @@
 // Chooses between the fast path and the plain test. Each function here has the name and the contract of the plain test in `rows` or `walks`. It tries the fast
 // path of `quick`, and asks the plain test if that cannot tell. Neither of the two uses the other.
-ghost use Rattle.std.specs.Prelude.{◌≡◌, ◌+◌, ◌*◌, ◌≤◌, ◌<◌, length, replicate};
+ghost use Rattle.std.specs.Prelude.{◌≡◌, ◌+◌, ◌*◌, ◌≤◌, ◌<◌, replicate};
 ghost use Rattle.rules.specs.Limits.{files, places, entries};
-ghost use Rattle.segment.specs.Layout.{segment_bytes};
 ghost use Rattle.sound.specs.Rows.{place_ok, places_ok};
 ghost use Rattle.sound.specs.Walks.{walked, queue_walks, port_walks, all_walks};
 
@@ -12,7 +11,7 @@ use crate::rows::{good_side, place_word, zero_words};
 use crate::walks::{free_walk, timer_walk};
 use crate::{rows, walks};
 use kinds::sides::{READER, WRITER};
-use segment::layout;
+use segment::{Segment, layout};
 use words::joined::{eight, four};
 
 // The four settings of a place that neither read nor wrote yet, as one number, low byte first: `first`, the last of them, is 1, and the others are 0.
@@ -24,8 +23,8 @@ const A_READER: u64 = 256;
 // Whether the row of place i is sound. Its fields are read as two numbers: one of side, ID, share and timeout, one of the settings. `closed-row` and `open_row`
 // (proofs/quick/Settings.antt): if the spare words are zero, the plain test of a place that is not open asks that both are 0; of an open place with no setting
 // on, or `first` alone, it asks only side and ID, which a reader has in one number.
-fn place_ok(s: &[u8], i: usize) -> bool
-    requires { (length s.now ≡ segment_bytes) × (i < files * places) }
+fn place_ok(s: &Segment, i: usize) -> bool
+    requires { i < files * places }
     ensures { result ≡ place_ok s.now i }
 {
     let row = layout::PLACE_ROWS + layout::PLACE_ROW_WORDS * i;
@@ -49,30 +48,26 @@ fn place_ok(s: &[u8], i: usize) -> bool
 }
 
 // Whether the rows of the n places from place i upward are sound.
-pub fn places_ok(s: &[u8], i: usize, n: usize) -> bool
-    requires { (length s.now ≡ segment_bytes) × (i + n ≤ files * places) }
+#[tactic(auto, using(crate::proofs::Steps::places_bad, crate::proofs::Steps::places_next, crate::proofs::Steps::places_over))]
+pub fn places_ok(s: &Segment, i: usize, n: usize) -> bool
+    requires { i + n ≤ files * places }
     ensures { result ≡ places_ok s.now i n }
 {
-    let mut p = i;
-    let mut left = n;
-    while left > 0 {
-        if !place_ok(s, p) {
+    for k in 0..n {
+        if !place_ok(s, i + k) {
             return false;
         }
-        p += 1;
-        left -= 1;
     }
     true
 }
 
 // Walks the queues of all files on one side, unless all are empty.
 fn queue_walks(
-    s: &[u8],
+    s: &Segment,
     side: u16,
     seen: &mut [u8; ENTRY_COUNT],
     busy: &mut [u8; layout::DESK_PLACES],
 ) -> bool
-    requires { length s.now ≡ segment_bytes }
     ensures { walked result seen.new busy.new ≡ queue_walks s.now side 0 seen.old busy.old files }
 {
     if no_queues(s, side) {
@@ -82,8 +77,11 @@ fn queue_walks(
 }
 
 // Walks the ports of all places, unless all are empty.
-fn port_walks(s: &[u8], seen: &mut [u8; ENTRY_COUNT], busy: &mut [u8; layout::DESK_PLACES]) -> bool
-    requires { length s.now ≡ segment_bytes }
+fn port_walks(
+    s: &Segment,
+    seen: &mut [u8; ENTRY_COUNT],
+    busy: &mut [u8; layout::DESK_PLACES],
+) -> bool
     ensures { walked result seen.new busy.new ≡ port_walks s.now 0 seen.old busy.old (files * places) }
 {
     if no_replies(s) {
@@ -94,12 +92,11 @@ fn port_walks(s: &[u8], seen: &mut [u8; ENTRY_COUNT], busy: &mut [u8; layout::DE
 
 // Walks all lists, starting with no mark set.
 pub fn all_walks(
-    s: &[u8],
+    s: &Segment,
     seen: &mut [u8; ENTRY_COUNT],
     busy: &mut [u8; layout::DESK_PLACES],
 ) -> bool
-    requires s_len { length s.now ≡ segment_bytes }
-    requires seen_value { (seen.old ≡ replicate entries 0) × (busy.old ≡ replicate (files * places) 0) }
+    requires { (seen.old ≡ replicate entries 0) × (busy.old ≡ replicate (files * places) 0) }
     ensures { walked result seen.new busy.new ≡ all_walks s.now }
 {
     if !free_walk(s, layout::FREE_LIST, seen) {

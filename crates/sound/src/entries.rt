@@ -1,22 +1,22 @@
 // Tests what an entry holds on each kind of list. The place in an entry may be any word, so it is tested before it is used.
-ghost use Rattle.std.specs.Prelude.{◌≡◌, cond, ◌*◌, ◌<◌, eqb, length};
+ghost use Rattle.std.specs.Prelude.{◌≡◌, cond, ◌*◌, ◌<◌, eqb};
 ghost use Rattle.rules.specs.Limits.{files, places, entries, buffer_bytes};
-ghost use Rattle.segment.specs.Layout.{segment_bytes};
 ghost use Rattle.sound.specs.Parts.{owned};
 ghost use Rattle.sound.specs.Walks.{free_entry, read_entry, write_entry, port_entry, timer_entry};
 
 use crate::marks::WAITING;
 use crate::quick::bytes::{bare, two_bare};
 use crate::rows::{file_word, place_word, zero_words};
+use kinds::limits;
 use kinds::limits::{FILES, PLACES};
+use kinds::refusals::Refusal;
 use kinds::sides::{READER, WRITER};
-use kinds::{limits, refusals};
-use segment::layout;
+use segment::{Segment, layout};
 
 const BUFFER_SIZE: u16 = limits::BUFFER_BYTES as u16;
 
 // The lowest refusal number. A completed request's status is below it.
-const LEAST_REFUSAL: u16 = refusals::UNSOUND as u16;
+const LEAST_REFUSAL: u16 = Refusal::Unsound as u16;
 
 // The number of words of an entry's data that are zero: of a read after its keep, of a write between its unit and its size, of a completed request between its
 // place and its status, and of a timer between its place and its seconds. The two words after the size are zero too.
@@ -30,16 +30,18 @@ const TIMER_MIDDLE: usize = layout::ENTRY_SECONDS - layout::ENTRY_UNIT;
 
 const ENTRY_SPARE: usize = layout::ENTRY_SECONDS + 1;
 
-pub fn free_entry(s: &[u8], e: usize) -> bool
-    requires { (length s.now ≡ segment_bytes) × (e < entries) }
+#[tactic(auto, unfolding(crate::specs::Walks::free_entry))]
+pub fn free_entry(s: &Segment, e: usize) -> bool
+    requires { e < entries }
     ensures { result ≡ free_entry s.now e }
 {
     bare(s, layout::DATA + layout::ENTRY_WORDS * e)
 }
 
 // Whether entry e belongs to an accessor of file f on that side that is not marked as having a request yet.
-fn owned(s: &[u8], busy: &[u8; layout::DESK_PLACES], side: u16, f: usize, e: usize) -> bool
-    requires { (length s.now ≡ segment_bytes) × (e < entries) }
+#[tactic(auto, unfolding(crate::specs::Parts::owned, crate::specs::Walks::place_in, crate::specs::Walks::entry_word, crate::specs::Rows::side_at))]
+fn owned(s: &Segment, busy: &[u8; layout::DESK_PLACES], side: u16, f: usize, e: usize) -> bool
+    requires { e < entries }
     ensures { result ≡ owned s.now busy.now side f e }
 {
     let at = layout::DATA + layout::ENTRY_WORDS * e;
@@ -56,8 +58,9 @@ fn owned(s: &[u8], busy: &[u8; layout::DESK_PLACES], side: u16, f: usize, e: usi
     place_word(s, i, layout::PLACE_SIDE) == side
 }
 
-fn read_entry(s: &[u8], busy: &[u8; layout::DESK_PLACES], f: usize, e: usize) -> bool
-    requires { (length s.now ≡ segment_bytes) × (e < entries) }
+#[tactic(auto, unfolding(crate::specs::Walks::read_entry, crate::specs::Parts::owned, crate::specs::Walks::entry_word))]
+fn read_entry(s: &Segment, busy: &[u8; layout::DESK_PLACES], f: usize, e: usize) -> bool
+    requires { e < entries }
     ensures { result ≡ read_entry s.now busy.now f e }
 {
     if !owned(s, busy, READER, f, e) {
@@ -76,8 +79,9 @@ fn read_entry(s: &[u8], busy: &[u8; layout::DESK_PLACES], f: usize, e: usize) ->
     zero_words(s, at + layout::ENTRY_STATUS, READ_REST)
 }
 
-fn write_entry(s: &[u8], busy: &[u8; layout::DESK_PLACES], f: usize, e: usize) -> bool
-    requires { (length s.now ≡ segment_bytes) × (f < files) × (e < entries) }
+#[tactic(auto, unfolding(crate::specs::Walks::write_entry, crate::specs::Parts::owned, crate::specs::Walks::entry_word, crate::specs::Walks::size_in))]
+fn write_entry(s: &Segment, busy: &[u8; layout::DESK_PLACES], f: usize, e: usize) -> bool
+    requires { (f < files) × (e < entries) }
     ensures { result ≡ write_entry s.now busy.now f e }
 {
     if !owned(s, busy, WRITER, f, e) {
@@ -91,7 +95,7 @@ fn write_entry(s: &[u8], busy: &[u8; layout::DESK_PLACES], f: usize, e: usize) -
         return false;
     }
     let size = segment::get(s, at + layout::ENTRY_SIZE);
-    if size as u32 > 2 * file_word(s, f, layout::FILE_WORDS) as u32 {
+    if u32::from(size) > 2 * u32::from(file_word(s, f, layout::FILE_WORDS)) {
         return false;
     }
     two_bare(s, at + layout::ENTRY_SECONDS)
@@ -99,13 +103,13 @@ fn write_entry(s: &[u8], busy: &[u8; layout::DESK_PLACES], f: usize, e: usize) -
 
 // Whether entry e may wait in the queue of file f on that side.
 pub fn queue_entry(
-    s: &[u8],
+    s: &Segment,
     busy: &[u8; layout::DESK_PLACES],
     side: u16,
     f: usize,
     e: usize,
 ) -> bool
-    requires { (length s.now ≡ segment_bytes) × (f < files) × (e < entries) }
+    requires { (f < files) × (e < entries) }
     ensures { result ≡ cond (eqb side 1) (read_entry s.now busy.now f e) (write_entry s.now busy.now f e) }
 {
     if side == READER {
@@ -121,8 +125,9 @@ fn most_size(side: u16) -> u16
     if side == READER { BUFFER_SIZE } else { 0 }
 }
 
-pub fn port_entry(s: &[u8], busy: &[u8; layout::DESK_PLACES], i: usize, e: usize) -> bool
-    requires { (length s.now ≡ segment_bytes) × (i < files * places) × (e < entries) }
+#[tactic(auto, unfolding(crate::specs::Walks::port_entry, crate::specs::Walks::place_in, crate::specs::Walks::entry_word, crate::specs::Rows::side_at, crate::specs::Walks::size_in))]
+pub fn port_entry(s: &Segment, busy: &[u8; layout::DESK_PLACES], i: usize, e: usize) -> bool
+    requires { (i < files * places) × (e < entries) }
     ensures { result ≡ port_entry s.now busy.now i e }
 {
     let at = layout::DATA + layout::ENTRY_WORDS * e;
@@ -150,8 +155,9 @@ pub fn port_entry(s: &[u8], busy: &[u8; layout::DESK_PLACES], i: usize, e: usize
 }
 
 // Whether entry e may be a timer: it has at least `low` seconds left, as many as the one before it.
-pub fn timer_entry(s: &[u8], busy: &[u8; layout::DESK_PLACES], low: u16, e: usize) -> bool
-    requires { (length s.now ≡ segment_bytes) × (e < entries) }
+#[tactic(auto, unfolding(crate::specs::Walks::timer_entry, crate::specs::Walks::place_in, crate::specs::Walks::entry_word))]
+pub fn timer_entry(s: &Segment, busy: &[u8; layout::DESK_PLACES], low: u16, e: usize) -> bool
+    requires { e < entries }
     ensures { result ≡ timer_entry s.now busy.now low e }
 {
     let at = layout::DATA + layout::ENTRY_WORDS * e;

@@ -4,6 +4,8 @@ use segment::layout;
 // The number of entries that may be marked.
 pub const ENTRY_COUNT: usize = layout::ENTRIES as usize;
 
+// Kept: the marks are numbers, since `walked` and the walks of specs/Walks.antt say of the lists of marks which number stands where.
+
 // An entry that was met.
 pub const MET: u8 = 1;
 

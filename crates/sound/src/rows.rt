@@ -1,16 +1,16 @@
 // Tests the rows of the segment: those of a file, built or not, and of its places. The rows of places stand after those of all files.
-ghost use Rattle.std.specs.Prelude.{◌≡◌, ◌&&◌, ◌||◌, ◌+◌, ◌*◌, ◌≤◌, ◌<◌, leb, eqb, length};
+ghost use Rattle.std.specs.Prelude.{◌≡◌, ◌&&◌, ◌||◌, ◌+◌, ◌*◌, ◌≤◌, ◌<◌, leb, eqb};
 ghost use Rattle.rules.specs.Limits.{files, places};
-ghost use Rattle.segment.specs.Layout.{segment_words, segment_bytes, file_width, place_width};
+ghost use Rattle.segment.specs.Layout.{segment_words, file_width, place_width};
 ghost use Rattle.sound.specs.Rows.{file_word, place_word, zero_words, good_geo, good_place, place_ok, unbuilt_ok};
 
 use kinds::limits::{LEAST_CAPACITY, MOST_FACTOR, PLACES, ROOM_WORDS, SHARE_WORDS};
 use kinds::sides::{READER, WRITER};
-use segment::layout;
+use segment::{Segment, layout};
 
 // Whether n words, starting at word k, are zero: exactly if their bytes are (`zero-bytes`, proofs/Bytes.antt).
-pub fn zero_words(s: &[u8], k: usize, n: usize) -> bool
-    requires { (length s.now ≡ segment_bytes) × (k + n ≤ segment_words) }
+pub fn zero_words(s: &Segment, k: usize, n: usize) -> bool
+    requires { k + n ≤ segment_words }
     ensures { result ≡ zero_words s.now k n }
 {
     words::quiet(s, 2 * k, 2 * n)
@@ -18,21 +18,24 @@ pub fn zero_words(s: &[u8], k: usize, n: usize) -> bool
 
 // Word j of a row: `file_word` of file f's, `place_word` of place i's.
 
-pub fn file_word(s: &[u8], f: usize, j: usize) -> u16
-    requires { (length s.now ≡ segment_bytes) × (f < files) × (j < file_width) }
+#[tactic(auto, unfolding(crate::specs::Rows::file_word))]
+pub fn file_word(s: &Segment, f: usize, j: usize) -> u16
+    requires { (f < files) × (j < file_width) }
     ensures { result ≡ file_word s.now f j }
 {
     segment::get(s, layout::FILE_ROWS + layout::FILE_ROW_WORDS * f + j)
 }
 
-pub fn place_word(s: &[u8], i: usize, j: usize) -> u16
-    requires { (length s.now ≡ segment_bytes) × (i < files * places) × (j < place_width) }
+#[tactic(auto, unfolding(crate::specs::Rows::place_word))]
+pub fn place_word(s: &Segment, i: usize, j: usize) -> u16
+    requires { (i < files * places) × (j < place_width) }
     ensures { result ≡ place_word s.now i j }
 {
     segment::get(s, layout::PLACE_ROWS + layout::PLACE_ROW_WORDS * i + j)
 }
 
 // Whether R, B and D are those of a sound file. "C = B × D" is computed in 32 bits, since D may still be any word.
+#[tactic(auto, unfolding(crate::specs::Rows::good_geo, rules::specs::Geometry::within, rules::specs::Geometry::capacity))]
 pub fn good_geometry(words: u16, factor: u16, blocks: u16) -> bool
     ensures { result ≡ good_geo (record { words = words; factor = factor; blocks = blocks }) }
 {
@@ -48,7 +51,7 @@ pub fn good_geometry(words: u16, factor: u16, blocks: u16) -> bool
     if factor > MOST_FACTOR {
         return false;
     }
-    if factor as u32 * (blocks as u32) < LEAST_CAPACITY {
+    if u32::from(factor) * u32::from(blocks) < LEAST_CAPACITY {
         return false;
     }
     geometry::fits_within(words, factor as u8, blocks, SHARE_WORDS)
@@ -67,8 +70,9 @@ pub fn good_side(side: u16, id: u16) -> bool
     false
 }
 
-fn good_place(s: &[u8], i: usize) -> bool
-    requires { (length s.now ≡ segment_bytes) × (i < files * places) }
+#[tactic(auto, unfolding(crate::specs::Rows::good_place, crate::specs::Rows::side_at))]
+fn good_place(s: &Segment, i: usize) -> bool
+    requires { i < files * places }
     ensures { result ≡ good_place s.now i }
 {
     let side = place_word(s, i, layout::PLACE_SIDE);
@@ -88,8 +92,9 @@ fn good_place(s: &[u8], i: usize) -> bool
     place_word(s, i, layout::PLACE_FIRST) <= 1
 }
 
-pub fn place_ok(s: &[u8], i: usize) -> bool
-    requires { (length s.now ≡ segment_bytes) × (i < files * places) }
+#[tactic(auto, unfolding(crate::specs::Rows::place_ok, crate::specs::Rows::side_at))]
+pub fn place_ok(s: &Segment, i: usize) -> bool
+    requires { i < files * places }
     ensures { result ≡ place_ok s.now i }
 {
     let at = layout::PLACE_ROWS + layout::PLACE_ROW_WORDS * i;
@@ -103,8 +108,9 @@ pub fn place_ok(s: &[u8], i: usize) -> bool
 }
 
 // Whether the rows of file f, which is not built, and of its places are all zero.
-pub fn unbuilt_ok(s: &[u8], f: usize) -> bool
-    requires { (length s.now ≡ segment_bytes) × (f < files) }
+#[tactic(auto, unfolding(crate::specs::Rows::unbuilt_ok))]
+pub fn unbuilt_ok(s: &Segment, f: usize) -> bool
+    requires { f < files }
     ensures { result ≡ unbuilt_ok s.now f }
 {
     let row = layout::FILE_ROWS + layout::FILE_ROW_WORDS * f;

@@ -12,11 +12,12 @@ ghost use Rattle.ring.specs.Ring.{Ranged};
 ghost use Rattle.ring.specs.Held.{Held};
 ghost use Rattle.records.specs.Reading.{Readable};
 ghost use Rattle.records.specs.Fetch.{Stores};
-ghost use Rattle.blocks.specs.Writing.{rec_of, Ready, inscribed};
-ghost use Rattle.blocks.specs.Memory.{blocks_bytes};
+ghost use Rattle.blocks.specs.Writing.{record_of, Ready, inscribed};
 ghost use Rattle.store.specs.Door.{put_in, taken_ring, fetched_of, purged_of, fits_ring, Keeps, fetching, Gets, emptied};
 
 use blocks::by_file::{put_at, share};
+use blocks::writing::NewRecord;
+use kinds::memories::Blocks;
 use midst::File;
 use records::fetch::found;
 use ring::Ring;
@@ -30,15 +31,14 @@ pub struct Fetched {
 }
 
 // Puts a record after the others of file f.
-pub fn put(blocks: &mut [u8], f: usize, file: File, typ: u16, id: u16, data: &[u8]) -> File
-    requires blocks_len { (length blocks.old ≡ blocks_bytes) × (f < files) }
-    requires ready { Ready file.words file.ring (share_at f blocks.old) (length «data».now) }
+pub fn put(blocks: &mut Blocks, f: usize, file: File, new: NewRecord) -> File
+    requires f_lt_files { f < files }
+    requires ready { Ready file.words file.ring (share_at f blocks.old) (length new.data.now) }
     ensures file { result ≡ put_in file }
-    ensures blocks { blocks.new ≡ sets blocks.old (share_bytes * f) (inscribed file.words file.ring (rec_of typ id «data».now) (share_at f blocks.old)) }
-    ensures keeps { Keeps f (put_rec (rec_of typ id «data».now)) blocks.old file blocks.new result }
+    ensures blocks { blocks.new ≡ sets blocks.old (share_bytes * f) (inscribed file.words file.ring (record_of new.entry) (share_at f blocks.old)) }
+    ensures keeps { Keeps f (put_rec (record_of new.entry)) blocks.old file blocks.new result }
 {
-    let ring = file.ring;
-    let next = put_at(blocks, f, ring, file.words, typ, id, data);
+    let next = put_at(blocks, f, file.ring, file.words, new);
     File {
         words: file.words,
         ring: next,
@@ -54,8 +54,8 @@ fn taken(ring: Ring, keep: bool) -> Ring
 }
 
 // Fetches what a read finds in file f. Open and close records at the head go, unless the read is typed (46); the record that it gets goes too, unless it is kept (47).
-pub fn fetch(blocks: &[u8], f: usize, file: File, typed: bool, keep: bool) -> Fetched
-    requires blocks_len { (length blocks.now ≡ blocks_bytes) × (f < files) }
+pub fn fetch(blocks: &Blocks, f: usize, file: File, typed: bool, keep: bool) -> Fetched
+    requires f_lt_files { f < files }
     requires held { Held file.words file.ring (share_at f blocks.now) }
     ensures is { (s : Store) → Stores file.words file.ring (share_at f blocks.now) s → result ≡ fetched_of file typed keep s }
     ensures readable { result.got ≡ true → Readable (share_at f blocks.now) result.at }

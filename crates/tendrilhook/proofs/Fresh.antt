@@ -6,7 +6,7 @@ use lib.Dec.{eqb}
 use lib.ListN.{length}
 use Rattle.rules.specs.Limits.{files, places, share_bytes, buffer_bytes}
 use Rattle.segment.specs.Layout.{segment_bytes}
-use Rattle.memory.specs.Memories.{Memories, memories}
+use Rattle.memory.specs.Memories.{Memories}
 use Rattle.memory.specs.Fresh.{fresh_memories}
 use Rattle.fresh.specs.Made.{Made, nothing_made, made}
 use Rattle.promises.specs.Promise.{fresh, status, sized, Promise}

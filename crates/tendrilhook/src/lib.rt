@@ -7,6 +7,7 @@ ghost use Rattle.memory.specs.Memories.{was, left};
 
 use kinds::limits::RECORD_ROOM;
 use kinds::refusals;
+use kinds::refusals::Refusal;
 
 // Makes one event call and gives the answer's length; 0 if a lent memory has the wrong length or unsound content, and then nothing is written.
 #[unsafe(no_mangle)]
@@ -27,7 +28,7 @@ pub extern "C" fn tendrilhook_event(
 pub extern "C" fn tendrilhook_fresh(segment: &mut [u8], blocks: &mut [u8], buffers: &mut [u8]) -> u8
     ensures { Promise (was segment.old blocks.old buffers.old) host.fresh (host.status result) (left segment.new blocks.new buffers.new) }
 {
-    fresh::fresh(segment, blocks, buffers)
+    refusals::status(fresh::fresh(segment, blocks, buffers))
 }
 
 // Copies what a reader would get into the record memory; gives the status, and in `length` how many bytes are shown. C is handed no part of a memory.
@@ -45,7 +46,7 @@ pub extern "C" fn tendrilhook_look<'a>(
 {
     if record.len() != RECORD_ROOM {
         *length = 0;
-        return refusals::UNSOUND;
+        return Refusal::Unsound.number();
     }
     let what = looking::shown(segment, blocks, buffers, file, reader);
     let part = looking::part(what, blocks, buffers);
@@ -66,9 +67,16 @@ pub extern "C" fn tendrilhook_save(
 ) -> u8
     ensures { Promise (was segment.now blocks.now buffers.now) (host.save file output.old) (host.written result length.new output.new) (was segment.now blocks.now buffers.now) }
 {
-    let saved = saving::save(segment, blocks, buffers, file, output);
-    *length = saved.length;
-    saved.status
+    match saving::save(segment, blocks, buffers, file, output) {
+        Ok(written) => {
+            *length = written;
+            0
+        }
+        Err(refusal) => {
+            *length = 0;
+            refusal.number()
+        }
+    }
 }
 
 // Builds a file that is not built from a sheet, and gives the status.
@@ -82,5 +90,5 @@ pub extern "C" fn tendrilhook_load(
 ) -> u8
     ensures { Promise (was segment.old blocks.old buffers.old) (host.load file «text».now) (host.status result) (left segment.new blocks.new buffers.new) }
 {
-    loading::load(segment, blocks, buffers, file, text)
+    refusals::status(loading::load(segment, blocks, buffers, file, text))
 }

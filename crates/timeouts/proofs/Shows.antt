@@ -9,7 +9,6 @@ use Rattle.rules.specs.Time.{due, minus, lessen, lapse, file_time}
 use Rattle.rules.specs.Allocation.{Alloc, held_at, with_clock, timer_entry, queue_of, port_of}
 use Rattle.rules.specs.Allocation as rules
 use Rattle.laws.specs.Entries.{timers_of}
-use Rattle.segment.specs.Layout.{timer_list}
 use Rattle.memory.specs.Image.{acc_of, file_words, rq_of, wq_of, queue_words}
 use Rattle.timeouts.specs.Stage.{fail_file}
 

@@ -12,6 +12,7 @@ const LEAST: u16 = 32768;
 
 const TURN: u32 = 65536;
 
+#[tactic(auto, unfolding(rules::specs::TransferCounts::in_words))]
 pub fn in_words(count: u16) -> bool
     ensures { result ≡ in_words count }
 {
@@ -19,6 +20,7 @@ pub fn in_words(count: u16) -> bool
 }
 
 // The number of bytes that a count asks for.
+#[tactic(auto, unfolding(rules::specs::TransferCounts::in_words, rules::specs::TransferCounts::count_bytes))]
 pub fn count_bytes(count: u16) -> u32
     ensures value { result ≡ count_bytes count }
     ensures bound { result ≤ 65534 }
@@ -31,6 +33,7 @@ pub fn count_bytes(count: u16) -> u32
 }
 
 // Whether a read may ask for that count.
+#[tactic(auto, unfolding(rules::specs::TransferCounts::readable))]
 pub fn readable(count: u16) -> bool
     ensures { result ≡ readable count }
 {
@@ -42,8 +45,10 @@ pub fn readable(count: u16) -> bool
 }
 
 // The log of n bytes in the unit asked: words, rounded up, or bytes.
+// Kept: the flag is what `rules.log_of` takes, and an entry's word for the unit.
+#[tactic(auto, unfolding(rules::specs::TransferCounts::log_of))]
 pub fn log_of(by_words: bool, n: u16) -> u16
     ensures { result ≡ log_of by_words n }
 {
-    if by_words { n / 2 + n % 2 } else { n }
+    if by_words { n.div_ceil(2) } else { n }
 }

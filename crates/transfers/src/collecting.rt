@@ -1,34 +1,40 @@
 // "Collect of a waiting request answers 1; of a completed one its status, and frees it."
 ghost use Rattle.std.specs.Prelude.{◌≡◌, List, ℕ, ◌*◌, ◌<◌, length};
-ghost use Rattle.segment.specs.Layout.{segment_bytes, reply_port, desk_places};
+ghost use Rattle.words.specs.Word.{Bytes};
+ghost use Rattle.segment.specs.Layout.{reply_port, desk_places};
 ghost use Rattle.segment.specs.Table.{nth};
 ghost use Rattle.rules.specs.Limits.{entries, answer_room};
 ghost use Rattle.rules.specs.Calls as calls;
 ghost use Rattle.requests.specs.Moves.{collected};
-ghost use Rattle.buffers.specs.Buffer.{buffers_bytes, emptied};
+ghost use Rattle.buffers.specs.Buffer.{emptied};
 ghost use Rattle.memory.specs.Memories.{memories};
 ghost use Rattle.midst.specs.Outcome.{Sound, Accepted};
 ghost use Rattle.transfers.specs.Acts.{CollectActs};
 
 use crate::DataAnswer;
 use kinds::limits::{ANSWER_HEAD, PLACES};
+use kinds::memories::Buffers;
 use kinds::{Answer, operations, statuses};
-use segment::layout;
+use segment::{Segment, layout};
+use words::bytes::known;
 
 // Removes the completed request of a place, and empties the place's buffer.
-fn free(segment: &mut [u8], buffers: &mut [u8], place: usize)
-    requires { (length segment.old ≡ segment_bytes) × (length buffers.old ≡ buffers_bytes) × (place < desk_places) × (nth segment.old (reply_port place) < entries) }
+fn free(segment: &mut Segment, buffers: &mut Buffers, place: usize)
+    requires { (place < desk_places) × (nth segment.old (reply_port place) < entries) }
     ensures segment { segment.new ≡ collected segment.old place }
     ensures buffers { buffers.new ≡ emptied place buffers.old }
+    ensures bytes { Bytes segment.new × Bytes buffers.new }
 {
     buffers::clear_at(buffers, place);
     requests::collect(segment, place as u16);
+    known(segment);
+    known(buffers);
 }
 
 // Collects the request of place acc of file f. The file's row and its share stay as they are.
 pub fn collect(
-    segment: &mut [u8],
-    buffers: &mut [u8],
+    segment: &mut Segment,
+    buffers: &mut Buffers,
     answer: &mut [u8],
     f: usize,
     acc: usize,

@@ -14,9 +14,11 @@ use crate::DataAnswer;
 use crate::waiting::{begin_read, may_wait, wait_read};
 use blocks::by_file::share;
 use kinds::limits::{ANSWER_HEAD, PLACES};
+use kinds::memories::{Blocks, Buffers};
 use kinds::{Answer, operations, statuses};
 use midst::take_file;
 use records::fetch::handed;
+use segment::Segment;
 use settling::{conclude, has_writer, quick_conclude};
 use store::fetch;
 use transfer_counts::{count_bytes, in_words, log_of};
@@ -48,9 +50,9 @@ fn unserved(status: u8) -> DataAnswer
 
 // Does a read: it acts, "which fixes" its answer, then the file settles. A read that is served needs only controls 46 and 47 of its accessor's row.
 pub fn read(
-    segment: &mut [u8],
-    blocks: &mut [u8],
-    buffers: &mut [u8],
+    segment: &mut Segment,
+    blocks: &mut Blocks,
+    buffers: &mut Buffers,
     answer: &mut [u8],
     f: usize,
     acc: usize,

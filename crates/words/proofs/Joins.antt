@@ -107,8 +107,8 @@ eight-start xs p n =
     let left : n - 0 ≡ n = omega arith in
     rw (at, left)
 
-pub eight-step : (xs : List ℕ) (p n i a : ℕ) → i + 8 ≤ n → eqb a 0 ≡ quiet xs (p + i) 8 → a ≡ 0 → quiet xs (p + i) (n - i) ≡ quiet xs (p + (i + 8)) (n - (i + 8))
-eight-step xs p n i a l e z =
-    let at : p + i + 8 ≡ p + (i + 8) = omega arith in
-    let left : n - i - 8 ≡ n - (i + 8) = omega arith in
+pub eight-step : (xs : List ℕ) (p n i j a : ℕ) → j ≡ i + 8 → j ≤ n → eqb a 0 ≡ quiet xs (p + i) 8 → a ≡ 0 → quiet xs (p + i) (n - i) ≡ quiet xs (p + j) (n - j)
+eight-step xs p n i j a f l e z =
+    let at : p + i + 8 ≡ p + j = omega arith in
+    let left : n - i - 8 ≡ n - j = omega arith in
     part_step xs (p + i) (n - i) 8 a (omega arith) e z ∙ rw (at, left)

@@ -5,9 +5,9 @@ use mathlib.Core.List.{List, [], ◌∷◌, ◌++◌, append_assoc}
 use mathlib.Core.Logic.{◌⊎◌, inl, inr}
 use native.Mathlib.Omega.{arith}
 use native.Mathlib.Nat.{mul-suc, mul-le-mul_left}
-use lib.ListN.{length, get_or, take, drop, length-take, length-drop, take-append-drop}
+use lib.ListN.{length, get_or, take, drop, replicate, length-replicate, length-take, length-drop, take-append-drop}
 use lib.Seq.{sets, sets-eq, length-sets, length-take-le, take_all, take-add, drop-drop, get_or-take, get_or-drop, ext_get_or}
-use Rattle.words.specs.Word.{part}
+use Rattle.words.specs.Word.{zeros, part}
 use Rattle.words.proofs.Runs.{sets-sets, sets-at}
 use Rattle.words.proofs.Stands.{get_d_sets, same, part-read}
 
@@ -20,6 +20,14 @@ length-zero (x ∷ l) e = absurd (omega arith)
 pub part-back : (xs ys : List ℕ) (a k : ℕ) → length ys ≡ k → a + k ≤ length xs → take a xs ++ (ys ++ drop k (drop a xs)) ≡ sets xs a ys
 part-back xs ys a k e h =
     rw (drop-drop k a xs, ← e, ← append_assoc (take a xs) ys (drop (a + length ys) xs)) (sym (sets-eq ys xs a (omega arith)))
+
+-- a part comes back with zeros
+pub part-zero : (xs ys : List ℕ) (a k n : ℕ) → k ≡ n → a + n ≤ length xs → ys ≡ replicate (length (take k (drop a xs))) 0
+    → take a xs ++ (ys ++ drop k (drop a xs)) ≡ sets xs a (zeros n)
+unfolding zeros
+part-zero xs ys a k n e h z =
+    let m : length (take k (drop a xs)) ≡ n = rw e (length-take-le n (drop a xs) (rw length-drop (omega arith))) in
+    rw (z, m, e) (part-back xs (replicate n 0) a n (length-replicate n 0) h)
 
 -- the part is what was stored there
 pub part_same : (xs ys : List ℕ) (a k : ℕ) → length ys ≡ k → a + k ≤ length xs → take k (drop a (sets xs a ys)) ≡ ys

@@ -2,11 +2,10 @@
 use Prim.Native.Nat.{ℕ, zero, suc, ◌+◌, ◌-◌, ◌≤◌, ◌<◌}
 use mathlib.Core.List.{List, [], ◌∷◌, ◌++◌}
 use mathlib.Core.Path.{◌≡◌, refl, ap}
-use native.Mathlib.Numerals.{add-one}
 use native.Mathlib.Nat.{add-suc, suc-add, add-zero, zero-add}
 use native.Mathlib.Omega.{arith}
 use lib.ListN.{length, get_or, set, take, drop, length-drop, length-set, length-replicate, get_or-replicate, take-append-drop}
-use lib.Seq.{sets, take-suc, take-add, set-append_left, length-take-le}
+use lib.Seq.{sets, take-add, set-append_left, length-take-le}
 use Rattle.words.specs.Word.{zeros}
 
 pub length-zeros : (n : ℕ) → length (zeros n) ≡ n
@@ -25,12 +24,6 @@ sets-sets (v ∷ vs) ws xs i = rw (add-suc, ← suc-add) (sets-sets vs ws (set x
 -- one run right after another, the second's place known by an equation
 pub sets-at : (vs ws xs : List ℕ) (i j : ℕ) → i + length vs ≡ j → sets (sets xs i vs) j ws ≡ sets xs i (vs ++ ws)
 sets-at vs ws xs i j e = rw (← e) (sets-sets vs ws xs i)
-
--- one store more of a run from `ds`
-pub sets_more : (xs ds : List ℕ) (at i : ℕ) → i < length ds → set (sets xs at (take i ds)) (at + i) (get_or ds i 0) ≡ sets xs at (take (i + 1) ds)
-sets_more xs ds at i h =
-    let n : length (take i ds) ≡ i = length-take-le i ds (omega arith) in
-    rw (add-one, take-suc ds i 0) (sets-at (take i ds) (get_or ds i 0 ∷ []) xs at (at + i) (ap (λ (k : ℕ). at + k) n))
 
 -- n more, a part of `ds` as it is lent
 pub sets-run : (xs ds : List ℕ) (at i n m : ℕ) → m ≡ n → i + n ≤ length ds → sets (sets xs at (take i ds)) (at + i) (take m (drop i ds)) ≡ sets xs at (take (i + n) ds)
@@ -65,9 +58,6 @@ sets-part vs xs a k hv hx =
     let e' : sets xs a vs ≡ take a xs ++ sets (drop a xs) 0 vs = rw (n, add-zero, take-append-drop) at e in
     let d' : sets (drop a xs) 0 vs ≡ sets (take k (drop a xs)) 0 vs ++ drop k (drop a xs) = rw (take-append-drop k (drop a xs)) at d in
     cc
-
-pub zeros-more : (xs : List ℕ) (n at i : ℕ) → i < n → set (sets xs at (take i (zeros n))) (at + i) 0 ≡ sets xs at (take (i + 1) (zeros n))
-zeros-more xs n at i h = rw (get_or-zeros n i h) at (sets_more xs (zeros n) at i (omega (arith, length-zeros n)))
 
 take-zeros : (n m : ℕ) → n ≤ m → take n (zeros m) ≡ zeros n
 unfolding zeros

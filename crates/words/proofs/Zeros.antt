@@ -2,12 +2,14 @@
 use Prim.Native.Nat.{ℕ, zero, suc, ◌+◌, ◌-◌, ◌≤◌, ◌<◌}
 use mathlib.Core.Bool.{Bool, true, false, true≢false}
 use mathlib.Core.Path.{◌≡◌, refl, sym, ◌∙◌}
-use mathlib.Core.List.{List}
+use mathlib.Core.List.{List, ◌∷◌}
 use native.Mathlib.Omega.{arith}
 use native.Mathlib.Numerals.{add-one}
 use lib.Dec.{eqb}
-use lib.ListN.{get_or}
+use lib.ListN.{length, get_or, take, drop}
+use lib.Seq.{drop-cons}
 use borrow.Author.Tests.{eq-eqb, ne_eqb, eqb-true, eqb-false}
+use Rattle.std.specs.List.{list_all}
 use Rattle.words.specs.Word.{zeros, quiet}
 use Rattle.words.proofs.Stands.{BytesAt}
 
@@ -28,6 +30,19 @@ pub quiet-end : (xs : List ℕ) (p n : ℕ) → n ≤ 0 → quiet xs p n ≡ tru
 unfolding quiet
 quiet-end xs p zero h = refl
 quiet-end xs p (suc n) h = absurd (omega arith)
+
+-- the n bytes at p as a list
+quiet-list : (xs : List ℕ) (n p : ℕ) → p + n ≤ length xs → list_all (λ b. eqb b 0) (take n (drop p xs)) ≡ quiet xs p n
+quiet-list xs zero p h = sym (quiet-end xs p 0 (omega arith))
+quiet-list xs (suc n) p h = rw (drop-cons xs p 0 (omega arith)) (go (eqb (get_or xs p 0) 0) refl (quiet-list xs n (suc p) (omega arith)))
+  where
+    go : (t : Bool) → eqb (get_or xs p 0) 0 ≡ t → list_all (λ b. eqb b 0) (take n (drop (suc p) xs)) ≡ quiet xs (suc p) n
+        → list_all (λ b. eqb b 0) (take (suc n) (get_or xs p 0 ∷ drop (suc p) xs)) ≡ quiet xs p (suc n)
+    go true e k = rw (e, quiet-on xs p n (eqb-true (get_or xs p 0) 0 e)) k
+    go false e k = rw (e, quiet-bad xs p (suc n) (omega arith) (eqb-false (get_or xs p 0) 0 e))
+
+pub quiet-part : (xs : List ℕ) (m n p : ℕ) → m ≡ n → p + n ≤ length xs → list_all (λ b. eqb b 0) (take m (drop p xs)) ≡ quiet xs p n
+quiet-part xs m n p e h = rw e (quiet-list xs n p h)
 
 pub quiet-stands : (xs : List ℕ) (n p : ℕ) → quiet xs p n ≡ true → BytesAt xs p (zeros n)
 unfolding BytesAt zeros

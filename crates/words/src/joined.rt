@@ -1,6 +1,7 @@
 // Two, four and eight bytes as one number, low byte first. The compiler makes one load of a sum of shifted bytes, and not a load and a test for each.
 // `join-two`, `join-four` and `join-eight` (proofs/Joins.antt): the number is 0 exactly if all its bytes are. The laws of proofs/Led.antt: if the number is n
 // times the weight of one byte, that byte is n and the others are zero. Divided by 65536, it is the number of the bytes after the first two.
+// Kept: `from_le_bytes` would list two, four and eight places, and its sum has no halves; each clause here follows from those of the two halves.
 ghost use Rattle.std.specs.Prelude.{◌≡◌, ℕ, ◌+◌, ◌*◌, ◌/◌, ◌≤◌, ◌<◌, eqb, length};
 ghost use Rattle.words.specs.Word.{quiet};
 ghost use Rattle.words.specs.Led.{Led, Lone};

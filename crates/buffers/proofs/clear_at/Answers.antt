@@ -7,5 +7,5 @@ use Rattle.buffers.proofs.clear_at.Goals as goal
 pub returns : goal.returns
 returns c =
     rw span
-    (part-lent _ _ _ _ buffer_count _ c.requires.0 c.requires.1 (length-zeros buffer_bytes)
+    (part-lent _ _ _ _ buffer_count _ c.told-buffers c.requires (length-zeros buffer_bytes)
     c.clear.ensures)

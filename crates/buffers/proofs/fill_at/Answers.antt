@@ -6,5 +6,5 @@ use Rattle.buffers.proofs.fill_at.Goals as goal
 pub returns : goal.returns
 returns c =
     rw span
-    (part-lent _ _ _ _ buffer_count _ c.requires.0 c.requires.1 (length-filled _ c.requires.2)
+    (part-lent _ _ _ _ buffer_count _ c.told-buffers c.requires.0 (length-filled _ c.requires.1)
     c.fill.ensures)

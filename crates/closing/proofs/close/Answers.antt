@@ -13,14 +13,14 @@ overflow_add-f c =
     let size = close-size S _ _ (c.requires.1 d s S) in
     record { fits = omega (arith, size.2, size.3) }
 
-pub place_side-side-requires-clause-i_lt_desk_places : goal.place_side-side-requires-clause-i_lt_desk_places
-place_side-side-requires-clause-i_lt_desk_places c =
+pub place_side-side-requires : goal.place_side-side-requires
+place_side-side-requires c =
     let (d, s, S) = c.requires.0 in
     let size = close-size S _ _ (c.requires.1 d s S) in
     omega (arith, size.2, size.3)
 
-pub take_file-file-requires-clause-f_lt_files : goal.take_file-file-requires-clause-f_lt_files
-take_file-file-requires-clause-f_lt_files c =
+pub take_file-file-requires : goal.take_file-file-requires
+take_file-file-requires c =
     let (d, s, S) = c.requires.0 in
     let size = close-size S _ _ (c.requires.1 d s S) in
     size.2
@@ -28,7 +28,8 @@ take_file-file-requires-clause-f_lt_files c =
 pub remove-requires : goal.remove-requires
 remove-requires c =
     let (d, s, S) = c.requires.0 in
-    close-size S _ _ (c.requires.1 d s S)
+    let size = close-size S _ _ (c.requires.1 d s S) in
+    (size.2, size.3)
 
 pub leave-left-requires : goal.leave-left-requires
 leave-left-requires c =

@@ -12,22 +12,22 @@ overflow_add-f c =
     let sized = taken-sized _ _ _ _ _ c.requires.1 in
     record { fits = omega (arith, sized.file, sized.place) }
 
-pub place_side-side-requires-clause-i_lt_desk_places : goal.place_side-side-requires-clause-i_lt_desk_places
-place_side-side-requires-clause-i_lt_desk_places c =
+pub place_side-side-requires : goal.place_side-side-requires
+place_side-side-requires c =
     let sized = taken-sized _ _ _ _ _ c.requires.1 in
     omega (arith, sized.file, sized.place)
 
 pub remove-requires : goal.remove-requires
 remove-requires c =
     let z = taken-sized _ _ _ _ _ c.requires.1 in
-    (z.segment, z.buffers-size, z.file, z.place)
+    (z.file, z.place)
 
 pub returns-then-remove : goal.returns-then-remove
 unfolding Bytes
 returns-then-remove c =
     λ v blocks d s S r.
     abort-waits S _ _ v r _ c.place_side-side.ensures _ _ c.remove.ensures.segment c.remove.ensures.buffers (sym c.remove.ensures.waits ∙ c.if-remove.true)
-    (λ i. (c.type_inv.segment i).fits) (λ i. (c.type_inv.buffers i).fits)
+    c.known.ensures c.known-then-remove.ensures
 
 pub returns : goal.returns
 returns c =

@@ -16,11 +16,11 @@ overflow_add-f c =
 pub set-requires : goal.set-requires
 set-requires c =
     let sized = taken-sized _ _ _ _ _ c.requires in
-    (sized.segment, omega (arith, sized.file, sized.place))
+    omega (arith, sized.file, sized.place)
 
 pub returns : goal.returns
 unfolding Bytes
 returns c =
     λ blocks d s S r.
     set-done S _ _ S.stands.bodies.buffers-bytes _ c.in_default.not-Abort r _ c.set.ensures
-    (λ i. (c.type_inv.segment i).fits)
+    c.known.ensures

@@ -1,25 +1,14 @@
-use Prim.Native.Nat.{◌-◌}
-use mathlib.Core.Path.{sym, ◌∙◌}
+use mathlib.Core.Path.{◌∙◌}
+use lib.Dec.{ltb}
 use borrow.Author.Rules.{rules}
-use Rattle.hexadecimal.proofs.Lines.{digits_step, digits-stop, digits-end}
+use Rattle.std.proofs.Common.{tests}
+use Rattle.std.proofs.lemmas.Iterator.{YieldsList-from_slice}
+use Rattle.std.proofs.lemmas.Iterator.Search.{all_from_yields_List}
+use Rattle.rules.specs.Line.{value_of}
+use Rattle.hexadecimal.proofs.Lines.{digits-all}
 use Rattle.hexadecimal.proofs.all_digits.Goals as goal
 
-pub returns-then-value-ge-BASE : goal.returns-then-value-ge-BASE
-returns-then-value-ge-BASE c =
-    let loop = c.loop-i in
-    sym
-    (loop.invariant.1
-    ∙ digits-stop _ _ c.loop-i-test.true
-    (rw c.value.ensures.0 at c.if-value-ge-BASE.true))
-
-pub loop-i-preserved : goal.loop-i-preserved
-loop-i-preserved c =
-    let loop = c.loop-i in (
-      search rules,
-      loop.invariant.1
-          ∙ digits_step _ _ c.loop-i-test.true
-          (rw c.value.ensures.0 at c.if-value-ge-BASE.false),
-    )
-
 pub returns : goal.returns
-returns c = sym (c.loop-i.invariant.1 ∙ digits-end _ _ c.loop-i-test.false)
+returns c =
+    all_from_yields_List (λ b. ltb (value_of b) 16) _ _ _ c.all.ensures.ran (YieldsList-from_slice _ c.iter.ensures.rest) (λ x b q k. search (rules, tests))
+    ∙ digits-all c.args.s.now

@@ -1,7 +1,6 @@
-use Prim.Native.Nat.{◌+◌, ◌*◌, ◌-◌, ◌<◌, ◌≤◌}
+use Prim.Native.Nat.{◌+◌, ◌*◌}
 use mathlib.Core.Path.{sym, ◌∙◌}
 use native.Mathlib.Omega.{arith}
-use lib.ListN.{length}
 use borrow.Author.Rules.{rules}
 use Rattle.hexadecimal.proofs.Lines.{digits-at, fill_step, fill_end}
 use Rattle.hexadecimal.proofs.fill.Goals as goal
@@ -16,17 +15,7 @@ pair-requires c =
 pub loop-i-preserved : goal.loop-i-preserved
 loop-i-preserved c =
     let l = c.loop-i in
-    let s = c.args.s.now in
-    let h : 2 * l.i + 1 < length s = omega arith in (
-      search rules,
-      l.invariant.1,
-      search rules,
-      rw c.pair.ensures (sym (fill_step s l.out l.i h) ∙ l.invariant.3),
-    )
+    (search rules, rw c.pair.ensures (sym (fill_step c.args.s.now l.out l.i (omega arith)) ∙ l.invariant.1))
 
 pub returns : goal.returns
-returns c =
-    let l = c.loop-i in
-    let s = c.args.s.now in
-    let h : length s ≤ 2 * l.i + 1 = omega arith in
-    sym (fill_end s l.out l.i h) ∙ l.invariant.3
+returns c = sym (fill_end c.args.s.now c.loop-i.out c.loop-i.i (omega arith)) ∙ c.loop-i.invariant.1

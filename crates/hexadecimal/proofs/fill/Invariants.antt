@@ -1,4 +1,4 @@
-use Prim.Native.Nat.{◌*◌, ◌/◌, ◌-◌, ◌≤◌}
+use Prim.Native.Nat.{◌*◌}
 use mathlib.Core.Path.{◌≡◌}
 use lib.ListN.{length, drop}
 use lib.Seq.{sets}
@@ -7,10 +7,4 @@ use Rattle.hexadecimal.proofs.fill.Given as goal
 
 abbrev pub invariant-loop-i : goal.invariant-loop-i
 invariant-loop-i l =
-    (l.i ≤ l.n)
-    × (l.n ≡ length l.s / 2)
-    × (length l.out ≡ length l.initial.out)
-    × (sets l.out l.i (bytes_of (drop (2 * l.i) l.s)) ≡ sets l.initial.out 0 (bytes_of l.s))
-
-abbrev pub decreases-loop-i : goal.decreases-loop-i
-decreases-loop-i l = l.n - l.i
+    (length l.out ≡ length l.initial.out) × (sets l.out l.i (bytes_of (drop (2 * l.i) l.s)) ≡ sets l.initial.out 0 (bytes_of l.s))

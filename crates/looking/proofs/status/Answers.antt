@@ -1,14 +1,10 @@
 use Rattle.looking.specs.Shown.{status_shown}
 use Rattle.looking.proofs.status.Goals as goal
 
-pub returns-in-Refused : goal.returns-in-Refused
+pub returns-in-Err : goal.returns-in-Err
 unfolding status_shown
-returns-in-Refused c = rw c.in-Refused.is
+returns-in-Err c = rw c.in-Err.is c.number.ensures
 
-pub returns-in-Block : goal.returns-in-Block
+pub returns-in-Ok : goal.returns-in-Ok
 unfolding status_shown
-returns-in-Block c = rw c.in-Block.is
-
-pub returns-in-Buffer : goal.returns-in-Buffer
-unfolding status_shown
-returns-in-Buffer c = rw c.in-Buffer.is
+returns-in-Ok c = rw c.in-Ok.is

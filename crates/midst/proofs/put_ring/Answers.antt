@@ -7,4 +7,4 @@ use Rattle.midst.proofs.put_ring.Goals as goal
 pub returns : goal.returns
 returns c =
     ring-back _ _ _ c.requires.row_stands _ _ _ _ _ _ _ (omega arith) refl refl refl c.put.ensures c.put-2.ensures c.put-3.ensures
-    (unfold Bytes in λ i. (c.slice_known-1.given i).fits) (unfold Bytes in λ i. (c.type_inv.segment i).fits)
+    (unfold Bytes in c.fits-segment)

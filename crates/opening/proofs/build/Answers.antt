@@ -1,4 +1,3 @@
-use Rattle.words.specs.Word.{Bytes}
 use native.Mathlib.Omega.{arith}
 use Rattle.opening.proofs.Builds.{build-file, build-numbers, build-room, build-sizes, build-done}
 use Rattle.opening.proofs.build.Goals as goal
@@ -17,7 +16,7 @@ data_blocks-count-requires-clause-le_extents c = let n = build-numbers _ _ _ _ _
 
 pub clear-requires : goal.clear-requires
 clear-requires c =
-    ((build-sizes _ _ _ _ _ c.requires).1, build-file _ _ _ _ _ c.requires)
+    build-file _ _ _ _ _ c.requires
 
 pub overflow_mul-f : goal.overflow_mul-f
 overflow_mul-f c =
@@ -27,8 +26,8 @@ pub zero-requires : goal.zero-requires
 zero-requires c =
     omega (arith, build-file _ _ _ _ _ c.requires, (build-sizes _ _ _ _ _ c.requires).2)
 
-pub write_file-requires-clause-f_lt_files : goal.write_file-requires-clause-f_lt_files
-write_file-requires-clause-f_lt_files c =
+pub write_file-requires : goal.write_file-requires
+write_file-requires c =
     build-file _ _ _ _ _ c.requires
 
 pub overflow_cast-room : goal.overflow_cast-room
@@ -37,7 +36,7 @@ overflow_cast-room c =
 
 pub returns : goal.returns
 returns c =
+    let zeroed = c.default.ensures.1.1.1 in
     build-done _ _ _ _ _ c.requires _ _ _ c.data_blocks-count.ensures.value c.capacity-room.ensures
-    c.write_file.ensures c.clear.ensures c.zero.ensures
-    (unfold Bytes in λ i. (c.type_inv.segment i).fits)
-    (unfold Bytes in λ i. (c.type_inv.blocks i).fits) (unfold Bytes in λ i. (c.type_inv.buffers i).fits)
+    (rw (zeroed.0, zeroed.1.0, zeroed.1.1) at c.write_file.ensures) c.clear.ensures c.zero.ensures
+    c.known.ensures c.known-2.ensures c.known-3.ensures

@@ -1,22 +1,14 @@
-use mathlib.Core.Path.{sym, ◌∙◌}
-use Rattle.reader.proofs.Heads.{says-short, says_other, says-bad, says-good}
+use Rattle.std.proofs.Common.{sym, ◌∙◌, inl, inr}
+use Rattle.reader.proofs.Heads.{says-none, says-some}
 use Rattle.reader.proofs.head_of.Goals as goal
+use Rattle.reader.proofs.head_of.Goals.{then-frame-ne-HEAD_BYTES-via-then-frame-ne-HEAD_BYTES, then-frame-ne-HEAD_BYTES-via-else-frame-ne-HEAD_BYTES+then-frame-ne-HEAD}
 
 pub returns-then-frame-ne-HEAD_BYTES : goal.returns-then-frame-ne-HEAD_BYTES
-returns-then-frame-ne-HEAD_BYTES c = c.no_head.ensures ∙ sym (says-short _ _ c.if-frame-ne-HEAD_BYTES.true)
-
-pub returns-then-frame-ne-HEAD : goal.returns-then-frame-ne-HEAD
-returns-then-frame-ne-HEAD c = c.no_head-then-frame-ne-HEAD.ensures ∙ sym (says_other _ _ c.if-frame-ne-HEAD.true)
-
-pub returns-then-not-good_numbers : goal.returns-then-not-good_numbers
-returns-then-not-good_numbers c =
-    c.no_head-then-not-good_numbers.ensures
-    ∙ sym
-    (says-bad _ _ _ _ _ c.get-words.ensures c.get-blocks.ensures c.get-held.ensures
-    (sym c.good_numbers.ensures ∙ c.if-not-good_numbers.true))
+returns-then-frame-ne-HEAD_BYTES c =
+    elim c.then-frame-ne-HEAD_BYTES.branch [
+      | then-frame-ne-HEAD_BYTES-via-then-frame-ne-HEAD_BYTES w ↦ sym (says-none _ _ (inl w.if-frame-ne-HEAD_BYTES.true))
+      | then-frame-ne-HEAD_BYTES-via-else-frame-ne-HEAD_BYTES+then-frame-ne-HEAD w ↦ sym (says-none _ _ (inr w.if-frame-ne-HEAD.true))
+    ]
 
 pub returns : goal.returns
-returns c =
-    says-good _ _ _ _ _ c.get-words.ensures c.get-blocks.ensures
-    c.get-held.ensures c.if-frame-ne-HEAD_BYTES.false c.if-frame-ne-HEAD.false
-    (sym c.good_numbers.ensures ∙ c.if-not-good_numbers.false)
+returns c = c.then_some.ensures ∙ rw (c.good_numbers.ensures, c.get.ensures, c.get-2.ensures, c.get-3.ensures) (sym (says-some _ _ c.if-frame-ne-HEAD_BYTES.false c.if-frame-ne-HEAD.false))

@@ -30,26 +30,46 @@ use Rattle.records.proofs.reading.Stores.{readable-head}
 
 -- Skip.
 
-pub skip_step : (xs : List ℕ) (e p q n : ℕ) → 0 < n → p + 6 ≤ e → q ≡ next xs p → skip xs e p n ≡ skip xs e q (n - 1)
+skip_step : (xs : List ℕ) (e p q n : ℕ) → 0 < n → p + 6 ≤ e → q ≡ next xs p → skip xs e p n ≡ skip xs e q (n - 1)
 unfolding skip
 skip_step xs e p q zero o h f = absurd (omega arith)
 skip_step xs e p q (suc n) o h f =
     let z : suc n - 1 ≡ n = omega arith in
     rw (z, f) (pick_true (leb (p + 6) e) (skip xs e (next xs p) n) e (le-leb (p + 6) e h))
 
-pub skip_stop : (xs : List ℕ) (e p n : ℕ) → 0 < n → e < p + 6 → skip xs e p n ≡ e
+skip_stop : (xs : List ℕ) (e p n : ℕ) → 0 < n → e < p + 6 → skip xs e p n ≡ e
 unfolding skip
 skip_stop xs e p zero o h = absurd (omega arith)
 skip_stop xs e p (suc n) o h = pick-false (leb (p + 6) e) (skip xs e (next xs p) n) e (lt-leb (p + 6) e h)
 
 -- a record's head that stands n records on has one before it at each step
-pub skip-within : (xs : List ℕ) (e p n : ℕ) → 0 < n → skip xs e p n + 6 ≤ e → p + 6 ≤ e
+skip-within : (xs : List ℕ) (e p n : ℕ) → 0 < n → skip xs e p n + 6 ≤ e → p + 6 ≤ e
 skip-within xs e p n o h = by_cases (leb (p + 6) e) (λ t. leb-true (p + 6) e t) (λ t. absurd (omega (arith, skip_stop xs e p n o (leb-false (p + 6) e t))))
 
-pub skip-end : (xs : List ℕ) (e p n : ℕ) → n ≤ 0 → skip xs e p n ≡ p
+skip-end : (xs : List ℕ) (e p n : ℕ) → n ≤ 0 → skip xs e p n ≡ p
 unfolding skip
 skip-end xs e p zero h = refl
 skip-end xs e p (suc n) h = absurd (omega arith)
+
+-- of n records after `at` the walk has passed i, and has come to p
+module _ (xs : List ℕ) (at n : ℕ) where
+  pub record Passed (p i : ℕ) : Type 0 where
+    pub same : (e : ℕ) → Behind xs e at n → skip xs e at n ≡ skip xs e p (n - i)
+
+  module _ (p i : ℕ) (k : Passed p i) where
+    -- a record stands under each step
+    pub passed-under : i < n → (e : ℕ) → Behind xs e at n → p + 6 ≤ e
+    passed-under o e h = skip-within xs e p (n - i) (omega arith) (omega (arith, k.same e h, h (omega arith)))
+
+    pub passed_on : i < n → (q : ℕ) → q ≡ next xs p → Passed q (i + 1)
+    passed_on o q f = record {
+      same = λ e h.
+          let m : n - i - 1 ≡ n - (i + 1) = omega arith in
+          k.same e h ∙ skip_step xs e p q (n - i) (omega arith) (passed-under o e h) f ∙ ap (skip xs e q) m;
+    }
+
+    pub passed-all : n ≤ i → (e : ℕ) → Behind xs e at n → p ≡ skip xs e at n
+    passed-all o e h = sym (k.same e h ∙ skip-end xs e p (n - i) (omega arith))
 
 -- one record more
 skip-more : (xs : List ℕ) (e n p : ℕ) → skip xs e p (suc n) ≡ skip xs e (skip xs e p n) 1

@@ -1,5 +1,5 @@
 -- What a read is handed is a part of the share.
-use Prim.Native.Nat.{ℕ, ◌+◌, ◌-◌, ◌<◌}
+use Prim.Native.Nat.{ℕ, ◌+◌, ◌-◌, ◌<◌, min}
 use mathlib.Core.Path.{◌≡◌, refl, sym, ap, ◌∙◌}
 use mathlib.Core.Bool.{Bool, true, false, cond}
 use mathlib.Core.List.{List}
@@ -15,20 +15,18 @@ use Rattle.rules.proofs.Split.{by_cases}
 use Rattle.shares.specs.Back.{rec_at}
 use Rattle.records.specs.Reading.{Readable}
 use Rattle.records.proofs.reading.Framed.{frame-part}
-use Rattle.records.specs.Fetch.{least}
 
 -- cut twice
-pub take-least : (k l : ℕ) (xs : List ℕ) → take l (take k xs) ≡ take (least k l) xs
-unfolding least
-take-least k l xs =
-    by_cases (ltb k l) (λ e. rw e (take_all l (take k xs) (omega (arith, ltb-true k l e, length-take k xs))))
-    (λ e. rw e (take-take l k xs (omega (arith, ltb-false k l e))))
+take-least : (k l : ℕ) (xs : List ℕ) → take l (take k xs) ≡ take (min k l) xs
+take-least k l xs = by_cases (ltb k l)
+    (λ e. let m : min k l ≡ k = omega (arith, ltb-true k l e) in rw m (take_all l (take k xs) (omega (arith, ltb-true k l e, length-take k xs))))
+    (λ e. let m : min k l ≡ l = omega (arith, ltb-false k l e) in rw m (take-take l k xs (omega (arith, ltb-false k l e))))
 
 module _ (xs : List ℕ) (p : ℕ) (h : Readable xs p) (bytes : (i : ℕ) → get_or xs i 0 < 256) where
   abbrev n : ℕ
   n = word_at xs p
 
-  cut : (typed : Bool) (limit a k before : ℕ) → before ≡ cond typed 0 4 → k ≡ least (n - before) limit → a ≡ p + 2 + before
+  cut : (typed : Bool) (limit a k before : ℕ) → before ≡ cond typed 0 4 → k ≡ min (n - before) limit → a ≡ p + 2 + before
       → take k (drop a xs) ≡ handed typed limit (rec_at xs p)
   unfolding handed rec_at rec_frame
   cut true limit a k before e u v =
@@ -40,8 +38,8 @@ module _ (xs : List ℕ) (p : ℕ) (h : Readable xs p) (bytes : (i : ℕ) → ge
       rw (u, v, w, e) (sym (take-least (n - 4) limit (drop (p + 6) xs)))
 
   -- as the code has it
-  pub part-handed : (typed : Bool) (limit follow before m : ℕ) → follow ≡ n → before ≡ cond typed 0 4 → m ≡ least (follow - before) limit
+  pub part-handed : (typed : Bool) (limit follow before m : ℕ) → follow ≡ n → before ≡ cond typed 0 4 → m ≡ min (follow - before) limit
       → take (p + 2 + before + m - (p + 2 + before)) (drop (p + 2 + before) xs) ≡ handed typed limit (rec_at xs p)
   part-handed typed limit follow before m e u v =
       let z : p + 2 + before + m - (p + 2 + before) ≡ m = omega arith in
-      rw z (cut typed limit (p + 2 + before) m before u (v ∙ ap (λ (k : ℕ). least (k - before) limit) e) refl)
+      rw z (cut typed limit (p + 2 + before) m before u (v ∙ ap (λ (k : ℕ). min (k - before) limit) e) refl)

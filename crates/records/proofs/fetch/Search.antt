@@ -18,15 +18,14 @@ use Rattle.ring.specs.Held.{Held}
 use Rattle.ring.proofs.Laws.{wrapped-mod}
 use Rattle.ring.proofs.Held.{held-ranged}
 use Rattle.records.specs.declared.cursor.Cursor.{Cursor}
-use Rattle.records.specs.declared.reading.Found.{Found}
-use Rattle.records.specs.declared.reading.Found.TheVariants.{At, Nothing}
+use Rattle.std.specs.Prelude.{Option, Some, None}
 use Rattle.records.specs.Cursor.{head_place, AtRecord}
 use Rattle.records.specs.Fetch.{Stores, ahead, Comes, oldest_of, shown}
 use Rattle.records.proofs.fetch.Laws.{comes-here, comes-stop, comes-end, comes-on}
 
 -- the search's three cases
 module _ (g : Geo) (xs : List ℕ) (k u : ℕ) where
-  oldest-here : (n : ℕ) → 0 < n → word_at xs (place_of g xs k u + 2) ≡ 0 → oldest_of g xs k u n ≡ At (place_of g xs k u)
+  oldest-here : (n : ℕ) → 0 < n → word_at xs (place_of g xs k u + 2) ≡ 0 → oldest_of g xs k u n ≡ Some (place_of g xs k u)
   unfolding oldest_of
   oldest-here zero l z = absurd (omega arith)
   oldest-here (suc n) l z = pick_true (eqb (word_at xs (place_of g xs k u + 2)) 0) _ _ (eq-eqb (word_at xs (place_of g xs k u + 2)) 0 z)
@@ -38,7 +37,7 @@ module _ (g : Geo) (xs : List ℕ) (k u : ℕ) where
       let m : suc n - 1 ≡ n = omega arith in
       rw (m, add-one u) (pick-false (eqb (word_at xs (place_of g xs k u + 2)) 0) _ _ (ne_eqb (word_at xs (place_of g xs k u + 2)) 0 z))
 
-  oldest-none : (n : ℕ) → n ≤ 0 → oldest_of g xs k u n ≡ Nothing
+  oldest-none : (n : ℕ) → n ≤ 0 → oldest_of g xs k u n ≡ None
   unfolding oldest_of
   oldest-none zero l = refl
   oldest-none (suc n) l = absurd (omega arith)
@@ -69,11 +68,11 @@ module _ (g : Geo) (xs : List ℕ) (k : ℕ) (b : 0 < g.factor) (d : k < g.block
   oldest-over (suc n) u =
       let i : oldest_of g xs k (suc (g.factor + u)) n ≡ oldest_of g xs (wrapped g.blocks (k + 1)) (suc u) n =
       ap (λ (v : ℕ). oldest_of g xs k v n) (sym (add-suc g.factor u)) ∙ oldest-over n (suc u) in
-      ap₂ {C = Found} (λ (p : ℕ) (z : Found). elim (eqb (word_at xs (p + 2)) 0) as (λ (b : Bool). Found) [ true ↦ At p | false ↦ z ]) (place-over u) i
+      ap₂ {C = Option ℕ} (λ (p : ℕ) (z : Option ℕ). elim (eqb (word_at xs (p + 2)) 0) as (λ (b : Bool). Option ℕ) [ true ↦ Some p | false ↦ z ]) (place-over u) i
 
 -- The ring without its oldest record.
 
-abbrev search_of : ℕ → Ring → List ℕ → Found
+abbrev search_of : ℕ → Ring → List ℕ → Option ℕ
 search_of w r xs = oldest_of (geo w r) xs r.block r.spent r.held
 
 module _ (w : ℕ) (r : Ring) (xs : List ℕ) (o : Ranged r) where
@@ -89,8 +88,8 @@ module _ (w : ℕ) (r : Ring) (xs : List ℕ) (o : Ranged r) where
       ap (λ (x : ℕ). (r.block + x) % r.blocks) q ∙ (ap (λ (x : ℕ). x % r.blocks) (add-zero r.block) ∙ mod-eq_of_lt o.block) in
       ap₂ {C = ℕ} (λ (x y : ℕ). place_in g xs x y) z m
 
-  search-here : 0 < r.held → word_at xs (head_place w r xs + 2) ≡ 0 → search_of w r xs ≡ At (head_place w r xs)
-  search-here l z = oldest-here g xs r.block r.spent r.held l (rw place-head z) ∙ ap At place-head
+  search-here : 0 < r.held → word_at xs (head_place w r xs + 2) ≡ 0 → search_of w r xs ≡ Some (head_place w r xs)
+  search-here l z = oldest-here g xs r.block r.spent r.held l (rw place-head z) ∙ ap Some place-head
 
   search-on : 0 < r.held → (word_at xs (head_place w r xs + 2) ≡ 0 → ⊥) → search_of w r xs ≡ search_of w (advanced r) xs
   unfolding advanced oldest_of
@@ -113,11 +112,11 @@ pub record Search (w : ℕ) (q : Ring) (xs : List ℕ) (c : Cursor) : Type 0 whe
 pub search-start : (w : ℕ) (q : Ring) (xs : List ℕ) (c : Cursor) → c.ring ≡ q → AtRecord w xs c → Search w q xs c
 search-start w q xs c e S = record { comes = rw e (comes-here w q xs); stands = S; same = rw e }
 
-pub shown-at : (c : Cursor) → 0 < c.ring.held → shown c ≡ At c.at
+pub shown-at : (c : Cursor) → 0 < c.ring.held → shown c ≡ Some c.at
 unfolding shown
 shown-at c l = pick_true (ltb 0 c.ring.held) _ _ (lt-ltb 0 c.ring.held l)
 
-pub shown-none : (c : Cursor) → c.ring.held ≤ 0 → shown c ≡ Nothing
+pub shown-none : (c : Cursor) → c.ring.held ≤ 0 → shown c ≡ None
 unfolding shown
 shown-none c l = pick-false (ltb 0 c.ring.held) _ _ (le-ltb 0 c.ring.held l)
 
@@ -142,7 +141,7 @@ module _ (w : ℕ) (q : Ring) (xs : List ℕ) (h : Held w q xs) (c : Cursor) (k 
     pub search-stop : word_at xs (c.at + 2) ≡ 0 → Ends w q xs c
     search-stop z = (
       λ s S. comes-stop w q c.ring xs k.comes h s S l (at_head ∙ z),
-      (k.stands, k.same ∙ (search-here w c.ring xs ranged l (at_head ∙ z) ∙ (ap At (sym k.stands.at) ∙ sym (shown-at c l)))),
+      (k.stands, k.same ∙ (search-here w c.ring xs ranged l (at_head ∙ z) ∙ (ap Some (sym k.stands.at) ∙ sym (shown-at c l)))),
     )
 
     -- the search goes past an open or close record
@@ -150,11 +149,3 @@ module _ (w : ℕ) (q : Ring) (xs : List ℕ) (h : Held w q xs) (c : Cursor) (k 
     search-next z d e S =
         let y : word_at xs (head_place w c.ring xs + 2) ≡ 0 → ⊥ = λ x. z (sym at_head ∙ x) in
         record { comes = rw e (comes-on w q c.ring xs k.comes h l y); stands = S; same = rw e (k.same ∙ search-on w c.ring xs ranged l y) }
-
--- What is found.
-
-pub at_same : (p q : ℕ) → ◌≡◌ {A = Found} (At p) (At q) → p ≡ q
-at_same p q e = cc
-
-pub at_none : (p : ℕ) → ◌≡◌ {A = Found} Nothing (At p) → ⊥
-at_none p e = let z : ◌≡◌ {A = ℕ} 0 1 = cc in omega arith

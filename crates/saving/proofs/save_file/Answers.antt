@@ -10,7 +10,6 @@ sheet_length-length-requires c =
 pub returns-then-output-length-clause-saved : goal.returns-then-output-length-clause-saved
 returns-then-output-length-clause-saved c =
     λ buffers d s b S e.
-    rw (c.refused.ensures.0, c.refused.ensures.1)
     (short-as S _ c.requires.file b e _ _ c.take_file-taken.ensures c.share-share.ensures _
     c.sheet_length-length.ensures _ c.if-output-length.true)
 

@@ -7,6 +7,6 @@ use Rattle.settling.proofs.conclude.Goals as goal
 pub returns : goal.returns
 returns c = λ o b M B r.
     mid-out (nobody-settles (omega (arith, c.get-2.ensures, c.if-get-lt-ENTRIES-2.false)) (omega (arith, c.get.ensures, c.if-get-lt-ENTRIES.false)) M) B _
-    c.put_file.ensures (unfold Bytes in λ i. (c.type_inv.segment i).fits)
-    (unfold Bytes in λ i. (c.type_inv.blocks i).fits)
-    (unfold Bytes in λ i. (c.type_inv.buffers i).fits) r
+    c.put_file.ensures c.known.ensures
+    (unfold Bytes in c.fits-blocks)
+    (unfold Bytes in c.fits-buffers) r

@@ -1,9 +1,8 @@
-use mathlib.Core.Path.{refl, ◌∙◌}
 use Rattle.settling.proofs.Loops.{comes-here, comes-amid, read_again, read-less, after-amid, after-beside, write_again, write-less, beside-again, at_rest}
 use Rattle.settling.proofs.settle.Goals as goal
 
 pub loop-segment-init : goal.loop-segment-init
-loop-segment-init c = (comes-here _ _ _, refl, refl, refl, c.requires.1)
+loop-segment-init c = (comes-here _ _ _, c.requires.1)
 
 pub serve_reader-read-requires : goal.serve_reader-read-requires
 serve_reader-read-requires c =
@@ -16,16 +15,13 @@ loop-segment-smaller-then-read c =
 pub loop-segment-preserved-then-read : goal.loop-segment-preserved-then-read
 loop-segment-preserved-then-read c = (
   read_again c.loop-segment.invariant.0 c.serve_reader-read.ensures c.if-read.true,
-  c.serve_reader-read.auto.segment ∙ c.loop-segment.invariant.1,
-  c.loop-segment.invariant.2,
-  c.serve_reader-read.auto.buffers ∙ c.loop-segment.invariant.3,
-  after-beside c.loop-segment.invariant.0 c.serve_reader-read.ensures c.requires.0 c.loop-segment.invariant.4,
+  after-beside c.loop-segment.invariant.0 c.serve_reader-read.ensures c.requires.0 c.loop-segment.invariant.1,
 )
 
 pub serve_writer-written-requires : goal.serve_writer-written-requires
 serve_writer-written-requires c = (
   after-amid c.loop-segment.invariant.0 c.serve_reader-read.ensures c.requires.0,
-  after-beside c.loop-segment.invariant.0 c.serve_reader-read.ensures c.requires.0 c.loop-segment.invariant.4,
+  after-beside c.loop-segment.invariant.0 c.serve_reader-read.ensures c.requires.0 c.loop-segment.invariant.1,
 )
 
 pub loop-segment-smaller : goal.loop-segment-smaller
@@ -36,11 +32,8 @@ loop-segment-smaller c =
 pub loop-segment-preserved : goal.loop-segment-preserved
 loop-segment-preserved c = (
   write_again c.loop-segment.invariant.0 c.serve_reader-read.ensures c.if-read.false c.serve_writer-written.ensures c.if-written.true,
-  c.serve_writer-written.auto.segment ∙ (c.serve_reader-read.auto.segment ∙ c.loop-segment.invariant.1),
-  c.serve_writer-written.auto.blocks ∙ c.loop-segment.invariant.2,
-  c.serve_writer-written.auto.buffers ∙ (c.serve_reader-read.auto.buffers ∙ c.loop-segment.invariant.3),
   beside-again c.loop-segment.invariant.0 c.serve_reader-read.ensures c.if-read.false c.serve_writer-written.ensures c.requires.0
-      (after-beside c.loop-segment.invariant.0 c.serve_reader-read.ensures c.requires.0 c.loop-segment.invariant.4),
+      (after-beside c.loop-segment.invariant.0 c.serve_reader-read.ensures c.requires.0 c.loop-segment.invariant.1),
 )
 
 pub returns : goal.returns

@@ -1,5 +1,3 @@
-use mathlib.Core.Path.{◌≡◌}
-use lib.ListN.{length}
 use Rattle.settling.specs.Turns.{Beside, Comes, waiting}
 use Rattle.memory.specs.Memories.{memories}
 use Rattle.settling.proofs.settle.Given as goal
@@ -7,9 +5,6 @@ use Rattle.settling.proofs.settle.Given as goal
 abbrev pub invariant-loop-segment : goal.invariant-loop-segment
 invariant-loop-segment l =
     Comes l.f (memories l.initial.segment l.initial.blocks l.initial.buffers) l.initial.file (memories l.segment l.blocks l.buffers) l.file
-    × (length l.segment ≡ length l.initial.segment)
-    × (length l.blocks ≡ length l.initial.blocks)
-    × (length l.buffers ≡ length l.initial.buffers)
     × Beside l.writers l.f l.segment
 
 abbrev pub decreases-loop-segment : goal.decreases-loop-segment

@@ -1,8 +1,7 @@
-use Rattle.words.specs.Word.{Bytes}
 use Rattle.settling.proofs.Outs.{mid-out}
 use Rattle.settling.proofs.settle_back.Goals as goal
 
 pub returns : goal.returns
 returns c = λ o b M B r.
-    mid-out (c.settle-settled.ensures o b M) B _ c.put_file.ensures (unfold Bytes in λ i. (c.type_inv.segment i).fits)
-    (unfold Bytes in λ i. (c.type_inv.blocks i).fits) (unfold Bytes in λ i. (c.type_inv.buffers i).fits) r
+    mid-out (c.settle-settled.ensures o b M) B _ c.put_file.ensures c.known.ensures
+    c.known-2.ensures c.known-3.ensures r

@@ -14,7 +14,7 @@ use Rattle.segment.specs.Layout.{nil, desk_places, free_list, read_queues, write
 use Rattle.segment.specs.Table.{nth}
 use Rattle.sound.specs.Walks.{Walked, walked, free_walk, queue_walk, queue_walks, port_walk, port_walks, all_walks, all_met}
 use Rattle.sound.specs.Sound.{lists_ok}
-use Rattle.sound.proofs.Steps.{queue-end, queues-step, port-end, ports-step, timer-end}
+use Rattle.sound.proofs.Steps.{queue_end, queues_next, port-end, ports_next, timer_end}
 use Rattle.sound.proofs.Whole.{all-off, ports-on, lists-off, lists-on}
 use Rattle.accessors.specs.Outstanding.{queue_of}
 use Rattle.sound.specs.quick.Ones.{ones}
@@ -63,12 +63,12 @@ queues-none s seen busy side zero f h k e = refl
 queues-none s seen busy side (suc n) f h k e =
     let w : (nth s (h + f) ≡ nil) × (ones s (2 * (h + f + 1)) (2 * n) ≡ true) = word_first s (h + f) n e in
     let q : queue_walk s side f (h + f) seen busy (entries + 1) ≡ walked true seen busy =
-    queue-end s side f (h + f) seen busy nil (sym w.0) (entries + 1) (omega arith) (omega arith) in
-    let step : queue_walks s side f seen busy (suc n) ≡ queue_walks s side (f + 1) seen busy (suc n - 1) =
-    queues-step s side f (h + f) (sym (k f)) seen busy seen busy (suc n) (omega arith) q in
-    let one : suc n - 1 ≡ n = omega arith in
+    queue_end s side f (h + f) seen busy (entries + 1) 0 (omega arith) nil (sym w.0) (omega arith) in
+    let all : suc n - 0 ≡ suc n = omega arith in
+    let rest : suc n - 1 ≡ n = omega arith in
     let there : h + f + 1 ≡ h + (f + 1) = omega arith in
-    let step' : queue_walks s side f seen busy (suc n) ≡ queue_walks s side (f + 1) seen busy n = rw one at step in
+    let step = queues_next s side f (h + f) (sym (k f)) seen busy seen busy (suc n) 0 (omega arith) (sym q) in
+    let step' : queue_walks s side f seen busy (suc n) ≡ queue_walks s side (f + 1) seen busy n = rw (all, rest) at step in
     step' ∙ queues-none s seen busy side n (f + 1) h k (rw there at w.1)
 
 pub ports-none : (s seen busy : List ℕ) (n i : ℕ) → ones s (2 * reply_port i) (2 * n) ≡ true → port_walks s i seen busy n ≡ walked true seen busy
@@ -77,10 +77,11 @@ ports-none s seen busy zero i e = refl
 ports-none s seen busy (suc n) i e =
     let w : (nth s (reply_port i) ≡ nil) × (ones s (2 * (reply_port i + 1)) (2 * n) ≡ true) = word_first s (reply_port i) n e in
     let q : port_walk s i seen busy ≡ walked true seen busy = port-end s i seen busy nil (sym w.0) (omega arith) in
-    let step : port_walks s i seen busy (suc n) ≡ port_walks s (i + 1) seen busy (suc n - 1) = ports-step s i seen busy seen busy (suc n) (omega arith) q in
-    let one : suc n - 1 ≡ n = omega arith in
+    let all : suc n - 0 ≡ suc n = omega arith in
+    let rest : suc n - 1 ≡ n = omega arith in
     let there : reply_port i + 1 ≡ reply_port (i + 1) = omega arith in
-    let step' : port_walks s i seen busy (suc n) ≡ port_walks s (i + 1) seen busy n = rw one at step in
+    let step = ports_next s i seen busy seen busy (suc n) 0 (omega arith) (sym q) in
+    let step' : port_walks s i seen busy (suc n) ≡ port_walks s (i + 1) seen busy n = rw (all, rest) at step in
     step' ∙ ports-none s seen busy n (i + 1) (rw there at w.1)
 
 -- the first m bytes of a run, and the n after them
@@ -121,7 +122,7 @@ module _ (s : List ℕ) (h : ones s (2 * read_queues) (2 * (list_count - read_qu
         (queues-none s seen busy 1 files 0 read_queues (λ g. refl) reads.0) seen busy
         (queues-none s seen busy 2 files 0 write_queues (λ g. refl) writes.0) seen busy
         (ports-none s seen busy desk_places 0 ports.0)
-        ∙ timer-end s 1 timer_list seen busy nil (sym timers) (entries + 1) (omega arith) (omega arith)
+        ∙ timer_end s 1 timer_list seen busy (entries + 1) 0 (omega arith) nil (sym timers) (omega arith)
 
   -- then the free list has all entries exactly if it ends after so many
   pub lists-free : lists_ok s ≡ free_ends s free_list entries

@@ -13,7 +13,6 @@ use lib.Seq.{get_or-set_same, get_or-set_other}
 use Rattle.rules.specs.Limits.{entries}
 use Rattle.rules.proofs.Split.{by_cases}
 use Rattle.words.specs.Word.{quiet}
-use Rattle.words.proofs.Ors.{or_left, or_right}
 use Rattle.words.proofs.Joins.{quiet-join}
 use Rattle.segment.specs.Layout.{nil, link_at, data_at, data_words}
 use Rattle.segment.specs.Table.{nth}
@@ -21,6 +20,7 @@ use Rattle.sound.specs.Walks.{free_entry}
 use Rattle.sound.specs.quick.Ends.{free_ends, ends_from}
 use Rattle.sound.specs.quick.Strides.{ended, astray, stops, leads, stride, strides, Table, Closed, bare_from, ends_by}
 use Rattle.sound.proofs.Bytes.{zero-bytes}
+use Rattle.sound.proofs.Ors.{or-zero}
 use Rattle.sound.proofs.quick.Ends.{from_on, ends-off, ends_on, ends-nil}
 use Rattle.sound.proofs.quick.Enough.{all-bare}
 
@@ -84,10 +84,9 @@ strides-add s zero n l k e = let q : l ≡ n = omega arith in rw q
 strides-add s (suc m) n zero k e = absurd (omega arith)
 strides-add s (suc m) n (suc l) k e = strides-add s m n l (stride s k) (omega arith)
 
-pub strides-zero : (s : List ℕ) (n k : ℕ) → n ≤ 0 → strides s n k ≡ k
+pub strides_none : (s : List ℕ) (n k i : ℕ) → n ≤ k → strides s (4 * (n - k)) i ≡ i
 unfolding strides
-strides-zero s zero k h = refl
-strides-zero s (suc n) k h = absurd (omega arith)
+strides_none s n k i h = let z : 4 * (n - k) ≡ 0 = omega arith in rw z
 
 strides-one : (s : List ℕ) (k : ℕ) → strides s 1 k ≡ stride s k
 unfolding strides
@@ -121,22 +120,11 @@ stride-self s k h = sym (stride-stop s k h)
 
 -- four steps at a time
 
-pub four-on : (s : List ℕ) (t : List ℕ) (a v n : ℕ) → Table s 4 t → a < stops → v ≡ get_or t a 0 → 0 < n → strides s (4 * n) a ≡ strides s (4 * (n - 1)) v
-four-on s t a v n h o e z =
-    let q : v ≡ strides s 4 a = e ∙ h a o in
-    strides-add s 4 (4 * (n - 1)) (4 * n) a (omega arith) ∙ ap (λ (j : ℕ). strides s (4 * (n - 1)) j) (sym q)
+pub four_on : (s : List ℕ) (t : List ℕ) (a n k : ℕ) → Table s 4 t → a < stops → k < n → strides s (4 * (n - k)) a ≡ strides s (4 * (n - (k + 1))) (get_or t a 0)
+four_on s t a n k h o z =
+    strides-add s 4 (4 * (n - (k + 1))) (4 * (n - k)) a (omega arith) ∙ ap (λ (j : ℕ). strides s (4 * (n - (k + 1))) j) (sym (h a o))
 
 -- an entry's eighteen bytes as three numbers
-
-or-zero : (a b : ℕ) → eqb (bit_or a b) 0 ≡ (eqb a 0 && eqb b 0)
-or-zero a b =
-    by_cases (eqb a 0)
-    (λ t.
-    let x : a ≡ 0 = eqb-true a 0 t in
-    by_cases (eqb b 0)
-    (λ u. let y : b ≡ 0 = eqb-true b 0 u in let z : bit_or a b ≡ 0 = rw (x, y) in eq-eqb (bit_or a b) 0 z ∙ sym (rw (t, u)))
-    (λ u. ne_eqb (bit_or a b) 0 (λ q. eqb-false b 0 u (or_right a b q)) ∙ sym (rw (t, u))))
-    (λ t. ne_eqb (bit_or a b) 0 (λ q. eqb-false a 0 t (or_left a b q)) ∙ sym (rw t))
 
 pub eighteen : (xs : List ℕ) (p a b d : ℕ) → eqb a 0 ≡ quiet xs (p + 2) 6 → eqb b 0 ≡ quiet xs (p + 8) 8 → eqb d 0 ≡ quiet xs (p + 16) 4
     → eqb (bit_or (bit_or a b) d) 0 ≡ quiet xs (p + 2) (2 * data_words)

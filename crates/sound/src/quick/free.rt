@@ -1,24 +1,24 @@
 // Fast path over the free list where every other list is empty, as on a desk where nothing waits. No entry is marked: a list that ends after as many steps as there
 // are entries has every entry, and none twice. `all-free` (proofs/quick/Enough.antt): the plain walk, which marks, says the same.
-ghost use Rattle.std.specs.Prelude.{◌≡◌, true, ◌+◌, ◌-◌, ◌*◌, ◌<◌, length};
+ghost use Rattle.std.specs.Prelude.{◌≡◌, true, ◌+◌, ◌-◌, ◌*◌, ◌<◌};
 ghost use Rattle.rules.specs.Limits.{entries};
-ghost use Rattle.segment.specs.Layout.{free_list, link_at, segment_bytes};
+ghost use Rattle.segment.specs.Layout.{free_list, link_at};
 ghost use Rattle.sound.specs.quick.Onward.{Linked};
 ghost use Rattle.sound.specs.quick.Ends.{free_ends, Along};
 
 use crate::entries::free_entry;
 use crate::marks::ENTRY_COUNT;
-use crate::quick::bytes::number;
 use crate::quick::order::{ENTRY_BYTES, LAST, farthest, four_linked, linked};
 use crate::quick::tables::{by_tables, scattered};
-use segment::layout;
+use segment::{Segment, layout};
 
 // Goes from e along the entries in order, at most `most` of them, four at a time, and gives the last.
-fn by_fours(s: &[u8], e: usize, most: usize) -> usize
-    requires { (length s.now ≡ segment_bytes) × (e < entries) }
+fn by_fours(s: &Segment, e: usize, most: usize) -> usize
+    requires { e < entries }
     ensures { Along s.now e most result }
 {
     let end = farthest(e, most);
+    // Kept: where the run stops is the result, on each way out, so `last` outlives the loop; a `for` by four would need it beside its own counter.
     let mut last = e;
     let mut at = 2 * (layout::LINKS + layout::ENTRY_WORDS * e);
     while last + 4 <= end {
@@ -32,8 +32,8 @@ fn by_fours(s: &[u8], e: usize, most: usize) -> usize
 }
 
 // Goes as `by_fours` does if e follows the entry before; else the run is short, and it stays at e.
-fn along(s: &[u8], before: usize, e: usize, most: usize) -> usize
-    requires { (length s.now ≡ segment_bytes) × (e < entries) × (before < 256) }
+fn along(s: &Segment, before: usize, e: usize, most: usize) -> usize
+    requires { (e < entries) × (before < 256) }
     ensures { Along s.now e most result }
 {
     if e == before + 1 {
@@ -43,8 +43,8 @@ fn along(s: &[u8], before: usize, e: usize, most: usize) -> usize
 }
 
 // Whether e is free and linked to the next number, such as a request to its timer, with that entry among the `left` that are to come.
-fn paired(s: &[u8], e: usize, left: usize) -> bool
-    requires { (length s.now ≡ segment_bytes) × (e < entries) }
+fn paired(s: &Segment, e: usize, left: usize) -> bool
+    requires { e < entries }
     ensures { result ≡ true → (0 < left) × (e + 1 < entries) × Linked s.now (2 * link_at e) (e + 1) }
 {
     if left < 1 {
@@ -58,18 +58,18 @@ fn paired(s: &[u8], e: usize, left: usize) -> bool
 
 // Whether the free list has every entry. The two ways to the next slot each test an entry, so that the compiler branches, which is foreseen, and does not choose
 // the slot by a value that it waits for.
-fn walk(s: &[u8]) -> bool
-    requires { length s.now ≡ segment_bytes }
+fn walk(s: &Segment) -> bool
     ensures { result ≡ free_ends s.now free_list entries }
 {
     let mut p = layout::FREE_LIST;
+    // Kept: a turn takes as many from `left` as `along` passes, and a pair takes two, so it is no counter of turns.
     let mut left = ENTRY_COUNT;
     let mut before = ENTRY_COUNT;
     while left > 0 {
         if s[2 * p] != 0 {
             return false;
         }
-        let v = number(s[2 * p + 1]);
+        let v = usize::from(s[2 * p + 1]);
         if v >= ENTRY_COUNT {
             return false;
         }
@@ -95,8 +95,7 @@ fn walk(s: &[u8]) -> bool
 }
 
 // Whether the free list has every entry.
-pub fn all_free(s: &[u8]) -> bool
-    requires { length s.now ≡ segment_bytes }
+pub fn all_free(s: &Segment) -> bool
     ensures { result ≡ free_ends s.now free_list entries }
 {
     if scattered(s) {

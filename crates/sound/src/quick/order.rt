@@ -3,11 +3,10 @@
 // (proofs/quick/Onward.antt): the plain walk goes the same way.
 ghost use Rattle.std.specs.Prelude.{◌≡◌, ◌+◌, ◌-◌, ◌*◌, ◌≤◌, ◌<◌, length, get_or};
 ghost use Rattle.rules.specs.Limits.{entries};
-ghost use Rattle.segment.specs.Layout.{segment_bytes};
 ghost use Rattle.sound.specs.quick.Onward.{entry_bytes, Linked, Onward};
 
 use crate::marks::{ENTRY_COUNT, MET};
-use segment::layout;
+use segment::{Segment, layout};
 use words::joined::{broad, eight, four};
 
 pub const LAST: usize = layout::ENTRIES as usize - 1;
@@ -67,11 +66,12 @@ pub fn four_linked(s: &[u8], at: usize, e: usize) -> u64
 }
 
 // Walks from a slot that holds e along the entries in order, at most `most` of them, four at a time. Marks those that it passes, and gives the last.
-fn by_fours(s: &[u8], e: usize, most: usize, seen: &mut [u8; ENTRY_COUNT]) -> usize
-    requires { (length s.now ≡ segment_bytes) × (e < entries) }
+fn by_fours(s: &Segment, e: usize, most: usize, seen: &mut [u8; ENTRY_COUNT]) -> usize
+    requires { e < entries }
     ensures { Onward s.now e most seen.old result seen.new }
 {
     let end = farthest(e, most);
+    // Kept: where the run stops is the result, on each way out, so `last` outlives the loop; a `for` by four would need it beside its own counter.
     let mut last = e;
     let mut at = 2 * (layout::LINKS + layout::ENTRY_WORDS * e);
     while last + 4 <= end {
@@ -92,8 +92,8 @@ fn by_fours(s: &[u8], e: usize, most: usize, seen: &mut [u8; ENTRY_COUNT]) -> us
 }
 
 // Walks as `by_fours` does, but at most one entry.
-fn by_one(s: &[u8], e: usize, most: usize, seen: &mut [u8; ENTRY_COUNT]) -> usize
-    requires { (length s.now ≡ segment_bytes) × (e < entries) }
+fn by_one(s: &Segment, e: usize, most: usize, seen: &mut [u8; ENTRY_COUNT]) -> usize
+    requires { e < entries }
     ensures { Onward s.now e most seen.old result seen.new }
 {
     if most < 1 {
@@ -114,13 +114,13 @@ fn by_one(s: &[u8], e: usize, most: usize, seen: &mut [u8; ENTRY_COUNT]) -> usiz
 
 // Walks as `by_fours` does: by fours if e itself follows the entry before, else by one, since the run is then short, such as a request and its timer.
 pub fn in_order(
-    s: &[u8],
+    s: &Segment,
     before: usize,
     e: usize,
     most: usize,
     seen: &mut [u8; ENTRY_COUNT],
 ) -> usize
-    requires { (length s.now ≡ segment_bytes) × (e < entries) × (before < 256) }
+    requires { (e < entries) × (before < 256) }
     ensures { Onward s.now e most seen.old result seen.new }
 {
     if e == before + 1 {

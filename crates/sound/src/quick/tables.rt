@@ -3,15 +3,14 @@
 // `by-strides` (proofs/quick/Strides.antt): the list ends after as many steps as there are entries exactly if the tables lead to its end so.
 ghost use Rattle.std.specs.Prelude.{◌≡◌, List, ℕ, ◌+◌, ◌-◌, ◌*◌, ◌≤◌, ◌<◌, eqb, length, get_or};
 ghost use Rattle.rules.specs.Limits.{entries};
-ghost use Rattle.segment.specs.Layout.{free_list, data_words, segment_bytes};
+ghost use Rattle.segment.specs.Layout.{free_list, data_words};
 ghost use Rattle.words.specs.Word.{quiet};
 ghost use Rattle.sound.specs.quick.Onward.{entry_bytes};
 ghost use Rattle.sound.specs.quick.Ends.{free_ends};
 ghost use Rattle.sound.specs.quick.Strides.{stops, leads, strides, Table, Closed, bare_from, ends_by};
 
 use crate::marks::ENTRY_COUNT;
-use crate::quick::bytes::number;
-use segment::layout;
+use segment::{Segment, layout};
 use words::joined::{eight, four};
 
 // The end of a list, and a link to nothing. Both lead to themselves.
@@ -25,6 +24,7 @@ const STOPS: usize = ENTRY_COUNT + 2;
 const FOURS: usize = ENTRY_COUNT / 4 - 1;
 
 // What a link leads to.
+#[tactic(auto, unfolding(crate::specs::quick::Strides::leads))]
 fn lead(link: u16) -> u8
     ensures { result ≡ leads link }
 {
@@ -46,17 +46,15 @@ fn contents(s: &[u8], at: usize) -> u64
 }
 
 // Fills the table of one step. Whether all entries are free: one `or` of their data, with no early exit from the loop.
-fn fill(s: &[u8], one: &mut [u8; STOPS]) -> bool
-    requires { (length s.now ≡ segment_bytes) × (length one.old ≡ stops) }
+fn fill(s: &Segment, one: &mut [u8; STOPS]) -> bool
+    requires { length one.old ≡ stops }
     ensures { (result ≡ bare_from s.now 0 entries) × Table s.now 1 one.new }
 {
-    let mut e = 0;
-    let mut all: u64 = 0;
-    while e < ENTRY_COUNT {
+    let mut all = 0;
+    for e in 0..ENTRY_COUNT {
         let p = layout::LINKS + layout::ENTRY_WORDS * e;
-        all = all | contents(s, 2 * p);
+        all |= contents(s, 2 * p);
         one[e] = lead(segment::get(s, p));
-        e += 1;
     }
     one[ENTRY_COUNT] = ENDED;
     one[ENTRY_COUNT + 1] = ASTRAY;
@@ -68,24 +66,20 @@ fn twice(from: &[u8; STOPS], to: &mut [u8; STOPS])
     requires { Closed from.now × (length to.old ≡ stops) }
     ensures { (k : ℕ) → k < stops → get_or to.new k 0 ≡ get_or from.now (get_or from.now k 0) 0 }
 {
-    let mut k = 0;
-    while k < STOPS {
-        let there = number(from[k]);
-        to[k] = from[there];
-        k += 1;
+    for k in 0..STOPS {
+        to[k] = from[usize::from(from[k])];
     }
 }
 
 // Goes n times four steps from k.
+#[tactic(auto, using(crate::proofs::quick::Strides::four_on, crate::proofs::quick::Strides::strides_none))]
 fn by_fours(fours: &[u8; STOPS], k: usize, n: usize) -> usize
     requires { Closed fours.now × (k < stops) }
     ensures { (result < stops) × ((s : List ℕ) → Table s 4 fours.now → result ≡ strides s (4 * n) k) }
 {
     let mut at = k;
-    let mut left = n;
-    while left > 0 {
-        at = number(fours[at]);
-        left -= 1;
+    for _ in 0..n {
+        at = usize::from(fours[at]);
     }
     at
 }
@@ -95,8 +89,8 @@ fn ends(one: &[u8; STOPS], two: &[u8; STOPS], fours: &[u8; STOPS], head: usize) 
     requires { Closed one.now × Closed two.now × Closed fours.now × (head < entries) }
     ensures { (s : List ℕ) → Table s 1 one.now → Table s 2 two.now → Table s 4 fours.now → result ≡ ends_by s (entries - 1) head }
 {
-    let second = number(two[head]);
-    let third = number(one[second]);
+    let second = usize::from(two[head]);
+    let third = usize::from(one[second]);
     let last = by_fours(fours, third, FOURS);
     if last >= ENTRY_COUNT {
         return false;
@@ -105,8 +99,7 @@ fn ends(one: &[u8; STOPS], two: &[u8; STOPS], fours: &[u8; STOPS], head: usize) 
 }
 
 // Whether the free list has every entry.
-pub fn by_tables(s: &[u8]) -> bool
-    requires { length s.now ≡ segment_bytes }
+pub fn by_tables(s: &Segment) -> bool
     ensures { result ≡ free_ends s.now free_list entries }
 {
     let head = segment::get(s, layout::FREE_LIST);
@@ -125,22 +118,18 @@ pub fn by_tables(s: &[u8]) -> bool
 }
 
 // Whether entry e is linked to the next number, as far as the low byte of its link says.
-fn follows(s: &[u8], e: usize) -> bool
-    requires { (length s.now ≡ segment_bytes) × (e < entries) }
+fn follows(s: &Segment, e: usize) -> bool
+    requires { e < entries }
 {
-    number(s[2 * (layout::LINKS + layout::ENTRY_WORDS * e) + 1]) == e + 1
+    usize::from(s[2 * (layout::LINKS + layout::ENTRY_WORDS * e) + 1]) == e + 1
 }
 
 // Whether none of five links that are looked at is to the next number. It chooses between two ways to the same result, so its contract says nothing.
-pub fn scattered(s: &[u8]) -> bool
-    requires { length s.now ≡ segment_bytes }
-{
-    let mut e = 8;
-    while e < ENTRY_COUNT {
+pub fn scattered(s: &Segment) -> bool {
+    for e in (8..ENTRY_COUNT).step_by(25) {
         if follows(s, e) {
             return false;
         }
-        e += 25;
     }
     true
 }

@@ -3,4 +3,4 @@ use Rattle.tendrilhook.proofs.tendrilhook_fresh.Goals as goal
 
 pub returns : goal.returns
 returns c =
-    made-fresh _ _ _ c.fresh.ensures
+    rw c.status.ensures (made-fresh _ _ _ c.fresh.ensures)

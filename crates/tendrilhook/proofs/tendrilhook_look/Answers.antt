@@ -6,7 +6,7 @@ use native.Mathlib.Omega.{arith}
 use Rattle.tendrilhook.proofs.tendrilhook_look.Goals as goal
 
 pub returns-then-record-ne-RECORD_ROOM : goal.returns-then-record-ne-RECORD_ROOM
-returns-then-record-ne-RECORD_ROOM c = other_length _ _ _ _ c.if-record-ne-RECORD_ROOM.true
+returns-then-record-ne-RECORD_ROOM c = rw c.number.ensures (other_length _ _ _ _ c.if-record-ne-RECORD_ROOM.true)
 
 pub copy-requires : goal.copy-requires
 unfolding Bytes

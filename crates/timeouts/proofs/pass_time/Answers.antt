@@ -1,11 +1,10 @@
-use native.Mathlib.Omega.{arith}
 use Rattle.words.specs.Word.{Bytes}
 use Rattle.timeouts.proofs.Begins.{stage-begin}
 use Rattle.timeouts.proofs.Ends.{time-stands}
 use Rattle.timeouts.proofs.pass_time.Goals as goal
 
-pub run_due-requires-clause-stage : goal.run_due-requires-clause-stage
-run_due-requires-clause-stage c =
+pub run_due-requires : goal.run_due-requires
+run_due-requires c =
     (c.requires.0, c.requires.1, stage-begin c.requires.3)
 
 pub returns-clause-stands : goal.returns-clause-stands
@@ -13,7 +12,7 @@ unfolding Bytes
 returns-clause-stands c =
     λ d s blocks S.
     time-stands S (c.run_due.ensures d s (stage-begin S)) _ c.lessen.ensures
-    (λ i. omega (arith, c.type_inv.segment i)) (λ i. omega (arith, c.type_inv.buffers i))
+    c.known.ensures c.known-2.ensures
 
 pub returns-clause-others : goal.returns-clause-others
 unfolding Bytes

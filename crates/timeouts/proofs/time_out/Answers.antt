@@ -3,11 +3,11 @@ use Rattle.timeouts.specs.Late.{late_words}
 use Rattle.timeouts.proofs.Steps.{late-found, late-at}
 use Rattle.timeouts.proofs.time_out.Goals as goal
 
-pub complete-requires-clause-p_lt_file_rows : goal.complete-requires-clause-p_lt_file_rows
-complete-requires-clause-p_lt_file_rows c = (
+pub complete-requires : goal.complete-requires
+complete-requires c = (
   c.seek_place-p.ensures.1,
-  rw c.completed_request.ensures c.requires.place_lt_desk_places.0,
-  late-found _ _ _ c.place_side.ensures _ c.queue_of-queue.ensures.0 _ c.seek_place-p.ensures.0 c.requires.place_lt_desk_places.1,
+  rw c.completed_request.ensures c.requires.0,
+  late-found _ _ _ c.place_side.ensures _ c.queue_of-queue.ensures.0 _ c.seek_place-p.ensures.0 c.requires.1,
 )
 
 pub returns : goal.returns

@@ -1,16 +1,14 @@
-use mathlib.Core.Path.{refl}
-use native.Mathlib.Omega.{arith}
-use Rattle.words.proofs.Zeros.{quiet_step, quiet-bad, quiet-end}
-use Rattle.words.proofs.Ors.{sofar-start, sofar-on, sofar-end}
+use mathlib.Core.Path.{◌∙◌}
+use lib.Dec.{eqb}
+use borrow.Author.Rules.{rules}
+use Rattle.std.proofs.Common.{tests}
+use Rattle.std.proofs.lemmas.Iterator.{YieldsList-from_slice}
+use Rattle.std.proofs.lemmas.Iterator.Search.{all_from_yields_List}
+use Rattle.words.proofs.Parts.{span}
+use Rattle.words.proofs.Zeros.{quiet-part}
 use Rattle.words.proofs.quiet_bytes.Goals as goal
 
-pub loop-left-init : goal.loop-left-init
-loop-left-init c = (sofar-start _, refl)
-
-pub loop-left-preserved : goal.loop-left-preserved
-loop-left-preserved c =
-    let o = c.loop-left-test.true in
-    (sofar-on _ _ _ _ _ c.loop-left.invariant.0 (quiet_step _ _ _ o) (quiet-bad _ _ _ o), omega arith)
-
 pub returns : goal.returns
-returns c = sofar-end _ _ _ c.loop-left.invariant.0 (quiet-end _ _ _ c.loop-left-test.false)
+returns c =
+    all_from_yields_List (λ b. eqb b 0) _ _ _ c.all.ensures.ran (YieldsList-from_slice _ c.iter.ensures.rest) (λ x b q k. search (rules, tests))
+    ∙ quiet-part _ _ _ _ (span _ _) c.requires

@@ -1,11 +1,7 @@
-use mathlib.Core.Path.{◌∙◌, ap}
-use mathlib.Core.List.{List}
-use Prim.Native.Nat.{ℕ}
-use lib.ListN.{replicate}
-use lib.Seq.{sets}
-use Rattle.words.proofs.Parts.{sets-whole}
+use mathlib.Core.Path.{◌∙◌}
+use Rattle.words.proofs.Parts.{part-back, span}
 use Rattle.words.proofs.store_run.Goals as goal
 
 pub returns : goal.returns
-returns c =
-    c.store-2.ensures ∙ ap (λ (l : List ℕ). sets c.args.s.now c.args.at l) (c.store.ensures ∙ sets-whole (replicate 16 0) c.args.from.now c.requires.0)
+returns g c =
+    rw (span, c.copy_from_slice-2.ensures.after ∙ c.copy_from_slice.ensures.after) (part-back c.args.s.now c.args.from.now c.args.at g.row.N c.requires.0 c.requires.1)

@@ -10,6 +10,6 @@ put-requires-clause-ready c =
 pub returns-clause-blocks : goal.returns-clause-blocks
 returns-clause-blocks c =
     rw span
-    (part-lent _ _ _ _ 8 _ c.requires.blocks_len.0 c.requires.blocks_len.1
-    (length-inscribed _ _ _ _ ∙ length_part _ _ 8 _ c.requires.blocks_len.0 c.requires.blocks_len.1)
+    (part-lent _ _ _ _ 8 _ c.told-blocks c.requires.f_lt_files
+    (length-inscribed _ _ _ _ ∙ length_part _ _ 8 _ c.told-blocks c.requires.f_lt_files)
     (rw span at c.put.ensures.share))

@@ -1,15 +1,14 @@
-use Prim.Native.Nat.{◌+◌, ◌≤◌, ◌<◌}
+use Prim.Native.Nat.{◌+◌, ◌-◌, ◌≤◌, ◌<◌}
 use mathlib.Core.Path.{◌≡◌}
 use Rattle.shares.specs.Sound.{sweep}
 use Rattle.ring.specs.Ring.{geo}
 use Rattle.blocks.proofs.check.sweep.Given as goal
 
-abbrev pub invariant-loop-n : goal.invariant-loop-n
-invariant-loop-n l =
-    (sweep (geo l.words l.ring) l.share l.ring.block l.ring.blocks (l.ring.spent + l.ring.held) ≡ sweep
-    (geo l.words l.ring) l.share l.block l.n l.left)
-    × (l.block < l.ring.blocks)
-    × (l.left ≤ l.ring.spent + l.ring.held)
-
-abbrev pub decreases-loop-n : goal.decreases-loop-n
-decreases-loop-n l = l.n
+abbrev pub invariant-loop : goal.invariant-loop
+invariant-loop l =
+    let g = geo l.words l.ring in
+    record {
+      same : sweep g l.share l.ring.block l.ring.blocks (l.ring.spent + l.ring.held) ≡ sweep g l.share l.block (l.ring.blocks - l.counter) l.left;
+      block : l.block < l.ring.blocks;
+      low : l.left ≤ l.ring.spent + l.ring.held;
+    }

@@ -1,7 +1,6 @@
-use Prim.Native.Nat.{◌-◌}
 use Rattle.blocks.proofs.quick.Laws.{skipped-one}
 use Rattle.blocks.proofs.quick.bare_first.Goals as goal
 
 pub loop-k-preserved : goal.loop-k-preserved
 loop-k-preserved c =
-    skipped-one _ _ _ c.loop-k.p c.loop-k.k c.loop-k-test.true (c.bare.ensures (c.if-not-bare.false)) c.loop-k.invariant
+    skipped-one _ _ _ _ c.loop-k-test.true (c.bare.ensures c.if-not-bare.false) c.loop-k.invariant

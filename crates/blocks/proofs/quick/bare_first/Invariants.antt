@@ -1,9 +1,5 @@
-use Prim.Native.Nat.{◌-◌}
 use Rattle.blocks.proofs.quick.Laws.{Skipped}
 use Rattle.blocks.proofs.quick.bare_first.Given as goal
 
 abbrev pub invariant-loop-k : goal.invariant-loop-k
-invariant-loop-k l = Skipped l.share l.at l.n l.p l.k
-
-abbrev pub decreases-loop-k : goal.decreases-loop-k
-decreases-loop-k l = l.n - l.k
+invariant-loop-k l = Skipped l.share l.at l.n l.k

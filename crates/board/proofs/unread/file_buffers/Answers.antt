@@ -1,7 +1,12 @@
-use Rattle.words.proofs.Parts.{span}
+use Prim.Native.Nat.{◌/◌, ◌<◌}
+use native.Mathlib.Omega.{arith}
+use lib.ListN.{length}
 use Rattle.memory.specs.Stands.{buffers_at}
+use Rattle.blocks.proofs.by_file.Laws.{chunk-at}
 use Rattle.board.proofs.unread.file_buffers.Goals as goal
 
 pub returns : goal.returns
 unfolding buffers_at
-returns c = rw span
+returns c =
+    let few : c.args.f < length c.args.buffers.now / 2080 = omega (arith, c.told-buffers) in
+    rw c.as_chunks.ensures.front (chunk-at 2080 _ _ c.args.buffers.now few)

@@ -7,7 +7,3 @@ use Rattle.board.proofs.unread.rest_zero.Goals as goal
 pub returns-then-n-ge-BUFFER_BYTES : goal.returns-then-n-ge-BUFFER_BYTES
 unfolding rest_zero
 returns-then-n-ge-BUFFER_BYTES c = sym (quiet-end _ _ _ (omega (arith, c.if-n-ge-BUFFER_BYTES.true)))
-
-pub returns : goal.returns
-unfolding rest_zero
-returns c = c.quiet.ensures

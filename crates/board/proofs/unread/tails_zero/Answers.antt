@@ -11,11 +11,11 @@ returns-then-not-blocks_zero c =
 
 pub overflow_sub-end : goal.overflow_sub-end
 overflow_sub-end c =
-    rw c.block_span-first.ensures.value (omega (arith, end-inside _ c.requires.1.sized))
+    rw c.block_span-first.ensures.value (omega (arith, end-inside _ c.requires.sized))
 
 pub quiet-requires : goal.quiet-requires
 quiet-requires c =
-    rw c.block_span-first.ensures.value (omega (arith, c.requires.0, end-inside _ c.requires.1.sized))
+    rw c.block_span-first.ensures.value (omega (arith, end-inside _ c.requires.sized))
 
 pub returns : goal.returns
 unfolding tails_zero

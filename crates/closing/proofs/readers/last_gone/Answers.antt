@@ -3,7 +3,7 @@ use Rattle.closing.proofs.readers.last_gone.Goals as goal
 
 pub has_writer-requires : goal.has_writer-requires
 has_writer-requires c =
-    ((gone-size _ _ _ c.requires).0, (gone-size _ _ _ c.requires).1, gone-counts _ _ _ c.requires)
+    ((gone-size _ _ _ c.requires).1, gone-counts _ _ _ c.requires)
 
 pub returns-then-not-has_writer : goal.returns-then-not-has_writer
 returns-then-not-has_writer c =

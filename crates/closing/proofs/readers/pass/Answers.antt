@@ -1,8 +1,8 @@
 use Rattle.closing.proofs.Ends.{stop-size, stop-place, stays, ends}
 use Rattle.closing.proofs.readers.pass.Goals as goal
 
-pub read_place-row-requires-clause-i_lt_desk_places : goal.read_place-row-requires-clause-i_lt_desk_places
-read_place-row-requires-clause-i_lt_desk_places c =
+pub read_place-row-requires : goal.read_place-row-requires
+read_place-row-requires c =
     stop-place _ _ _ _ _ c.entry_place-place.ensures c.requires
 
 pub returns-then-row-eq1 : goal.returns-then-row-eq1
@@ -14,7 +14,7 @@ returns-then-row-eq1 c =
 pub end_read-requires : goal.end_read-requires
 end_read-requires c =
     let size = stop-size _ _ _ _ c.requires in
-    (size.0, size.1, size.2, stop-place _ _ _ _ _ c.entry_place-place.ensures c.requires, rw (← c.requires.1) c.requires.2)
+    (size.2, stop-place _ _ _ _ _ c.entry_place-place.ensures c.requires, rw (← c.requires.1) c.requires.2)
 
 pub returns : goal.returns
 returns c =

@@ -1,33 +1,20 @@
-use Prim.Native.Nat.{ℕ, ◌+◌, ◌-◌, ◌*◌}
-use mathlib.Core.Path.{◌≡◌, refl, ap, sym, ◌∙◌}
+use Prim.Native.Nat.{◌-◌}
+use mathlib.Core.Path.{refl}
 use native.Mathlib.Omega.{arith}
-use lib.ListN.{length-set}
-use Rattle.faults.specs.Decimals.{tens}
-use Rattle.faults.proofs.Powers.{tens-more, digit-put, none_left, decimal-put}
+use borrow.Author.Rules.{rules}
+use Rattle.faults.proofs.Powers.{digits-start, digit-put, digits-end}
 use Rattle.faults.proofs.decimals.put_decimal.Goals as goal
 
-pub loop-left-init : goal.loop-left-init
-loop-left-init c = (omega (arith, c.after_first-left.ensures.0), omega (arith, c.after_first-left.ensures.0), refl, refl, omega (arith, c.after_first-left.ensures.2, tens-more c.after_first-left.result), refl)
+pub loop-k-init : goal.loop-k-init
+loop-k-init c =
+    let d = digits-start c.args.n c.after_first-places.result c.after_first-places.ensures c.args.out.now c.args.at in
+    (refl, d.0, d.1)
 
-pub take_off-parts-requires : goal.take_off-parts-requires
-take_off-parts-requires c =
-    let left = c.loop-left.left in
-    let same : left - 1 + 1 ≡ left = omega arith in
-    omega (arith, c.power.ensures, c.loop-left.invariant.4, ap tens same, tens-more (left - 1))
-
-pub loop-left-preserved : goal.loop-left-preserved
-loop-left-preserved c =
-    let p = c.take_off-parts.result in
-    let says : c.loop-left.rest ≡ p.digit * tens (c.loop-left.left - 1) + p.rest = c.take_off-parts.ensures.0 ∙ ap (λ (x : ℕ). p.digit * x + p.rest) c.power.ensures in (
-      omega arith,
-      c.loop-left.invariant.1,
-      omega arith,
-      length-set c.loop-left.out c.loop-left.to (48 + p.digit) ∙ c.loop-left.invariant.3,
-      omega (arith, c.take_off-parts.ensures.1, c.power.ensures),
-      sym (digit-put c.loop-left.out c.loop-left.to c.loop-left.left (c.loop-left.left - 1) c.loop-left.rest p.digit p.rest (omega arith) says (omega (arith, c.take_off-parts.ensures.1, c.power.ensures)) c.take_off-parts.ensures.2) ∙ c.loop-left.invariant.5,
-    )
+pub loop-k-preserved : goal.loop-k-preserved
+loop-k-preserved c =
+    let l = c.loop-k in
+    let d = digit-put c.args.n c.after_first-places.result c.after_first-places.ensures c.args.out.now l.out c.args.at l.k (l.k - 1) l.rest (omega arith) (omega arith) l.invariant.1 l.invariant.2 in
+    (search rules, d.0, d.1)
 
 pub returns : goal.returns
-returns c =
-    decimal-put _ _ _ _ _ _ c.after_first-left.result refl c.after_first-left.ensures.0 c.after_first-left.ensures.1 c.after_first-left.ensures.2
-    (sym (none_left c.loop-left.out c.loop-left.to c.loop-left.left c.loop-left.rest (omega arith)) ∙ c.loop-left.invariant.5) (omega arith)
+returns c = digits-end c.args.n c.after_first-places.result c.after_first-places.ensures c.loop-k.k c.loop-k-test.false c.loop-k.invariant.2

@@ -1,6 +1,6 @@
 use Prim.Native.Nat.{ℕ}
 use mathlib.Core.Path.{◌≡◌, sym, ◌∙◌}
-use mathlib.Core.Bool.{true, false, cond, and-true}
+use mathlib.Core.Bool.{true, false, cond}
 use lib.Dec.{ltb, leb}
 use Rattle.rules.specs.Limits.{places}
 use Rattle.rules.specs.State.{Built}
@@ -45,25 +45,25 @@ module _ (access share multi : ℕ) (b : Built) (modes : modes_in_range access s
 pub returns-then-not-modes_in_range-clause-refusal_value : goal.returns-then-not-modes_in_range-clause-refusal_value
 unfolding open_refusal
 returns-then-not-modes_in_range-clause-refusal_value c =
-    λ b S. rw (c.plain.ensures, failed c.modes_in_range.ensures c.if-not-modes_in_range.true)
+    λ b S. rw (failed c.modes_in_range.ensures c.if-not-modes_in_range.true)
 
 pub returns-then-forbids-clause-refusal_value : goal.returns-then-forbids-clause-refusal_value
 returns-then-forbids-clause-refusal_value c =
-    λ b S. rw (c.plain-then-forbids.ensures, in-range _ _ _ b (held c.modes_in_range.ensures c.if-not-modes_in_range.false), sym (c.forbids.ensures b S) ∙ c.if-forbids.true)
+    λ b S. rw (in-range _ _ _ b (held c.modes_in_range.ensures c.if-not-modes_in_range.false), sym (c.forbids.ensures b S) ∙ c.if-forbids.true)
 
 pub returns-then-closed-eq0-clause-refusal_value : goal.returns-then-closed-eq0-clause-refusal_value
 returns-then-closed-eq0-clause-refusal_value c =
-    λ b S. rw (c.plain-then-closed-eq0.ensures, shared _ _ _ b (held c.modes_in_range.ensures c.if-not-modes_in_range.false) (sym (c.forbids.ensures b S) ∙ c.if-forbids.false), together.full_is _ _ b S _ c.count_side-closed.ensures.0 c.if-closed-eq0.true)
+    λ b S. rw (shared _ _ _ b (held c.modes_in_range.ensures c.if-not-modes_in_range.false) (sym (c.forbids.ensures b S) ∙ c.if-forbids.false), together.full_is _ _ b S _ c.count_side-closed.ensures.0 c.if-closed-eq0.true)
 
 pub returns-then-access-eq0-clause-refusal_value : goal.returns-then-access-eq0-clause-refusal_value
 unfolding purges_at
 returns-then-access-eq0-clause-refusal_value c =
-    λ b S. rw (c.plain-then-access-eq0.ensures, placed _ _ _ b (held c.modes_in_range.ensures c.if-not-modes_in_range.false) (sym (c.forbids.ensures b S) ∙ c.if-forbids.false) (together.not_full _ _ b S _ c.count_side-closed.ensures.0 c.if-closed-eq0.false), is-nought _ c.if-access-eq0.true)
+    λ b S. rw (placed _ _ _ b (held c.modes_in_range.ensures c.if-not-modes_in_range.false) (sym (c.forbids.ensures b S) ∙ c.if-forbids.false) (together.not_full _ _ b S _ c.count_side-closed.ensures.0 c.if-closed-eq0.false), is-nought _ c.if-access-eq0.true)
 
 pub returns-then-access-eq0-clause-purges_value : goal.returns-then-access-eq0-clause-purges_value
 unfolding purges_at
 returns-then-access-eq0-clause-purges_value c =
-    rw (c.plain-then-access-eq0.ensures, c.if-access-eq0.true)
+    rw (c.if-access-eq0.true)
 
 pub has_room-requires-clause-by_index : goal.has_room-requires-clause-by_index
 has_room-requires-clause-by_index c =
@@ -71,7 +71,7 @@ has_room-requires-clause-by_index c =
 
 pub returns-then-not-has_room-clause-refusal_value : goal.returns-then-not-has_room-clause-refusal_value
 returns-then-not-has_room-clause-refusal_value c =
-    λ b S. rw (c.plain-then-not-has_room.ensures, writes _ _ _ b (held c.modes_in_range.ensures c.if-not-modes_in_range.false) (sym (c.forbids.ensures b S) ∙ c.if-forbids.false) (together.not_full _ _ b S _ c.count_side-closed.ensures.0 c.if-closed-eq0.false) (not-nought _ c.if-access-eq0.false), failed (c.has_room.ensures b S _ (purge-known _ _ c.args.access _ c.count_side-closed.ensures.0 c.purging-purges.ensures)) c.if-not-has_room.true)
+    λ b S. rw (writes _ _ _ b (held c.modes_in_range.ensures c.if-not-modes_in_range.false) (sym (c.forbids.ensures b S) ∙ c.if-forbids.false) (together.not_full _ _ b S _ c.count_side-closed.ensures.0 c.if-closed-eq0.false) (not-nought _ c.if-access-eq0.false), failed (c.has_room.ensures b S _ (purge-known _ _ c.args.access _ c.count_side-closed.ensures.0 c.purging-purges.ensures)) c.if-not-has_room.true)
 
 pub returns-clause-refusal_value : goal.returns-clause-refusal_value
 returns-clause-refusal_value c =
@@ -79,4 +79,4 @@ returns-clause-refusal_value c =
 
 pub returns-clause-purges_value : goal.returns-clause-purges_value
 returns-clause-purges_value c =
-    purge-known _ _ c.args.access _ c.count_side-closed.ensures.0 c.purging-purges.ensures ∙ sym (and-true _)
+    purge-known _ _ c.args.access _ c.count_side-closed.ensures.0 c.purging-purges.ensures

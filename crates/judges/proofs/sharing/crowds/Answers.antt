@@ -5,4 +5,4 @@ use Rattle.judges.proofs.sharing.crowds.Goals as goal
 
 pub returns-then-access-gt0 : goal.returns-then-access-gt0
 returns-then-access-gt0 c =
-    λ b S. rw (lt-ltb _ _ c.if-access-gt0.true) (c.crowds_writers.ensures b (c.requires.f_lt_files.1 c.if-access-gt0.true ∙ together.writers-are _ _ b S))
+    λ b S. rw (lt-ltb _ _ c.if-access-gt0.true) (c.crowds_writers.ensures b (c.requires.1 c.if-access-gt0.true ∙ together.writers-are _ _ b S))

@@ -1,22 +1,16 @@
-use Rattle.judges.proofs.Turns.{others-here, others-step, others-end}
+use Prim.Native.Nat.{◌+◌, ◌*◌}
+use mathlib.Core.Path.{refl, ◌∙◌}
 use native.Mathlib.Omega.{arith}
-use mathlib.Core.Path.{sym, ◌∙◌}
+use borrow.Author.Rules.{rules}
+use borrow.Author.Tests.{tests}
+use Rattle.std.proofs.lemmas.Iterator.{YieldsList-from_range}
+use Rattle.std.proofs.lemmas.Iterator.Search.{any_from_yields_List}
+use Rattle.rules.specs.Limits.{places}
+use Rattle.judges.specs.Sharing.{differs}
+use Rattle.judges.proofs.Turns.{others-any}
 use Rattle.judges.proofs.sharing.others.Goals as goal
 
-pub returns-then-differs : goal.returns-then-differs
-returns-then-differs c =
-    sym
-    (c.loop-left.invariant.0
-    ∙ others-here _ _ _ _ c.loop-left-test.true
-    (sym c.differs.ensures ∙ c.if-differs.true))
-
-pub loop-left-preserved : goal.loop-left-preserved
-loop-left-preserved c = (
-  c.loop-left.invariant.0
-      ∙ others-step _ _ _ _ c.loop-left-test.true
-      (sym c.differs.ensures ∙ c.if-differs.false),
-  omega arith,
-)
-
 pub returns : goal.returns
-returns c = sym (c.loop-left.invariant.0 ∙ others-end _ _ _ _ c.loop-left-test.false)
+returns c =
+    any_from_yields_List (λ p. differs c.args.segment.now c.args.share (places * c.args.f + p)) _ _ c.any.result c.any.ensures.ran (YieldsList-from_range 0 places places refl refl) (λ x b q k. search (rules, tests))
+    ∙ others-any c.args.segment.now c.args.share (places * c.args.f) 0 (places * c.args.f) places (omega arith)

@@ -16,14 +16,14 @@ overflow_add-place-2 c =
     let fit = reader-fit c.requires.1 c.requires.2 in
     record { fits = omega (arith, fit.file, fit.place) }
 
-pub get-e-requires-clause-k_lt_segment_words : goal.get-e-requires-clause-k_lt_segment_words
-get-e-requires-clause-k_lt_segment_words c =
+pub get-e-requires : goal.get-e-requires
+get-e-requires c =
     let fit = reader-fit c.requires.1 c.requires.2 in
     omega (arith, fit.file, fit.place)
 
-pub read_entry-request-requires-clause-e_lt_entries : goal.read_entry-request-requires-clause-e_lt_entries
+pub read_entry-request-requires : goal.read_entry-request-requires
 unfolding place_of
-read_entry-request-requires-clause-e_lt_entries c =
+read_entry-request-requires c =
     port-low c.requires.1 c.requires.2 _ c.get-e.ensures
 
 pub of_file-requires : goal.of_file-requires

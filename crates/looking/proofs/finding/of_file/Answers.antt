@@ -2,8 +2,8 @@ use Rattle.looking.proofs.Files.{file-asks, body-inside, file-found, file-empty}
 use native.Mathlib.Omega.{arith}
 use Rattle.looking.proofs.finding.of_file.Goals as goal
 
-pub oldest-found-requires : goal.oldest-found-requires
-oldest-found-requires c =
+pub oldest-requires : goal.oldest-requires
+oldest-requires c =
     file-asks _ _ _ _ _ c.take_file-file.ensures c.share-share.ensures c.requires
 
 pub overflow_add-result : goal.overflow_add-result
@@ -13,28 +13,28 @@ overflow_add-result c =
         arith,
         c.requires.file,
         body-inside _ _ _ _ _ c.take_file-file.ensures c.share-share.ensures c.requires _
-            (c.oldest-found.ensures.readable _ c.in-At.is),
+            c.in-Some.ensures.readable,
       );
     }
 
-pub overflow_add-result-in-At : goal.overflow_add-result-in-At
-overflow_add-result-in-At c =
+pub overflow_add-result-2 : goal.overflow_add-result-2
+overflow_add-result-2 c =
     record {
       fits = omega (
         arith,
         c.requires.file,
         body-inside _ _ _ _ _ c.take_file-file.ensures c.share-share.ensures c.requires _
-            (c.oldest-found.ensures.readable _ c.in-At.is),
+            c.in-Some.ensures.readable,
       );
     }
 
-pub returns-in-At : goal.returns-in-At
-returns-in-At c =
-    file-found _ _ _ _ _ c.take_file-file.ensures c.share-share.ensures c.requires _ c.oldest-found.ensures.place _ _
-    c.in-At.is
-    (c.oldest-found.ensures.readable _ c.in-At.is) c.header-record.ensures
+pub returns : goal.returns
+returns c =
+    file-found _ _ _ _ _ c.take_file-file.ensures c.share-share.ensures c.requires _ c.oldest.ensures.place _ _
+    c.in-Some.is
+    c.in-Some.ensures.readable c.header-record.ensures
 
-pub returns-in-Nothing : goal.returns-in-Nothing
-returns-in-Nothing c =
+pub returns-in_default : goal.returns-in_default
+returns-in_default c =
     file-empty _ _ _ _ _ c.take_file-file.ensures c.share-share.ensures c.requires _
-    c.oldest-found.ensures.place c.in-Nothing.is
+    c.oldest.ensures.place c.in_default.is

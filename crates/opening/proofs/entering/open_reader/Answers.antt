@@ -1,11 +1,11 @@
-use Rattle.opening.proofs.Enters.{each_at, each-sizes, place-low, reader-in, reader-done}
+use Rattle.opening.proofs.Enters.{each_at, place-low, reader-in, reader-done}
 use Rattle.opening.proofs.entering.open_reader.Goals as goal
 
 pub enter-requires : goal.enter-requires
 enter-requires c =
     let (d, s, S) = c.requires.0 in
     let (hf, b, e, k) = c.requires.1 d s S in
-    ((each-sizes c.requires).0, hf, place-low S _ hf b e _ c.free_place-acc.ensures.0 k)
+    (hf, place-low S _ hf b e _ c.free_place-acc.ensures.0 k)
 
 pub conclude-requires : goal.conclude-requires
 conclude-requires c =

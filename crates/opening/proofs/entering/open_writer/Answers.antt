@@ -1,11 +1,11 @@
-use Rattle.opening.proofs.Enters.{each_at, each-sizes, place-low, row-ranged, writer-ready, writer_in, writer-done}
+use Rattle.opening.proofs.Enters.{each_at, place-low, row-ranged, writer-ready, writer_in, writer-done}
 use Rattle.opening.proofs.entering.open_writer.Goals as goal
 
 pub take-file-requires : goal.take-file-requires
 take-file-requires c =
     let ((d, s, S), (access, (known, each))) = c.requires in
     let (hf, b, e, k) = each d s S in
-    ((each-sizes ((d, s, S), each)).0, hf, row-ranged S _ hf b e)
+    (hf, row-ranged S _ hf b e)
 
 pub put-written-requires-clause-ready : goal.put-written-requires-clause-ready
 put-written-requires-clause-ready c =
@@ -17,7 +17,7 @@ pub enter-requires : goal.enter-requires
 enter-requires c =
     let ((d, s, S), (access, (known, each))) = c.requires in
     let (hf, b, e, k) = each d s S in
-    ((each-sizes ((d, s, S), each)).0, hf, place-low S _ hf b e _ c.free_place-acc.ensures.0 k.0)
+    (hf, place-low S _ hf b e _ c.free_place-acc.ensures.0 k.0)
 
 pub conclude-requires : goal.conclude-requires
 conclude-requires c =

@@ -1,22 +1,16 @@
-use mathlib.Core.Path.{sym, ◌∙◌}
+use Prim.Native.Nat.{◌+◌, ◌-◌}
+use mathlib.Core.Path.{◌≡◌, sym, ◌∙◌}
 use native.Mathlib.Omega.{arith}
 use Rattle.opening.proofs.Turns.{id-here, id-on, id-end}
 use Rattle.opening.proofs.finding.free_id.Goals as goal
 
 pub returns-then-not-id_held : goal.returns-then-not-id_held
-returns-then-not-id_held c =
-    sym
-    (c.loop-left.invariant.0
-    ∙ id-here _ _ _ _ c.id_held.ensures _ c.loop-left-test.true
-    c.if-not-id_held.true)
+returns-then-not-id_held c = sym (c.loop-id.invariant ∙ id-here _ _ _ _ c.id_held.ensures _ (omega arith) c.if-not-id_held.true)
 
-pub loop-left-preserved : goal.loop-left-preserved
-loop-left-preserved c = (
-  c.loop-left.invariant.0
-      ∙ id-on _ _ _ _ c.id_held.ensures _ c.loop-left-test.true
-      c.if-not-id_held.false,
-  omega arith,
-)
+pub loop-id-preserved : goal.loop-id-preserved
+loop-id-preserved c =
+    let less : 9 - (c.loop-id.id + 1) ≡ 9 - c.loop-id.id - 1 = omega arith in
+    rw less (c.loop-id.invariant ∙ id-on _ _ _ _ c.id_held.ensures _ (omega arith) c.if-not-id_held.false)
 
 pub returns : goal.returns
-returns c = sym (c.loop-left.invariant.0 ∙ id-end _ _ _ _ c.loop-left-test.false)
+returns c = let last : c.loop-id.id ≡ 9 = omega arith in sym (c.loop-id.invariant ∙ id-end _ _ _ _ (omega arith) ∙ last)

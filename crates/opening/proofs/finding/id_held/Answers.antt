@@ -1,22 +1,17 @@
-use mathlib.Core.Path.{sym, ◌∙◌}
+use Prim.Native.Nat.{◌+◌, ◌*◌}
+use mathlib.Core.Path.{refl, ◌∙◌}
 use native.Mathlib.Omega.{arith}
-use Rattle.opening.proofs.Turns.{held-here, held_on, held-end}
+use borrow.Author.Rules.{rules}
+use borrow.Author.Tests.{tests}
+use Rattle.std.proofs.lemmas.Iterator.{YieldsList-from_range}
+use Rattle.std.proofs.lemmas.Iterator.Search.{any_from_yields_List}
+use Rattle.rules.specs.Limits.{places}
+use Rattle.segment.specs.Fields.{place_at}
+use Rattle.opening.specs.Finding.{row_holds}
+use Rattle.opening.proofs.Turns.{held-any}
 use Rattle.opening.proofs.finding.id_held.Goals as goal
 
-pub returns-then-row_holds : goal.returns-then-row_holds
-returns-then-row_holds c =
-    sym
-    (c.loop-left.invariant.0
-    ∙ held-here _ _ _ _ _ c.read_place.ensures c.row_holds.ensures _
-    c.loop-left-test.true c.if-row_holds.true)
-
-pub loop-left-preserved : goal.loop-left-preserved
-loop-left-preserved c = (
-  c.loop-left.invariant.0
-      ∙ held_on _ _ _ _ _ c.read_place.ensures c.row_holds.ensures _
-      c.loop-left-test.true c.if-row_holds.false,
-  omega arith,
-)
-
 pub returns : goal.returns
-returns c = sym (c.loop-left.invariant.0 ∙ held-end _ _ _ _ c.loop-left-test.false)
+returns c =
+    any_from_yields_List (λ p. row_holds c.args.id (place_at c.args.segment.now (places * c.args.f + p))) _ _ c.any.result c.any.ensures.ran (YieldsList-from_range 0 places places refl refl) (λ x b q k. search (rules, tests))
+    ∙ held-any c.args.segment.now c.args.id (places * c.args.f) 0 (places * c.args.f) places (omega arith)

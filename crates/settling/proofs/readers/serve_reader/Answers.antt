@@ -26,8 +26,8 @@ somebody c = rw (← c.get-e.ensures) c.if-e-ge-ENTRIES.false
 pub returns-then-e-ge-ENTRIES : goal.returns-then-e-ge-ENTRIES
 returns-then-e-ge-ENTRIES c = λ o b M. turn-nobody M _ c.get-e.ensures c.if-e-ge-ENTRIES.true
 
-pub read_place-row-requires-clause-i_lt_desk_places : goal.read_place-row-requires-clause-i_lt_desk_places
-read_place-row-requires-clause-i_lt_desk_places c =
+pub read_place-row-requires : goal.read_place-row-requires
+read_place-row-requires c =
     reader-under c.requires.2 (reader-of c.requires.2 (rw (← c.get-e.ensures) c.if-e-ge-ENTRIES.false)) _ _
     c.get-e.ensures c.read_entry-m.ensures
 

@@ -25,8 +25,8 @@ returns-then-not-fits c =
     turn-full M (writer_of M (rw (← c.get-e.ensures) c.if-e-ge-ENTRIES.false))
     (rw (← counted (goal.at.returns-then-not-fits c).Else-e-ge-ENTRIES, ← c.fits.ensures) c.if-not-fits.true)
 
-pub read_place-row-requires-clause-i_lt_desk_places : goal.read_place-row-requires-clause-i_lt_desk_places
-read_place-row-requires-clause-i_lt_desk_places c =
+pub read_place-row-requires : goal.read_place-row-requires
+read_place-row-requires c =
     let M = c.requires.0.2 in
     writer-under M (writer_of M (rw (← c.get-e.ensures) c.if-e-ge-ENTRIES.false)) _ _ c.get-e.ensures
     c.read_entry-m.ensures

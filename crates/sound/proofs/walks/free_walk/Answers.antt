@@ -20,15 +20,15 @@ returns-then-v-ge-ENTRY_COUNT c =
     λ b.
     sym
     (c.loop-left.invariant.3 b
-    ∙ end_low _ _ b _ _ _ c.number-v.ensures.0 c.if-s-p-ne0.false
-    c.loop-left-test.true c.if-v-ge-ENTRY_COUNT.true c.number-v.ensures.1)
+    ∙ end_low _ _ b _ _ _ c.from-v.ensures c.if-s-p-ne0.false
+    c.loop-left-test.true c.if-v-ge-ENTRY_COUNT.true (omega arith))
 
 pub returns-then-seen-e-ne0 : goal.returns-then-seen-e-ne0
 returns-then-seen-e-ne0 c =
     λ b.
     sym
     (c.loop-left.invariant.3 b
-    ∙ slot-holds _ _ b _ _ _ (low_byte _ _ _ c.number-v.ensures.0 c.if-s-p-ne0.false) c.loop-left-test.true c.if-v-ge-ENTRY_COUNT.false
+    ∙ slot-holds _ _ b _ _ _ (low_byte _ _ _ c.from-v.ensures c.if-s-p-ne0.false) c.loop-left-test.true c.if-v-ge-ENTRY_COUNT.false
     ∙ c.in_order-e.ensures.3 b
     ∙ from-bad _ _ b _ _ (met-before _ c.if-seen-e-ne0.true))
 
@@ -37,7 +37,7 @@ returns-then-not-free_entry c =
     λ b.
     sym
     (c.loop-left.invariant.3 b
-    ∙ slot-holds _ _ b _ _ _ (low_byte _ _ _ c.number-v.ensures.0 c.if-s-p-ne0.false) c.loop-left-test.true c.if-v-ge-ENTRY_COUNT.false
+    ∙ slot-holds _ _ b _ _ _ (low_byte _ _ _ c.from-v.ensures c.if-s-p-ne0.false) c.loop-left-test.true c.if-v-ge-ENTRY_COUNT.false
     ∙ c.in_order-e.ensures.3 b
     ∙ from-bad _ _ b _ _
     (unfit c.if-seen-e-ne0.false (failed c.free_entry.ensures (ap not c.if-not-free_entry.true))))
@@ -49,7 +49,7 @@ loop-left-preserved c = (
   omega arith,
   λ b.
       c.loop-left.invariant.3 b
-      ∙ slot-holds _ _ b _ _ _ (low_byte _ _ _ c.number-v.ensures.0 c.if-s-p-ne0.false) c.loop-left-test.true c.if-v-ge-ENTRY_COUNT.false
+      ∙ slot-holds _ _ b _ _ _ (low_byte _ _ _ c.from-v.ensures c.if-s-p-ne0.false) c.loop-left-test.true c.if-v-ge-ENTRY_COUNT.false
       ∙ c.in_order-e.ensures.3 b
       ∙ from-good _ _ b _ _
       (both-held c.if-seen-e-ne0.false (held c.free_entry.ensures (ap not c.if-not-free_entry.false))),

@@ -1,7 +1,9 @@
 use native.Mathlib.Omega.{arith}
 use mathlib.Core.Path.{◌≡◌, sym, ◌∙◌}
+use Prim.Native.Nat.{◌+◌, ◌-◌}
+use Rattle.rules.specs.Limits.{entries}
 use Rattle.sound.specs.Walks.{entry_word, place_in, queue_walk}
-use Rattle.sound.proofs.Steps.{held, failed, queue-end, queue-bad, queue-step, queue-place, met-before, unfit, both-held}
+use Rattle.sound.proofs.Steps.{held, failed, queue_end, queue_bad, queue_next, queue-place, met-before, unfit, both-held}
 use Rattle.sound.proofs.walks.queue_walk.Goals as goal
 use mathlib.Core.Path.{ap}
 use mathlib.Core.Bool.{not}
@@ -9,41 +11,41 @@ use mathlib.Core.Bool.{not}
 pub returns-then-v-ge-ENTRIES : goal.returns-then-v-ge-ENTRIES
 returns-then-v-ge-ENTRIES c =
     sym
-    (c.loop-left.invariant.1
-    ∙ queue-end _ _ _ _ _ _ _ c.get-v.ensures _ c.loop-left-test.true
+    (c.loop.invariant.1
+    ∙ queue_end _ _ _ _ _ _ _ _ (omega arith) _ c.get-v.ensures
     c.if-v-ge-ENTRIES.true)
 
 pub returns-then-seen-e-ne0 : goal.returns-then-seen-e-ne0
 returns-then-seen-e-ne0 c =
     sym
-    (c.loop-left.invariant.1
-    ∙ queue-bad _ _ _ _ _ _ _ c.get-v.ensures _ c.loop-left-test.true
+    (c.loop.invariant.1
+    ∙ queue_bad _ _ _ _ _ _ _ _ (omega arith) _ c.get-v.ensures
     c.if-v-ge-ENTRIES.false (met-before _ c.if-seen-e-ne0.true))
 
 pub returns-then-not-queue_entry : goal.returns-then-not-queue_entry
 returns-then-not-queue_entry c =
     sym
-    (c.loop-left.invariant.1
-    ∙ queue-bad _ _ _ _ _ _ _ c.get-v.ensures _ c.loop-left-test.true c.if-v-ge-ENTRIES.false
+    (c.loop.invariant.1
+    ∙ queue_bad _ _ _ _ _ _ _ _ (omega arith) _ c.get-v.ensures c.if-v-ge-ENTRIES.false
     (unfit c.if-seen-e-ne0.false (failed c.queue_entry.ensures (ap not c.if-not-queue_entry.true))))
 
 pub bounds-busy-i : goal.bounds-busy-i
 bounds-busy-i c =
-    let h = queue-place c.args.s.now c.loop-left.busy c.args.side
+    let h = queue-place c.args.s.now c.loop.busy c.args.side
     c.args.f c.get-v.result _ c.get-i.ensures
     (held c.queue_entry.ensures (ap not c.if-not-queue_entry.false)) in
     omega arith
 
-pub loop-left-preserved : goal.loop-left-preserved
+pub loop-preserved : goal.loop-preserved
 unfolding place_in entry_word
-loop-left-preserved c = (
+loop-preserved c = (
   omega arith,
   rw c.get-i.ensures
-      (c.loop-left.invariant.1
-      ∙ queue-step _ _ _ _ _ _ _ c.get-v.ensures _ c.loop-left-test.true c.if-v-ge-ENTRIES.false
+      (c.loop.invariant.1
+      ∙ queue_next _ _ _ _ _ _ _ _ (omega arith) _ c.get-v.ensures c.if-v-ge-ENTRIES.false
       (both-held c.if-seen-e-ne0.false (held c.queue_entry.ensures (ap not c.if-not-queue_entry.false)))),
 )
 
 pub returns : goal.returns
 unfolding queue_walk
-returns c = let z : c.loop-left.left ≡ 0 = omega arith in sym (c.loop-left.invariant.1 ∙ rw z)
+returns c = let z : entries + 1 - c.loop.counter ≡ 0 = omega arith in sym (c.loop.invariant.1 ∙ rw z)

@@ -1,14 +1,11 @@
 use mathlib.Core.Path.{◌≡◌}
-use Prim.Native.Nat.{◌+◌, ◌<◌}
+use Prim.Native.Nat.{◌+◌, ◌-◌, ◌<◌}
 use Rattle.rules.specs.Limits.{entries}
 use Rattle.segment.specs.Layout.{file_rows}
 use Rattle.sound.specs.Walks.{queue_walk}
 use Rattle.sound.proofs.walks.queue_walk.Given as goal
 
-abbrev pub invariant-loop-left : goal.invariant-loop-left
-invariant-loop-left l =
+abbrev pub invariant-loop : goal.invariant-loop
+invariant-loop l =
     (l.p < file_rows)
-    × (queue_walk l.s l.side l.f l.head l.initial.seen l.initial.busy (entries + 1) ≡ queue_walk l.s l.side l.f l.p l.seen l.busy l.left)
-
-abbrev pub decreases-loop-left : goal.decreases-loop-left
-decreases-loop-left l = l.left
+    × (queue_walk l.s l.side l.f l.head l.initial.seen l.initial.busy (entries + 1) ≡ queue_walk l.s l.side l.f l.p l.seen l.busy (entries + 1 - l.counter))

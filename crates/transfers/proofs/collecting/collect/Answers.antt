@@ -32,9 +32,9 @@ overflow_add-place c = record { fits = omega (arith, (fit (goal.at.overflow_add-
 pub overflow_add-place-2 : goal.overflow_add-place-2
 overflow_add-place-2 c = record { fits = omega (arith, (fit (goal.at.overflow_add-place-2 c).Start).file, (fit (goal.at.overflow_add-place-2 c).Start).place) }
 
-pub get-e-requires-clause-k_lt_segment_words : goal.get-e-requires-clause-k_lt_segment_words
-get-e-requires-clause-k_lt_segment_words c =
-    omega (arith, (fit (goal.at.get-e-requires-clause-k_lt_segment_words c).Start).file, (fit (goal.at.get-e-requires-clause-k_lt_segment_words c).Start).place)
+pub get-e-requires : goal.get-e-requires
+get-e-requires c =
+    omega (arith, (fit (goal.at.get-e-requires c).Start).file, (fit (goal.at.get-e-requires c).Start).place)
 
 pub returns-then-e-ge-ENTRIES : goal.returns-then-e-ge-ENTRIES
 unfolding place_of
@@ -44,7 +44,7 @@ pub free-requires : goal.free-requires
 unfolding place_of
 free-requires c =
     let F = fit (goal.at.free-requires c).Start in
-    (F.segment, F.buffers-size, omega (arith, F.file, F.place), omega (arith, (seen (goal.at.free-requires c).After-read_entry-m).port, (seen (goal.at.free-requires c).After-read_entry-m).here))
+    (omega (arith, F.file, F.place), omega (arith, (seen (goal.at.free-requires c).After-read_entry-m).port, (seen (goal.at.free-requires c).After-read_entry-m).here))
 
 pub overflow_cast-result : goal.overflow_cast-result
 overflow_cast-result c = record { fits = omega (arith, entry-status (known (goal.at.overflow_cast-result c).Start) (seen (goal.at.overflow_cast-result c).After-read_entry-m)) }
@@ -56,14 +56,14 @@ returns-then-m-ne0 c =
     entry-ends (record { stands = S; accepted = A }) (seen (goal.at.returns-then-m-ne0 c).After-read_entry-m) (record {
       collected = c.free.ensures.segment;
       cleared = c.free.ensures.buffers;
-      bytes = λ i. (c.type_inv.segment i).fits;
-      bytes' = λ i. (c.type_inv.buffers i).fits;
+      bytes = c.free.ensures.bytes.0;
+      bytes' = c.free.ensures.bytes.1;
     }) c.if-m-ne0.true
 
 pub lies-requires : goal.lies-requires
 lies-requires c =
     let F = fit (goal.at.lies-requires c).Start in
-    (F.buffers-size, omega (arith, F.file, F.place), entry-size (known (goal.at.lies-requires c).Start) (seen (goal.at.lies-requires c).After-read_entry-m))
+    (omega (arith, F.file, F.place), entry-size (known (goal.at.lies-requires c).Start) (seen (goal.at.lies-requires c).After-read_entry-m))
 
 pub copy-requires : goal.copy-requires
 copy-requires c =
@@ -73,7 +73,7 @@ pub free-requires-2 : goal.free-requires-2
 unfolding place_of
 free-requires-2 c =
     let F = fit (goal.at.free-requires-2 c).Start in
-    (F.segment, F.buffers-size, omega (arith, F.file, F.place), omega (arith, (seen (goal.at.free-requires-2 c).After-read_entry-m).port, (seen (goal.at.free-requires-2 c).After-read_entry-m).here))
+    (omega (arith, F.file, F.place), omega (arith, (seen (goal.at.free-requires-2 c).After-read_entry-m).port, (seen (goal.at.free-requires-2 c).After-read_entry-m).here))
 
 pub returns : goal.returns
 unfolding place_of Bytes
@@ -82,6 +82,6 @@ returns c =
     entry_gives (record { stands = S; accepted = A }) (seen (goal.at.returns c).After-read_entry-m) (record {
       collected = c.free-2.ensures.segment;
       cleared = c.free-2.ensures.buffers;
-      bytes = λ i. (c.type_inv.segment i).fits;
-      bytes' = λ i. (c.type_inv.buffers i).fits;
+      bytes = c.free-2.ensures.bytes.0;
+      bytes' = c.free-2.ensures.bytes.1;
     }) c.if-m-ne0.false (c.copy.ensures ∙ ap (sets _ answer_head) c.lies.ensures)

@@ -75,21 +75,21 @@ overflow_mul-place c = record { fits = omega (arith, (fit (goal.at.overflow_mul-
 pub overflow_add-place : goal.overflow_add-place
 overflow_add-place c = record { fits = omega (arith, (fit (goal.at.overflow_add-place c).Start).file, (fit (goal.at.overflow_add-place c).Start).place) }
 
-pub take_file-file-requires-clause-f_lt_files : goal.take_file-file-requires-clause-f_lt_files
-take_file-file-requires-clause-f_lt_files c =
-    (fit (goal.at.take_file-file-requires-clause-f_lt_files c).Start).file
+pub take_file-file-requires : goal.take_file-file-requires
+take_file-file-requires c =
+    (fit (goal.at.take_file-file-requires c).Start).file
 
-pub place_typed-typed-requires-clause-i_lt_desk_places : goal.place_typed-typed-requires-clause-i_lt_desk_places
-place_typed-typed-requires-clause-i_lt_desk_places c =
-    omega (arith, (fit (goal.at.place_typed-typed-requires-clause-i_lt_desk_places c).Start).file, (fit (goal.at.place_typed-typed-requires-clause-i_lt_desk_places c).Start).place)
+pub place_typed-typed-requires : goal.place_typed-typed-requires
+place_typed-typed-requires c =
+    omega (arith, (fit (goal.at.place_typed-typed-requires c).Start).file, (fit (goal.at.place_typed-typed-requires c).Start).place)
 
-pub place_keep-keep-requires-clause-i_lt_desk_places : goal.place_keep-keep-requires-clause-i_lt_desk_places
-place_keep-keep-requires-clause-i_lt_desk_places c =
-    omega (arith, (fit (goal.at.place_keep-keep-requires-clause-i_lt_desk_places c).Start).file, (fit (goal.at.place_keep-keep-requires-clause-i_lt_desk_places c).Start).place)
+pub place_keep-keep-requires : goal.place_keep-keep-requires
+place_keep-keep-requires c =
+    omega (arith, (fit (goal.at.place_keep-keep-requires c).Start).file, (fit (goal.at.place_keep-keep-requires c).Start).place)
 
-pub fetch-found-requires-clause-blocks_len : goal.fetch-found-requires-clause-blocks_len
-fetch-found-requires-clause-blocks_len c =
-    (read_held (known (goal.at.fetch-found-requires-clause-blocks_len c).Start) c.take_file-file.ensures).0
+pub fetch-found-requires-clause-f_lt_files : goal.fetch-found-requires-clause-f_lt_files
+fetch-found-requires-clause-f_lt_files c =
+    (fit (goal.at.fetch-found-requires-clause-f_lt_files c).Start).file
 
 pub fetch-found-requires-clause-held : goal.fetch-found-requires-clause-held
 fetch-found-requires-clause-held c =
@@ -102,7 +102,7 @@ give-size-requires-clause-at_len_bound c =
 pub begin_read-requires : goal.begin_read-requires
 unfolding place_of
 begin_read-requires c =
-    ((fit (goal.at.begin_read-requires c).Start).segment, omega (arith, (fit (goal.at.begin_read-requires c).Start).file, (fit (goal.at.begin_read-requires c).Start).place), read-side (known (goal.at.begin_read-requires c).Start))
+    (omega (arith, (fit (goal.at.begin_read-requires c).Start).file, (fit (goal.at.begin_read-requires c).Start).place), read-side (known (goal.at.begin_read-requires c).Start))
 
 pub quick_conclude-requires : goal.quick_conclude-requires
 unfolding place_of
@@ -118,26 +118,26 @@ returns-then-found c =
     gave-of c.quick_conclude.ensures S.stands.bodies
     (read-gives (reads (goal.at.returns-then-found c).Start S) (served (goal.at.returns-then-found c).After-share c.begin_read.ensures) c.give-size.ensures.size c.give-size.ensures.answer c.log_of-log.ensures c.in_words-by_words.ensures)
 
-pub read_place-row-requires-clause-i_lt_desk_places : goal.read_place-row-requires-clause-i_lt_desk_places
-read_place-row-requires-clause-i_lt_desk_places c = let F = fit (goal.at.read_place-row-requires-clause-i_lt_desk_places c).Start in
+pub read_place-row-requires : goal.read_place-row-requires
+read_place-row-requires c = let F = fit (goal.at.read_place-row-requires c).Start in
     omega (arith, F.file, F.place)
 
 pub begin_read-requires-2 : goal.begin_read-requires-2
 unfolding place_of
 begin_read-requires-2 c =
-    ((fit (goal.at.begin_read-requires-2 c).Start).segment, omega (arith, (fit (goal.at.begin_read-requires-2 c).Start).file, (fit (goal.at.begin_read-requires-2 c).Start).place), read-side (known (goal.at.begin_read-requires-2 c).Start))
+    (omega (arith, (fit (goal.at.begin_read-requires-2 c).Start).file, (fit (goal.at.begin_read-requires-2 c).Start).place), read-side (known (goal.at.begin_read-requires-2 c).Start))
 
 pub has_writer-requires : goal.has_writer-requires
 has_writer-requires c =
     let R = known (goal.at.has_writer-requires c).Start in
-    ((read-free R (unserved (goal.at.has_writer-requires c).After-begin_read-2)).0, (fit (goal.at.has_writer-requires c).Start).file, read-counts R (unserved (goal.at.has_writer-requires c).After-begin_read-2).fetches)
+    ((fit (goal.at.has_writer-requires c).Start).file, read-counts R (unserved (goal.at.has_writer-requires c).After-begin_read-2).fetches)
 
-pub wait_read-requires-clause-segment_len : goal.wait_read-requires-clause-segment_len
+pub wait_read-requires-clause-f_lt_files : goal.wait_read-requires-clause-f_lt_files
 unfolding place_of
-wait_read-requires-clause-segment_len c =
-    let F = fit (goal.at.wait_read-requires-clause-segment_len c).Start in
-    let free = read-free (known (goal.at.wait_read-requires-clause-segment_len c).Start) (unserved (goal.at.wait_read-requires-clause-segment_len c).After-begin_read-2) in
-    (free.0, F.buffers-size, F.file, omega (arith, F.file, F.place), free.1)
+wait_read-requires-clause-f_lt_files c =
+    let F = fit (goal.at.wait_read-requires-clause-f_lt_files c).Start in
+    let free = read-free (known (goal.at.wait_read-requires-clause-f_lt_files c).Start) (unserved (goal.at.wait_read-requires-clause-f_lt_files c).After-begin_read-2) in
+    (F.file, omega (arith, F.file, F.place), free.1)
 
 pub wait_read-requires-clause-free_list_bound : goal.wait_read-requires-clause-free_list_bound
 unfolding place_of

@@ -5,5 +5,5 @@ use Rattle.transfers.proofs.waiting.begin_read.Goals as goal
 
 pub returns : goal.returns
 returns c =
-    let bytes : Bytes c.args.segment.now = unfold Bytes in λ i. (c.slice_known-1.given i).fits in
-    read-begun _ bytes _ (omega arith) c.requires.2 c.put.ensures c.put-2.ensures
+    let bytes : Bytes c.args.segment.now = unfold Bytes in c.fits-segment in
+    read-begun _ bytes _ (omega arith) c.requires.1 c.put.ensures c.put-2.ensures

@@ -5,5 +5,5 @@ use Rattle.transfers.proofs.waiting.begin_write.Goals as goal
 
 pub returns : goal.returns
 returns c =
-    let bytes : Bytes c.args.segment.now = unfold Bytes in λ i. (c.slice_known-1.given i).fits in
-    write-begun _ bytes _ (omega arith) c.requires.2 c.put.ensures
+    let bytes : Bytes c.args.segment.now = unfold Bytes in c.fits-segment in
+    write-begun _ bytes _ (omega arith) c.requires.1 c.put.ensures

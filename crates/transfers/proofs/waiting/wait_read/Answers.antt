@@ -1,14 +1,16 @@
+use mathlib.Core.Path.{◌∙◌}
 use native.Mathlib.Omega.{arith}
 use Rattle.transfers.specs.Rows.{read_entry}
 use Rattle.segment.specs.Fields.{entry_words}
+use Rattle.transfers.proofs.Tests.{byte_bit}
 use Rattle.transfers.proofs.waiting.wait_read.Goals as goal
 
-pub wait-requires-clause-l_lt_list_count : goal.wait-requires-clause-l_lt_list_count
+pub wait-requires : goal.wait-requires
 unfolding read_entry entry_words
-wait-requires-clause-l_lt_list_count c =
-    (omega (arith, c.requires.segment_len.2), c.requires.segment_len.4, rw (c.waiting_read-m.ensures, c.unit.ensures) c.requires.free_list_bound)
+wait-requires c =
+    (omega (arith, c.requires.f_lt_files.0), c.requires.f_lt_files.2, rw (c.waiting_read-m.ensures, c.from.ensures ∙ byte_bit c.args.by_words) c.requires.free_list_bound)
 
 pub returns-clause-segment : goal.returns-clause-segment
 unfolding read_entry entry_words
 returns-clause-segment c =
-    rw (← c.unit.ensures) (rw c.waiting_read-m.ensures at c.wait.ensures)
+    rw (← (c.from.ensures ∙ byte_bit c.args.by_words)) (rw c.waiting_read-m.ensures at c.wait.ensures)

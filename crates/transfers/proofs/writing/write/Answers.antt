@@ -37,7 +37,7 @@ admitted : (c : After-put-next)
 unfolding place_of
 admitted c = record {
   seen = record { file = c.take_file-file.ensures; place = refl; began = c.begin_write.ensures };
-  fits = sym c.if-taken.true ∙ c.taken_now-taken.ensures.done;
+  fits = sym c.in_default.ensures;
 }
 
 -- what the code has seen when the accessor has begun
@@ -47,12 +47,12 @@ untaken : (c : After-begin_write-2)
 unfolding place_of
 untaken c = record {
   seen = record { file = c.take_file-file.ensures; place = c.read_place-row.ensures; began = c.begin_write-2.ensures };
-  full = sym c.if-taken.false ∙ c.taken_now-taken.ensures.done;
+  full = sym c.in-Some.ensures.0;
   words = c.in_words-by_words.ensures;
 }
 
-writers : (c : After-begin_write-2) → c.taken_now-taken.result.writers ≡ count_side c.args.segment.now c.args.f 2
-writers c = c.taken_now-taken.ensures.writers c.if-taken.false
+writers : (c : After-begin_write-2) → c.in-Some.writers ≡ count_side c.args.segment.now c.args.f 2
+writers c = c.in-Some.ensures.1
 
 -- whether the write may wait
 may-wait : (c : After-may_wait) {t : Bool} → c.may_wait.result ≡ t
@@ -65,26 +65,26 @@ overflow_mul-place c = record { fits = omega (arith, (fit (goal.at.overflow_mul-
 pub overflow_add-place : goal.overflow_add-place
 overflow_add-place c = record { fits = omega (arith, (fit (goal.at.overflow_add-place c).Start).file, (fit (goal.at.overflow_add-place c).Start).place) }
 
-pub take_file-file-requires-clause-f_lt_files : goal.take_file-file-requires-clause-f_lt_files
-take_file-file-requires-clause-f_lt_files c =
-    (fit (goal.at.take_file-file-requires-clause-f_lt_files c).Start).file
+pub take_file-file-requires : goal.take_file-file-requires
+take_file-file-requires c =
+    (fit (goal.at.take_file-file-requires c).Start).file
 
-pub taken_now-taken-requires : goal.taken_now-taken-requires
-taken_now-taken-requires c =
-    ((fit (goal.at.taken_now-taken-requires c).Start).segment, (fit (goal.at.taken_now-taken-requires c).Start).file, write-ranged (known (goal.at.taken_now-taken-requires c).Start) c.take_file-file.ensures)
+pub held_back-requires : goal.held_back-requires
+held_back-requires c =
+    ((fit (goal.at.held_back-requires c).Start).file, write-ranged (known (goal.at.held_back-requires c).Start) c.take_file-file.ensures)
 
-pub place_id-id-requires-clause-i_lt_desk_places : goal.place_id-id-requires-clause-i_lt_desk_places
-place_id-id-requires-clause-i_lt_desk_places c =
-    omega (arith, (fit (goal.at.place_id-id-requires-clause-i_lt_desk_places c).Start).file, (fit (goal.at.place_id-id-requires-clause-i_lt_desk_places c).Start).place)
+pub place_id-id-requires : goal.place_id-id-requires
+place_id-id-requires c =
+    omega (arith, (fit (goal.at.place_id-id-requires c).Start).file, (fit (goal.at.place_id-id-requires c).Start).place)
 
 pub begin_write-requires : goal.begin_write-requires
 unfolding place_of
 begin_write-requires c =
-    ((fit (goal.at.begin_write-requires c).Start).segment, omega (arith, (fit (goal.at.begin_write-requires c).Start).file, (fit (goal.at.begin_write-requires c).Start).place), write-side (known (goal.at.begin_write-requires c).Start))
+    (omega (arith, (fit (goal.at.begin_write-requires c).Start).file, (fit (goal.at.begin_write-requires c).Start).place), write-side (known (goal.at.begin_write-requires c).Start))
 
-pub put-next-requires-clause-blocks_len : goal.put-next-requires-clause-blocks_len
-put-next-requires-clause-blocks_len c =
-    (write-ready (known (goal.at.put-next-requires-clause-blocks_len c).Start) c.take_file-file.ensures).0
+pub put-next-requires-clause-f_lt_files : goal.put-next-requires-clause-f_lt_files
+put-next-requires-clause-f_lt_files c =
+    (fit (goal.at.put-next-requires-clause-f_lt_files c).Start).file
 
 pub put-next-requires-clause-ready : goal.put-next-requires-clause-ready
 put-next-requires-clause-ready c =
@@ -101,32 +101,32 @@ quick_conclude-requires c =
 pub overflow_cast-data : goal.overflow_cast-data
 overflow_cast-data c = record { fits = omega (arith, write_bytes (known (goal.at.overflow_cast-data c).Start)) }
 
-pub returns-then-taken : goal.returns-then-taken
+pub returns-in_default : goal.returns-in_default
 unfolding place_of
-returns-then-taken c =
+returns-in_default c =
     λ d s S.
     done-of c.quick_conclude.ensures S.stands.bodies
-    (write-put (writes (goal.at.returns-then-taken c).Start S) (admitted (goal.at.returns-then-taken c).After-put-next) c.place_id-id.ensures c.put-next.ensures.keeps c.log_of-log.ensures c.in_words-by_words.ensures)
+    (write-put (writes (goal.at.returns-in_default c).Start S) (admitted (goal.at.returns-in_default c).After-put-next) c.place_id-id.ensures c.put-next.ensures.keeps c.log_of-log.ensures c.in_words-by_words.ensures)
 
-pub read_place-row-requires-clause-i_lt_desk_places : goal.read_place-row-requires-clause-i_lt_desk_places
-read_place-row-requires-clause-i_lt_desk_places c =
-    omega (arith, (fit (goal.at.read_place-row-requires-clause-i_lt_desk_places c).Start).file, (fit (goal.at.read_place-row-requires-clause-i_lt_desk_places c).Start).place)
+pub read_place-row-requires : goal.read_place-row-requires
+read_place-row-requires c =
+    omega (arith, (fit (goal.at.read_place-row-requires c).Start).file, (fit (goal.at.read_place-row-requires c).Start).place)
 
 pub begin_write-requires-2 : goal.begin_write-requires-2
 unfolding place_of
 begin_write-requires-2 c =
-    ((fit (goal.at.begin_write-requires-2 c).Start).segment, omega (arith, (fit (goal.at.begin_write-requires-2 c).Start).file, (fit (goal.at.begin_write-requires-2 c).Start).place), write-side (known (goal.at.begin_write-requires-2 c).Start))
+    (omega (arith, (fit (goal.at.begin_write-requires-2 c).Start).file, (fit (goal.at.begin_write-requires-2 c).Start).place), write-side (known (goal.at.begin_write-requires-2 c).Start))
 
-pub count_side-requires-clause-f_lt_files : goal.count_side-requires-clause-f_lt_files
-count_side-requires-clause-f_lt_files c =
-    (fit (goal.at.count_side-requires-clause-f_lt_files c).Start).file
+pub count_side-requires : goal.count_side-requires
+count_side-requires c =
+    (fit (goal.at.count_side-requires c).Start).file
 
-pub wait_write-requires-clause-segment_len : goal.wait_write-requires-clause-segment_len
+pub wait_write-requires-clause-f_lt_files : goal.wait_write-requires-clause-f_lt_files
 unfolding place_of
-wait_write-requires-clause-segment_len c =
-    let F = fit (goal.at.wait_write-requires-clause-segment_len c).Start in
-    let free = write-free (known (goal.at.wait_write-requires-clause-segment_len c).Start) (untaken (goal.at.wait_write-requires-clause-segment_len c).After-begin_write-2) in
-    (free.0, F.buffers-size, F.file, omega (arith, F.file, F.place), write_bytes (known (goal.at.wait_write-requires-clause-segment_len c).Start), free.1)
+wait_write-requires-clause-f_lt_files c =
+    let F = fit (goal.at.wait_write-requires-clause-f_lt_files c).Start in
+    let free = write-free (known (goal.at.wait_write-requires-clause-f_lt_files c).Start) (untaken (goal.at.wait_write-requires-clause-f_lt_files c).After-begin_write-2) in
+    (F.file, omega (arith, F.file, F.place), write_bytes (known (goal.at.wait_write-requires-clause-f_lt_files c).Start), free.1)
 
 pub wait_write-requires-clause-free_list_bound : goal.wait_write-requires-clause-free_list_bound
 unfolding place_of

@@ -13,14 +13,14 @@ returns-then-s-p-ne0 c =
 
 pub returns-then-v-ge-ENTRY_COUNT : goal.returns-then-v-ge-ENTRY_COUNT
 returns-then-v-ge-ENTRY_COUNT c =
-    sym (c.loop-left.invariant.3 ∙ ends-off _ _ _ _ (low_byte _ _ _ c.number-v.ensures.0 c.if-s-p-ne0.false) c.loop-left-test.true c.if-v-ge-ENTRY_COUNT.true)
+    sym (c.loop-left.invariant.3 ∙ ends-off _ _ _ _ (low_byte _ _ _ c.from-v.ensures c.if-s-p-ne0.false) c.loop-left-test.true c.if-v-ge-ENTRY_COUNT.true)
 
 pub returns-then-not-free_entry : goal.returns-then-not-free_entry
 returns-then-not-free_entry c =
     let k = c.paired.ensures c.if-paired.true in
     sym
     (c.loop-left.invariant.3
-    ∙ ends_on _ _ _ _ (low_byte _ _ _ c.number-v.ensures.0 c.if-s-p-ne0.false) c.loop-left-test.true c.if-v-ge-ENTRY_COUNT.false
+    ∙ ends_on _ _ _ _ (low_byte _ _ _ c.from-v.ensures c.if-s-p-ne0.false) c.loop-left-test.true c.if-v-ge-ENTRY_COUNT.false
     ∙ c.along-e.ensures.3
     ∙ ends_next _ _ _ _ _ refl k.2 k.1 k.0
     ∙ from-off _ _ _ (failed c.free_entry.ensures (ap not c.if-not-free_entry.true)))
@@ -32,7 +32,7 @@ loop-left-preserved-then-paired c =
       omega arith,
       omega arith,
       c.loop-left.invariant.3
-          ∙ ends_on _ _ _ _ (low_byte _ _ _ c.number-v.ensures.0 c.if-s-p-ne0.false) c.loop-left-test.true c.if-v-ge-ENTRY_COUNT.false
+          ∙ ends_on _ _ _ _ (low_byte _ _ _ c.from-v.ensures c.if-s-p-ne0.false) c.loop-left-test.true c.if-v-ge-ENTRY_COUNT.false
           ∙ c.along-e.ensures.3
           ∙ ends_next _ _ _ _ _ refl k.2 k.1 k.0
           ∙ from_on _ _ _ (held c.free_entry.ensures (ap not c.if-not-free_entry.false)),
@@ -42,7 +42,7 @@ pub returns-then-not-free_entry-2 : goal.returns-then-not-free_entry-2
 returns-then-not-free_entry-2 c =
     sym
     (c.loop-left.invariant.3
-    ∙ ends_on _ _ _ _ (low_byte _ _ _ c.number-v.ensures.0 c.if-s-p-ne0.false) c.loop-left-test.true c.if-v-ge-ENTRY_COUNT.false
+    ∙ ends_on _ _ _ _ (low_byte _ _ _ c.from-v.ensures c.if-s-p-ne0.false) c.loop-left-test.true c.if-v-ge-ENTRY_COUNT.false
     ∙ c.along-e.ensures.3
     ∙ from-off _ _ _ (failed c.free_entry-in-loop-left.ensures (ap not c.if-not-free_entry-2.true)))
 
@@ -52,7 +52,7 @@ loop-left-preserved c = (
   omega arith,
   omega arith,
   c.loop-left.invariant.3
-      ∙ ends_on _ _ _ _ (low_byte _ _ _ c.number-v.ensures.0 c.if-s-p-ne0.false) c.loop-left-test.true c.if-v-ge-ENTRY_COUNT.false
+      ∙ ends_on _ _ _ _ (low_byte _ _ _ c.from-v.ensures c.if-s-p-ne0.false) c.loop-left-test.true c.if-v-ge-ENTRY_COUNT.false
       ∙ c.along-e.ensures.3
       ∙ from_on _ _ _ (held c.free_entry-in-loop-left.ensures (ap not c.if-not-free_entry-2.false)),
 )

@@ -1,4 +1,4 @@
-use Prim.Native.Nat.{ℕ, ◌-◌, ◌≤◌, ◌<◌}
+use Prim.Native.Nat.{ℕ, ◌-◌, ◌<◌}
 use mathlib.Core.Path.{◌≡◌}
 use lib.ListN.{length, get_or}
 use Rattle.rules.specs.Limits.{entries}
@@ -8,10 +8,6 @@ use Rattle.sound.proofs.quick.tables.fill.Given as goal
 
 abbrev pub invariant-loop-e : goal.invariant-loop-e
 invariant-loop-e l =
-    (l.e ≤ entries)
-    × (length l.one ≡ stops)
+    (length l.one ≡ stops)
     × Sofar l.all (bare_from l.s 0 entries) (bare_from l.s l.e (entries - l.e))
     × ((k : ℕ) → k < l.e → get_or l.one k 0 ≡ stride l.s k)
-
-abbrev pub decreases-loop-e : goal.decreases-loop-e
-decreases-loop-e l = entries - l.e

@@ -1,0 +1,58 @@
+// Bytes that are put one after another into a memory of N bytes.
+ghost use Rattle.std.specs.Prelude.{◌≡◌, Some, [], ◌∷◌, ◌++◌, ◌≤◌, take};
+
+use std::io;
+use std::io::Write;
+
+// The first `len` bytes are filled.
+#[derive(Drop)]
+pub struct Filled<const N: usize> {
+    pub bytes: [u8; N],
+    pub len: usize,
+    ghost within: { len ≤ N },
+}
+
+impl<const N: usize> Filled<N> {
+    pub fn new() -> Self
+        ensures { result.len ≡ 0 }
+    {
+        Filled {
+            bytes: [0; N],
+            len: 0,
+        }
+    }
+
+    pub fn as_slice(&self) -> &[u8]
+        ensures { result.now ≡ take self.now.len self.now.bytes }
+    {
+        &self.bytes[..self.len]
+    }
+
+    // Adds a byte, if there is room.
+    pub fn push(&mut self, b: u8)
+        ensures { take self.new.len self.new.bytes ≡ take N (take self.old.len self.old.bytes ++ (b ∷ [])) }
+    {
+        if self.len < N {
+            self.bytes[self.len] = b;
+            self.len += 1;
+        }
+    }
+}
+
+impl<const N: usize> Write for Filled<N> {
+    ghost contents = { λ f. Some (take f.len f.bytes) };
+
+    // Adds the bytes that there is room for.
+    fn write(&mut self, bytes: &[u8]) -> io::Result<usize> {
+        let n = bytes.len().min(N - self.len);
+        let end = self.len + n;
+        let memory = &mut self.bytes[..];
+        memory[self.len..end].copy_from_slice(&bytes[..n]);
+        self.len = end;
+        Ok(n)
+    }
+
+    fn flush(&mut self) -> io::Result<()> {
+        Ok(())
+    }
+}
