@@ -6,7 +6,6 @@
 ghost use Rattle.std.specs.Prelude.{◌≤◌, IfSome, length};
 
 use kinds::limits::FILES;
-use kinds::refusals::Refusal;
 use std::env::FillError;
 use std::io::{Error, Write};
 use std::rt::{Env, Files};
@@ -36,8 +35,8 @@ pub struct Named {
 }
 
 // Prints a line on standard error: what is wrong, and the refusal's number.
-pub fn refused<E: Write>(errors: &mut E, why: &[u8], refusal: Refusal) {
-    let number = refusal.number();
+// Kept: a number and no `Refusal`, since a narrower parameter would ask more of callers.
+pub fn refused<E: Write>(errors: &mut E, why: &[u8], number: u8) {
     let _ = errors.write_all(why);
     let _ = writeln!(errors, " (status {number})");
 }
@@ -58,7 +57,9 @@ fn file_named<R: Env>(rt: &R) -> Option<usize> {
 }
 
 // The path that an argument names, which is put into `room`. It is empty if there is no room for it.
-fn path_named<'a, R: Env>(rt: &R, word: usize, room: &'a mut [u8]) -> &'a [u8] {
+fn path_named<'a, R: Env>(rt: &R, word: usize, room: &'a mut [u8]) -> &'a [u8]
+    ensures { length result.now ≤ length room.old }
+{
     let n = rt.arg(word, room).unwrap_or(0);
     &room[..n]
 }
@@ -91,7 +92,9 @@ fn unopened<E: Write>(errors: &mut E, path: &[u8], error: Error) {
 }
 
 // Prints an error into `room`, as far as there is room, and gives what was printed.
-fn print_error(error: Error, room: &mut [u8]) -> &[u8] {
+fn print_error(error: Error, room: &mut [u8]) -> &[u8]
+    ensures { length result.now ≤ length room.old }
+{
     let size = room.len();
     let mut rest = &mut *room;
     let _ = write!(rest, "{error}");

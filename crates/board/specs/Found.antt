@@ -1,5 +1,6 @@
 -- The request of an accessor, as the lists of the segment show it.
 use Rattle.std.specs.Prelude.{ℕ, zero, suc, ◌+◌, ◌*◌, Bool, cond, ◌&&◌, List, [], ◌++◌, ltb, eqb, Option, Some, None}
+use Rattle.occurrences.specs.Count.{bit}
 use Rattle.rules.specs.Limits.{places, entries}
 use Rattle.segment.specs.declared.Entry.{Entry}
 use Rattle.segment.specs.declared.PlaceRow.{PlaceRow}
@@ -36,7 +37,7 @@ first_at s l i = first_in s i (nth s l)
 unfoldable pub waiting_in : List ℕ → ℕ → ℕ → ℕ → ℕ → Request
 waiting_in s l i side e =
     cond (ltb e entries)
-    (cond (eqb side 2) (Writes (entry_at s e).size (left_at s i) (first_at s l i)) (Reads (entry_at s e).limit (left_at s i) (first_at s l i)))
+    (cond (eqb side 2) (Writes (entry_at s e).size (left_at s i) (bit (first_at s l i))) (Reads (entry_at s e).limit (left_at s i) (bit (first_at s l i))))
     Idle
 
 abbrev pub waiting_at : List ℕ → ℕ → ℕ → ℕ → Request

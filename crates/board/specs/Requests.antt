@@ -1,5 +1,6 @@
 -- What the board shows of an accessor's request, defined on the rules.
 use Rattle.std.specs.Prelude.{ℕ, Bool, false, cond, List, [], ◌∷◌, eqb, length, Option, Some, None}
+use Rattle.occurrences.specs.Count.{bit}
 use Rattle.rules.specs.State.{Req, idle, reading, writing, read_done, write_done, Timer, Built}
 use Rattle.notices.specs.declared.Request.{Request}
 use Rattle.notices.specs.declared.Request.TheVariants.{Idle, Reads, Writes, HasRead, HasWritten}
@@ -17,7 +18,7 @@ is_first p (x ∷ q) = eqb x p
 -- a request as shown: a waiting read with the bytes that it asks for, a waiting write with the bytes of its data, a completed one with what it brings
 unfoldable pub request_of : Built → ℕ → Req → Request
 request_of b p idle = Idle
-request_of b p (reading q) = Reads q.limit (left_of p b.timers) (is_first p b.rq)
-request_of b p (writing q) = Writes (length q.bytes) (left_of p b.timers) (is_first p b.wq)
+request_of b p (reading q) = Reads q.limit (left_of p b.timers) (bit (is_first p b.rq))
+request_of b p (writing q) = Writes (length q.bytes) (left_of p b.timers) (bit (is_first p b.wq))
 request_of b p (read_done q) = HasRead q.status (length q.bytes)
 request_of b p (write_done q) = HasWritten q.status

@@ -49,7 +49,7 @@ fn waiting(segment: &Segment, queue: usize, place: usize, side: u16) -> Request
     }
     let entry = segment::read_entry(segment, e);
     let left = left_at(segment, place);
-    let first = first_at(segment, queue, place);
+    let first = u16::from(first_at(segment, queue, place));
     if side == WRITER {
         let bytes = entry.size;
         return Request::Writes { bytes, left, first };

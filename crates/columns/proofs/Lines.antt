@@ -54,9 +54,9 @@ unfolding left_text spell plain
 left-piece None = piece-within 14 (omega arith) (text ", no timeout" refl)
 left-piece (Some n) = text ", " refl next number-piece n next text " s left" refl
 
-first_piece : (first : Bool) → Piece 15 (first_text first)
+first_piece : (first : ℕ) → Piece 15 (first_text first)
 unfolding first_text spell plain
-first_piece first = piece-if first (text ", first in line" refl)
+first_piece first = piece-if (eqb first 1) (text ", first in line" refl)
 
 status-piece : (st : ℕ) → Piece 12 (status_text st)
 unfolding status_text spell plain

@@ -28,16 +28,17 @@ grows t Strange = record { blank = λ h. h; lower = λ h. h; returns = λ h. h; 
 grows t Long = record { blank = λ h. h; lower = λ h. h; returns = λ h. h; strange = λ h. h; long = λ _. refl; odd = λ h. h }
 grows t Odd = record { blank = λ h. h; lower = λ h. h; returns = λ h. h; strange = λ h. h; long = λ h. h; odd = λ _. refl }
 
-still-kind : (t : Told) (f k : Fault) → knows t k ≡ true → knows (tells t f) k ≡ true
+still-kind : (t : Told) (f : Fault) (k : Option Fault) → knows t k ≡ true → knows (tells t f) k ≡ true
 unfolding knows
-still-kind t f Blank h = (grows t f).blank h
-still-kind t f Lower h = (grows t f).lower h
-still-kind t f Return h = (grows t f).returns h
-still-kind t f Strange h = (grows t f).strange h
-still-kind t f Long h = (grows t f).long h
-still-kind t f Odd h = (grows t f).odd h
+still-kind t f None h = refl
+still-kind t f (Some Blank) h = (grows t f).blank h
+still-kind t f (Some Lower) h = (grows t f).lower h
+still-kind t f (Some Return) h = (grows t f).returns h
+still-kind t f (Some Strange) h = (grows t f).strange h
+still-kind t f (Some Long) h = (grows t f).long h
+still-kind t f (Some Odd) h = (grows t f).odd h
 
-now-kind : (t : Told) (f : Fault) → knows (tells t f) f ≡ true
+now-kind : (t : Told) (f : Fault) → knows (tells t f) (Some f) ≡ true
 unfolding knows tells
 now-kind t Blank = refl
 now-kind t Lower = refl
@@ -47,18 +48,19 @@ now-kind t Long = refl
 now-kind t Odd = refl
 
 -- what was told stays told after a line, with a fault or with none
-pub still-told : (h : Heard) (f : Option Fault) (k : Fault) → knows h.told k ≡ true → knows (hears h f).told k ≡ true
+pub still-told : (h : Heard) (f k : Option Fault) → knows h.told k ≡ true → knows (hears h f).told k ≡ true
 unfolding hears
 still-told h None k e = e
 still-told h (Some f) k e = still-kind h.told f k e
 
 -- a fault is told of the line that has it
-pub now-told : (h : Heard) (f : Fault) → knows (hears h (Some f)).told f ≡ true
-unfolding hears
-now-told h f = now-kind h.told f
+pub now-told : (h : Heard) (f : Option Fault) → knows (hears h f).told f ≡ true
+unfolding hears knows
+now-told h None = refl
+now-told h (Some f) = now-kind h.told f
 
 -- nothing is said of a line with no fault, or with one that was told
-pub unsaid : (h : Heard) (f : Option Fault) → ((k : Fault) → f ≡ Some k → knows h.told k ≡ true) → remark h f ≡ []
+pub unsaid : (h : Heard) (f : Option Fault) → knows h.told f ≡ true → remark h f ≡ []
 unfolding remark
 unsaid h None e = refl
-unsaid h (Some f) e = rw (e f refl)
+unsaid h (Some f) e = rw e

@@ -9,14 +9,15 @@ use Rattle.faults.specs.declared.telling.Heard.{Heard}
 unfoldable pub none : Heard
 none = record { lines = 0; told = record { blank = false; lower = false; returns = false; strange = false; long = false; odd = false } }
 
--- whether this kind of fault was told
-unfoldable pub knows : Told → Fault → Bool
-knows t Blank = t.blank
-knows t Lower = t.lower
-knows t Return = t.returns
-knows t Strange = t.strange
-knows t Long = t.long
-knows t Odd = t.odd
+-- whether nothing is left to tell of a line with this fault, or with none
+unfoldable pub knows : Told → Option Fault → Bool
+knows t None = true
+knows t (Some Blank) = t.blank
+knows t (Some Lower) = t.lower
+knows t (Some Return) = t.returns
+knows t (Some Strange) = t.strange
+knows t (Some Long) = t.long
+knows t (Some Odd) = t.odd
 
 -- the kinds told after a fault is
 unfoldable pub tells : Told → Fault → Told

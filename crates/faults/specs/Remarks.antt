@@ -23,7 +23,7 @@ remark_line n f = spell "line " ++ (decimal n ++ (spell " is taken as an empty f
 -- what is said as a line ends: nothing if it has no fault, or one of a kind that was told
 unfoldable pub remark : Heard → Option Fault → List ℕ
 remark h None = []
-remark h (Some f) = cond (knows h.told f) [] (remark_line (next_line h.lines) f)
+remark h (Some f) = cond (knows h.told (Some f)) [] (remark_line (next_line h.lines) f)
 
 -- the most bytes of a reason and of a remark
 abbrev pub reason_room : ℕ

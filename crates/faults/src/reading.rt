@@ -1,5 +1,5 @@
 // Reads a line from its first byte, to the byte that shows that it is no frame.
-ghost use Rattle.std.specs.Prelude.{◌≡◌};
+ghost use Rattle.std.specs.Prelude.{◌≡◌, Some};
 ghost use Rattle.faults.specs.Faults.{strange, digits_alone, fault_of};
 
 use hexadecimal::is_digit;
@@ -22,13 +22,13 @@ pub enum Fault {
 
 // The fault of a line whose first byte that is no digit is b.
 #[tactic(auto, unfolding(crate::specs::Faults::strange))]
-fn strange_byte(b: u8) -> Fault
-    ensures { result ≡ strange b }
+fn strange_byte(b: u8) -> Option<Fault>
+    ensures { result ≡ Some (strange b) }
 {
     match b {
-        b'\r' => Fault::Return,
-        b'a'..=b'f' => Fault::Lower,
-        _ => Fault::Strange,
+        b'\r' => Some(Fault::Return),
+        b'a'..=b'f' => Some(Fault::Lower),
+        _ => Some(Fault::Strange),
     }
 }
 
@@ -49,7 +49,7 @@ pub fn fault_of(line: &[u8]) -> Option<Fault>
 {
     for (i, b) in line.iter().enumerate() {
         if !is_digit(*b) {
-            return Some(strange_byte(*b));
+            return strange_byte(*b);
         }
         if i >= MOST_DIGITS {
             return Some(Fault::Long);

@@ -47,7 +47,7 @@ pub fn put_remark(out: &mut [u8], heard: Heard, fault: Option<Fault>) -> usize
     let Some(fault) = fault else {
         return 0;
     };
-    if is_told(heard.told, fault) {
+    if is_told(heard.told, Some(fault)) {
         return 0;
     }
     put_line(out, next_line(heard.lines), fault)

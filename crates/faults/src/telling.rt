@@ -23,18 +23,19 @@ pub struct Heard {
     pub told: Told,
 }
 
-// Whether this kind of fault was told.
+// Whether nothing is left to tell of a line with this fault, or with none.
 #[tactic(auto, unfolding(crate::specs::Heard::knows))]
-pub fn is_told(told: Told, fault: Fault) -> bool
+pub fn is_told(told: Told, fault: Option<Fault>) -> bool
     ensures { result ≡ knows told fault }
 {
     match fault {
-        Fault::Blank => told.blank,
-        Fault::Lower => told.lower,
-        Fault::Return => told.returns,
-        Fault::Strange => told.strange,
-        Fault::Long => told.long,
-        Fault::Odd => told.odd,
+        None => true,
+        Some(Fault::Blank) => told.blank,
+        Some(Fault::Lower) => told.lower,
+        Some(Fault::Return) => told.returns,
+        Some(Fault::Strange) => told.strange,
+        Some(Fault::Long) => told.long,
+        Some(Fault::Odd) => told.odd,
     }
 }
 

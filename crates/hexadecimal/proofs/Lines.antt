@@ -2,14 +2,13 @@
 use Prim.Native.Nat.{ℕ, zero, suc, ◌+◌, ◌*◌, ◌/◌, ◌%◌, ◌<◌, ◌≤◌}
 use mathlib.Core.Bool.{Bool, true, false, cond, ◌&&◌}
 use mathlib.Core.List.{List, [], ◌∷◌}
-use mathlib.Core.Path.{◌≡◌, refl}
+use mathlib.Core.Path.{◌≡◌, refl, sym}
 use native.Mathlib.Omega.{arith}
 use native.Mathlib.Numerals.{add-one}
-use lib.ListN.{length, get_or, set, drop, drop_of_length-le, length-drop}
+use lib.ListN.{length, get_or, set, take, drop, drop_of_length-le, length-drop}
 use lib.Seq.{sets, drop-cons}
 use lib.Dec.{ltb, leb, eqb}
 use borrow.Author.Tests.{ltb-true, leb-true, eqb-true}
-use Rattle.std.specs.List.{list_all}
 use Rattle.rules.specs.Line.{value_of, digit_of, all_digits, bytes_of, digits_of, is_line, frame_in}
 
 pub both : (a b : Bool) → cond a b false ≡ true → (a ≡ true) × (b ≡ true)
@@ -27,14 +26,28 @@ digits-at [] i e h = absurd (omega arith)
 digits-at (b ∷ s) zero e h = (digits-cons b s e).0
 digits-at (b ∷ s) (suc i) e h = digits-at s i (digits-cons b s e).1 (omega arith)
 
-and-cond : (a b : Bool) → (a && b) ≡ cond a b false
-and-cond true b = refl
-and-cond false b = refl
+last-and : (t : Bool) → cond t true false ≡ t
+last-and true = refl
+last-and false = refl
 
-pub digits-all : (s : List ℕ) → list_all (λ b. ltb (value_of b) 16) s ≡ all_digits s
+cond-and : (t a u : Bool) → cond t (a && u) false ≡ (cond t a false && u)
+cond-and true a u = refl
+cond-and false a u = refl
+
+digits-suc : (s : List ℕ) (i : ℕ) → i < length s → all_digits (take (suc i) s) ≡ (all_digits (take i s) && ltb (value_of (get_or s i 0)) 16)
 unfolding all_digits
-digits-all [] = refl
-digits-all (b ∷ s) = rw (digits-all s) (and-cond (ltb (value_of b) 16) (all_digits s))
+digits-suc [] i h = absurd (omega arith)
+digits-suc (b ∷ s) zero h = last-and (ltb (value_of b) 16)
+digits-suc (b ∷ s) (suc i) h =
+    rw (digits-suc s i (omega arith)) (cond-and (ltb (value_of b) 16) (all_digits (take i s)) (ltb (value_of (get_or s i 0)) 16))
+
+pub digits_none : true ≡ all_digits []
+unfolding all_digits
+digits_none = refl
+
+pub digits_more : (s : List ℕ) (i : ℕ) (all d : Bool) → i < length s → all ≡ all_digits (take i s) → d ≡ ltb (value_of (get_or s i 0)) 16
+    → (all && d) ≡ all_digits (take (i + 1) s)
+digits_more s i all d h e f = rw (e, f, add-one i) (sym (digits-suc s i h))
 
 -- digits to bytes
 

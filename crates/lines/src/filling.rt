@@ -1,5 +1,5 @@
 // Bytes that are put one after another into a memory of N bytes.
-ghost use Rattle.std.specs.Prelude.{◌≡◌, Some, [], ◌∷◌, ◌++◌, ◌≤◌, take};
+ghost use Rattle.std.specs.Prelude.{◌≡◌, Some, [], ◌∷◌, ◌++◌, ◌≤◌, take, drop, replicate};
 
 use std::io;
 use std::io::Write;
@@ -14,7 +14,8 @@ pub struct Filled<const N: usize> {
 
 impl<const N: usize> Filled<N> {
     pub fn new() -> Self
-        ensures { result.len ≡ 0 }
+        ensures len { result.len ≡ 0 }
+        ensures bytes { result.bytes ≡ replicate N 0 }
     {
         Filled {
             bytes: [0; N],
@@ -30,7 +31,8 @@ impl<const N: usize> Filled<N> {
 
     // Adds a byte, if there is room.
     pub fn push(&mut self, b: u8)
-        ensures { take self.new.len self.new.bytes ≡ take N (take self.old.len self.old.bytes ++ (b ∷ [])) }
+        ensures filled { take self.new.len self.new.bytes ≡ take N (take self.old.len self.old.bytes ++ (b ∷ [])) }
+        ensures rest { drop self.new.len self.new.bytes ≡ drop self.new.len self.old.bytes }
     {
         if self.len < N {
             self.bytes[self.len] = b;

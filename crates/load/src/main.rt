@@ -23,7 +23,7 @@ fn main(rt: HostRuntime) {
     let _ = fresh::fresh(&mut segment, &mut blocks, &mut buffers);
     let loaded = loading::load(&mut segment, &mut blocks, &mut buffers, file, &text[..n]);
     if let Err(refusal) = loaded {
-        refused(&mut errors, b"SHEET is not a sheet", refusal);
+        refused(&mut errors, b"SHEET is not a sheet", refusal.number());
         return;
     }
     let _ = serve(

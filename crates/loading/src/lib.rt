@@ -72,7 +72,9 @@ pub fn load(
 ) -> Result<(), Refusal>
     ensures { Promise (was segment.old blocks.old buffers.old) (host.load file «text».now) (status (refusal_number result)) (left segment.new blocks.new buffers.new) }
 {
-    judge_load(segment, blocks, buffers, file, text)?;
+    if let Err(refusal) = judge_load(segment, blocks, buffers, file, text) {
+        return Err(refusal);
+    }
     let Some(words) = segment.as_mut_array() else {
         return Err(Refusal::Unsound);
     };

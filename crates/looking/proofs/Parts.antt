@@ -18,6 +18,7 @@ use Rattle.looking.specs.declared.finding.Shown.{Shown}
 use Rattle.looking.specs.declared.finding.Shown.TheVariants.{Block, Buffer}
 use Rattle.kinds.specs.declared.refusals.Refusal.{Refusal}
 use Rattle.kinds.specs.declared.refusals.Refusal.TheVariants as refusal
+use Rattle.kinds.specs.Refusals.{number}
 use Rattle.std.specs.Prelude.{Result, Ok, Err}
 use Rattle.looking.specs.Shown.{part_shown, status_shown, Inside, Tells, OfReader, Finds}
 use Rattle.looking.proofs.Fits.{seen-fits}
@@ -46,21 +47,21 @@ module _ (m : Memories) (f p : ℕ) where
     sound-shows x F = seen-some (λ v. Tells (part_of v f p) (reply_of v (look f p)) x) e (λ d s S. F.tells m.buffers d s S)
 
 -- the part is within its memory
-pub block_inside : (m n : ℕ) (x : Result Shown Refusal) → Inside m n x → (y : Shown) → x ≡ Ok y → (at size : ℕ) → y ≡ Block at size → at + size ≤ m
+pub block_inside : {E : Type 0} (m n : ℕ) (x : Result Shown E) → Inside m n x → (y : Shown) → x ≡ Ok y → (at size : ℕ) → y ≡ Block at size → at + size ≤ m
 unfolding Inside
-block_inside m n x i y e at size o = let k : Inside m n (Ok (Block at size)) = rw (e, o) at i in k
+block_inside {E = E} m n x i y e at size o = let k : Inside {E = E} m n (Ok (Block at size)) = rw (e, o) at i in k
 
-pub buffer-inside : (m n : ℕ) (x : Result Shown Refusal) → Inside m n x → (y : Shown) → x ≡ Ok y → (at size : ℕ) → y ≡ Buffer at size → at + size ≤ n
+pub buffer-inside : {E : Type 0} (m n : ℕ) (x : Result Shown E) → Inside m n x → (y : Shown) → x ≡ Ok y → (at size : ℕ) → y ≡ Buffer at size → at + size ≤ n
 unfolding Inside
-buffer-inside m n x i y e at size o = let k : Inside m n (Ok (Buffer at size)) = rw (e, o) at i in k
+buffer-inside {E = E} m n x i y e at size o = let k : Inside {E = E} m n (Ok (Buffer at size)) = rw (e, o) at i in k
 
 -- the bytes of the part
-module _ (blocks buffers : List ℕ) (x : Result Shown Refusal) where
+module _ {E : Type 0} (blocks buffers : List ℕ) (x : Result Shown E) where
   pub refused-part : ((y : Shown) → x ≡ Ok y → ⊥) → [] ≡ bytes_of (part_shown x) blocks buffers
   unfolding part_shown bytes_of
   refused-part = go x
     where
-      go : (z : Result Shown Refusal) → ((y : Shown) → z ≡ Ok y → ⊥) → [] ≡ bytes_of (part_shown z) blocks buffers
+      go : (z : Result Shown E) → ((y : Shown) → z ≡ Ok y → ⊥) → [] ≡ bytes_of (part_shown z) blocks buffers
       go (Err r) h = refl
       go (Ok y) h = absurd (h y refl)
 
@@ -82,5 +83,5 @@ module _ (m : Memories) (f p : ℕ) (x : Result Shown Refusal) (F : Shows m f p 
       part : (v : Option Standing) → Seen m v → ys ≡ bytes_of (part_of v f p) m.blocks m.buffers
       part v k = e ∙ ap (λ (q : Part). bytes_of q m.blocks m.buffers) (F v k).shows
 
-  pub said : (n : ℕ) → n ≡ status_shown x → (v : Option Standing) → Seen m v → n ≡ reply_status (reply_of v (look f p))
+  pub said : (n : ℕ) → n ≡ status_shown number x → (v : Option Standing) → Seen m v → n ≡ reply_status (reply_of v (look f p))
   said n e v k = e ∙ (F v k).status

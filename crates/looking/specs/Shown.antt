@@ -19,17 +19,18 @@ use Rattle.looking.specs.declared.finding.Shown.{Shown}
 use Rattle.looking.specs.declared.finding.Shown.TheVariants.{Block, Buffer}
 
 -- "Refused, it shows an empty part; a second call gives its status."
-unfoldable pub part_shown : Result Shown Refusal → Part
+unfoldable pub part_shown : {E : Type 0} → Result Shown E → Part
 part_shown (Err r) = nothing
 part_shown (Ok (Block at size)) = of_blocks at size
 part_shown (Ok (Buffer at size)) = of_buffers at size
 
-unfoldable pub status_shown : Result Shown Refusal → ℕ
-status_shown (Err r) = number r
-status_shown (Ok x) = 0
+-- the status: the number of what refuses, or 0
+unfoldable pub status_shown : {E : Type 0} → (E → ℕ) → Result Shown E → ℕ
+status_shown number (Err r) = number r
+status_shown number (Ok x) = 0
 
 -- what is shown lies within the given numbers of bytes of blocks and of record buffers
-unfoldable pub Inside : ℕ → ℕ → Result Shown Refusal → Type 0
+unfoldable pub Inside : {E : Type 0} → ℕ → ℕ → Result Shown E → Type 0
 Inside blocks buffers (Err r) = Unit {0}
 Inside blocks buffers (Ok (Block at size)) = at + size ≤ blocks
 Inside blocks buffers (Ok (Buffer at size)) = at + size ≤ buffers
@@ -37,7 +38,7 @@ Inside blocks buffers (Ok (Buffer at size)) = at + size ≤ buffers
 -- what is shown is the given part, with the status of the given reply
 pub record Tells (part : Part) (r : Reply) (x : Result Shown Refusal) : Type 0 where
   pub shows : part_shown x ≡ part
-  pub status : status_shown x ≡ reply_status r
+  pub status : status_shown number x ≡ reply_status r
 
 -- x is what look shows of file f of a desk; `OfReader`: of the reader that f and p name
 abbrev pub OfFile : ℕ → Desk → Result Shown Refusal → Type 0

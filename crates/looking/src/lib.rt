@@ -4,6 +4,7 @@
 #![tactic(auto)]
 
 mod finding;
+mod numbered;
 
 ghost use Rattle.std.specs.Prelude.{◌≡◌, ◌≤◌, length};
 ghost use Rattle.std.proofs.Math.Option.{Option};
@@ -20,6 +21,7 @@ ghost use Rattle.memory.specs.Memories.{was};
 pub use finding::Shown;
 use finding::find;
 use kinds::refusals::Refusal;
+pub use numbered::Numbered;
 use sound::standing;
 
 // What look shows, for memories of any content.
@@ -39,8 +41,8 @@ pub fn shown(
     find(desk.segment, desk.blocks, file, reader)
 }
 
-// The part of the blocks or of the record buffers that is shown; empty if the call is refused.
-pub fn part<'a>(what: Result<Shown, Refusal>, blocks: &'a [u8], buffers: &'a [u8]) -> &'a [u8]
+// The part of the blocks or of the record buffers that is shown; empty if the call is refused, whatever it is that says so.
+pub fn part<'a, E: Copy>(what: Result<Shown, E>, blocks: &'a [u8], buffers: &'a [u8]) -> &'a [u8]
     requires { Inside (length blocks.now) (length buffers.now) what }
     ensures { result.now ≡ bytes_of (part_shown what) blocks.now buffers.now }
 {
@@ -53,13 +55,15 @@ pub fn part<'a>(what: Result<Shown, Refusal>, blocks: &'a [u8], buffers: &'a [u8
     }
 }
 
-// The status of a look: 29, 31, 32, 34, 39, or 0.
-pub fn status(what: Result<Shown, Refusal>) -> u8
-    ensures { result ≡ status_shown what }
+// The status of a look: 29, 31, 32, 34, 39, or 0. Of a number that refuses, that number.
+#[tactic(auto, unfolding(crate::specs::Shown::status_shown))]
+pub fn status<E: Numbered>(what: Result<Shown, E>) -> u8
+    ensures { result ≡ status_shown E.number what }
 {
     match what {
-        Ok(_) => 0,
-        Err(refusal) => refusal.number(),
+        Ok(Shown::Block { .. }) => 0,
+        Ok(Shown::Buffer { .. }) => 0,
+        Err(refusal) => refusal.as_number(),
     }
 }
 

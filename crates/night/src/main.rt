@@ -23,7 +23,11 @@ fn print_board<O: Write, E: Write>(
                 let _ = errors.write_all(b"standard output cannot be written: the board is lost\n");
             }
         }
-        Err(refusal) => refused(errors, b"these are not the memories of a desk", refusal),
+        Err(refusal) => refused(
+            errors,
+            b"these are not the memories of a desk",
+            refusal.number(),
+        ),
     }
 }
 

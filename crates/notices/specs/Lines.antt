@@ -64,8 +64,8 @@ unfoldable pub left_text : Option ℕ → List ℕ
 left_text None = spell ", no timeout"
 left_text (Some n) = spell ", " ++ (decimal n ++ spell " s left")
 
-unfoldable pub first_text : Bool → List ℕ
-first_text first = cond first (spell ", first in line") []
+unfoldable pub first_text : ℕ → List ℕ
+first_text first = cond (eqb first 1) (spell ", first in line") []
 
 -- the text of a status other than 0 that a request completed with
 unfoldable pub status_text : ℕ → List ℕ

@@ -15,19 +15,20 @@ use segment::PlaceRow;
 use texts::{put_counted, put_digit, put_if, put_number, put_text};
 
 // A request as the board shows it: none; a read that waits for up to `bytes` bytes, or a write that waits with `bytes` bytes, with the seconds left of its
-// timeout, if it has one, and whether it is the first in its queue; or a completed read or write, with its status, and the bytes read.
+// timeout, if it has one, and with `first` 1 if it is the first in its queue; or a completed read or write, with its status, and the bytes read.
+// Kept: the flag is a word, since a narrower field would ask more of callers (`texts::put_if`).
 #[derive(Clone, Copy)]
 pub enum Request {
     Idle,
     Reads {
         bytes: u16,
         left: Option<u16>,
-        first: bool,
+        first: u16,
     },
     Writes {
         bytes: u16,
         left: Option<u16>,
-        first: bool,
+        first: u16,
     },
     HasRead {
         status: u16,
@@ -178,13 +179,13 @@ fn put_left(out: &mut [u8], at: usize, left: Option<u16>) -> usize
     }
 }
 
-fn put_waiting(out: &mut [u8], at: usize, bytes: u16, left: Option<u16>, first: bool) -> usize
+fn put_waiting(out: &mut [u8], at: usize, bytes: u16, left: Option<u16>, first: u16) -> usize
     requires { at + 41 ≤ length out.old }
     ensures { Put 41 out.old at (counted bytes (spell " byte") ++ (left_text left ++ (first_text first ++ lf))) out.new result }
 {
     let a = put_counted(out, at, bytes, b" byte");
     let b = put_left(out, a, left);
-    let c = put_if(out, b, u16::from(first), b", first in line");
+    let c = put_if(out, b, first, b", first in line");
     put_text(out, c, b"\n")
 }
 

@@ -1,6 +1,6 @@
 // The calls that a line in digits makes on the desk.
 use crate::judging::{Session, begin, end, judge, parts};
-use crate::text::{from, number, put_replaced};
+use crate::text::{from, number, put_byte, put_replaced};
 use hexadecimal::LF;
 use kinds::limits::{BLOCKS_BYTES, BUFFERS_BYTES, RECORD_ROOM};
 use kinds::refusals;
@@ -24,17 +24,32 @@ const SHOWN: usize = 2 * RECORD_ROOM;
 // Room for the two digits of a status, a space and a sheet.
 const TOLD: usize = 2 + 1 + SHEET_ROOM;
 
-// Tells a status, and after a space what is given, lines as words.
-fn tell_status(told: &mut Filled<TOLD>, status: u8, given: &[u8]) {
-    let _ = write!(told, "{status:02X}");
+// Judges a call that has no frame: it is told a status, and after a space what is given, lines as words.
+fn judge_status<O: Write>(
+    output: &mut O,
+    line: &[u8],
+    status: u8,
+    given: &[u8],
+    session: Session,
+) -> Session {
+    let mut told = Filled::<TOLD>::new();
+    put_byte(&mut told, status);
     if !given.is_empty() {
         told.push(b' ');
-        put_replaced(told, given, LF, b' ');
+        put_replaced(&mut told, given, LF, b' ');
     }
+    judge(output, line, told.as_slice(), session)
 }
 
 // Saves, `? FILE`: the frames of the sheet are given.
-fn call_save(segment: &[u8], blocks: &[u8], buffers: &[u8], line: &[u8], told: &mut Filled<TOLD>) {
+fn call_save<O: Write>(
+    output: &mut O,
+    segment: &[u8],
+    blocks: &[u8],
+    buffers: &[u8],
+    line: &[u8],
+    session: Session,
+) -> Session {
     let mut sheet = [0u8; SHEET_ROOM];
     let saved = save(
         segment,
@@ -44,29 +59,37 @@ fn call_save(segment: &[u8], blocks: &[u8], buffers: &[u8], line: &[u8], told: &
         &mut sheet,
     );
     match saved {
-        Ok(n) => tell_status(told, 0, &sheet[..n.saturating_sub(1)]),
-        Err(refusal) => tell_status(told, refusal.number(), &[]),
+        Ok(n) => judge_status(output, line, 0, &sheet[..n.saturating_sub(1)], session),
+        Err(refusal) => judge_status(output, line, refusal.number(), &[], session),
     }
 }
 
 // Looks, `@ FILE READER`: the bytes shown are given.
-fn call_look(segment: &[u8], blocks: &[u8], buffers: &[u8], line: &[u8], told: &mut Filled<TOLD>) {
+fn call_look<O: Write>(
+    output: &mut O,
+    segment: &[u8],
+    blocks: &[u8],
+    buffers: &[u8],
+    line: &[u8],
+    session: Session,
+) -> Session {
     let mut shown = [0u8; SHOWN];
     let file = number(from(line, FILE));
     let reader = number(from(line, READER));
     let n = hexadecimal::encode(look(segment, blocks, buffers, file, reader), &mut shown);
     let status = refusals::status(look_status(segment, blocks, buffers, file, reader));
-    tell_status(told, status, &shown[..n]);
+    judge_status(output, line, status, &shown[..n], session)
 }
 
 // Loads, `+ FILE FRAME ..`: nothing is given.
-fn call_load(
+fn call_load<O: Write>(
+    output: &mut O,
     segment: &mut [u8; SEGMENT_BYTES],
     blocks: &mut [u8; BLOCKS_BYTES],
     buffers: &mut [u8; BUFFERS_BYTES],
     line: &[u8],
-    told: &mut Filled<TOLD>,
-) {
+    session: Session,
+) -> Session {
     let (asked, _) = parts(line);
     let mut sheet = Filled::<SHEET_ROOM>::new();
     put_replaced(&mut sheet, from(asked, SHEET), b' ', LF);
@@ -78,21 +101,22 @@ fn call_load(
         number(from(line, FILE)),
         sheet.as_slice(),
     );
-    tell_status(told, refusals::status(loaded), &[]);
+    judge_status(output, line, refusals::status(loaded), &[], session)
 }
 
 // Asks an event: its answer is told.
-fn call_event(
+fn call_event<O: Write>(
+    output: &mut O,
     segment: &mut [u8; SEGMENT_BYTES],
     blocks: &mut [u8; BLOCKS_BYTES],
     buffers: &mut [u8; BUFFERS_BYTES],
     line: &[u8],
-    told: &mut Filled<TOLD>,
-) {
+    session: Session,
+) -> Session {
     let (asked, _) = parts(line);
     let mut answer = [0u8; ANSWER_LINE];
     let end = answer_line(segment, blocks, buffers, asked, &mut answer, 0);
-    let _ = told.write_all(&answer[..end - 1]);
+    judge(output, line, &answer[..end - 1], session)
 }
 
 // Asks what a line in digits asks, by its first byte.
@@ -104,18 +128,16 @@ pub fn call<O: Write>(
     line: &[u8],
     session: Session,
 ) -> Session {
-    let mut told = Filled::new();
     match line.first() {
-        None | Some(0) => return end(output, session),
-        Some(b'-') => return session,
+        None | Some(0) => end(output, session),
+        Some(b'-') => session,
         Some(b'=') => {
             let _ = fresh::fresh(segment, blocks, buffers);
-            return begin(output, line, session);
+            begin(output, line, session)
         }
-        Some(b'?') => call_save(segment, blocks, buffers, line, &mut told),
-        Some(b'+') => call_load(segment, blocks, buffers, line, &mut told),
-        Some(b'@') => call_look(segment, blocks, buffers, line, &mut told),
-        Some(_) => call_event(segment, blocks, buffers, line, &mut told),
+        Some(b'?') => call_save(output, segment, blocks, buffers, line, session),
+        Some(b'+') => call_load(output, segment, blocks, buffers, line, session),
+        Some(b'@') => call_look(output, segment, blocks, buffers, line, session),
+        Some(_) => call_event(output, segment, blocks, buffers, line, session),
     }
-    judge(output, line, told.as_slice(), session)
 }

@@ -15,7 +15,8 @@ pub fn end<O: Write>(output: &mut O, session: Session) -> Session {
     match session {
         Session::Over => {}
         Session::Well => {
-            let _ = output.write_all(b": ok\n");
+            let _ = output.write_all(b": ok");
+            let _ = output.write_all(b"\n");
         }
         Session::Differs => {
             let _ = output.write_all(b"\n");

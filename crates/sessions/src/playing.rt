@@ -9,7 +9,7 @@
 // and an empty line, which ends the session. FILE and READER are one digit.
 use crate::calls::call;
 use crate::judging::{Session, end};
-use crate::spelling::spell;
+use crate::spelling::{Spelt, spell};
 use hexadecimal::LF;
 use kinds::limits::{BLOCKS_BYTES, BUFFERS_BYTES};
 use segment::layout::SEGMENT_BYTES;
@@ -24,12 +24,14 @@ pub fn play<O: Write>(output: &mut O, text: &[u8]) {
     let (forms, lines) = text.split_at(head);
     let mut session = Session::Over;
     for line in lines.split(|b| *b == LF) {
+        let mut spelt = Spelt::new();
+        spell(forms, line, &mut spelt);
         session = call(
             output,
             &mut segment,
             &mut blocks,
             &mut buffers,
-            spell(forms, line).as_slice(),
+            spelt.as_slice(),
             session,
         );
     }

@@ -1,6 +1,6 @@
 // A line by name becomes digits: `opens 0 3 1 0 => opened 0 1` says `0200030100 0200000001`. A frame may also lack its last byte, `shorter closes 0 0`, or have
 // a byte 00 too many, `longer closes 0 0`.
-use crate::text::{WORDS, number, split};
+use crate::text::{WORDS, number, put_byte, split};
 use hexadecimal::LF;
 use lines::Filled;
 use saving::SHEET_ROOM;
@@ -28,21 +28,30 @@ fn takes_word(part: u8) -> bool {
 // Writes a form, filled with words, as far as there is room.
 fn fill(form: &[u8], mut words: &[u8], out: &mut Spelt) {
     for part in form {
-        let (next, rest) = split(words, b' ');
-        let _ = match *part {
-            b'b' => write!(out, "{:02X}", number(next) % 256),
-            b'w' => write!(out, "{:04X}", word(next) % WORDS),
-            b'd' => out.write_all(next),
+        // Looks for a word only where one is taken: a form may have many more bytes than words.
+        let (next, rest) = if takes_word(*part) {
+            split(words, b' ')
+        } else {
+            (&words[..0], words)
+        };
+        match *part {
+            b'b' => put_byte(out, (number(next) % 256) as u8),
+            b'w' => {
+                let word = word(next) % WORDS;
+                put_byte(out, (word / 256) as u8);
+                put_byte(out, (word % 256) as u8);
+            }
+            b'd' => {
+                let _ = out.write_all(next);
+            }
             // The operation that was asked, which is the first two digits.
             b'o' => {
                 let operation = [out.bytes[0], out.bytes[1]];
-                out.write_all(&operation)
+                let _ = out.write_all(&operation);
             }
-            other => out.write_all(&[other]),
-        };
-        if takes_word(*part) {
-            words = rest;
+            other => out.push(other),
         }
+        words = rest;
     }
 }
 
@@ -97,14 +106,13 @@ fn spell_named(forms: &[u8], line: &[u8], out: &mut Spelt) {
     spell_words(forms, told, out);
 }
 
-// A line in digits, as far as there is room. Names are in small letters; any other line begins otherwise and stays as it is.
-pub fn spell(forms: &[u8], line: &[u8]) -> Spelt {
-    let mut out = Filled::new();
+// Writes a line in digits, as far as there is room, into a memory that is all zero. Names are in small letters; any other line begins otherwise and stays as it is.
+// Kept: the memory is lent and not given back: it is large, and to give it back is to copy it, twice for each line.
+pub fn spell(forms: &[u8], line: &[u8], out: &mut Spelt) {
     match line.first() {
-        Some(b'a'..) => spell_named(forms, line, &mut out),
+        Some(b'a'..) => spell_named(forms, line, out),
         _ => {
             let _ = out.write_all(line);
         }
     }
-    out
 }

@@ -33,6 +33,16 @@ pub fn number(text: &[u8]) -> usize {
     n
 }
 
+// Writes the two digits of a byte, as far as there is room.
+// Kept: the digits are put by `hexadecimal`, and not printed by `write!`, which needs more of the stack than the program had.
+pub fn put_byte<const N: usize>(out: &mut Filled<N>, byte: u8) {
+    let mut digits = [0u8; 2];
+    hexadecimal::encode(&[byte], &mut digits);
+    for digit in digits {
+        out.push(digit);
+    }
+}
+
 // Writes bytes, with `new` for each `old`, as far as there is room.
 pub fn put_replaced<const N: usize>(out: &mut Filled<N>, bytes: &[u8], old: u8, new: u8) {
     for b in bytes {

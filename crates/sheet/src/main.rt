@@ -24,7 +24,7 @@ fn print_sheet<O: Write, E: Write>(
                 let _ = errors.write_all(b"standard output cannot be written: the sheet is lost\n");
             }
         }
-        Err(refusal) => refused(errors, b"FILE is not built", refusal),
+        Err(refusal) => refused(errors, b"FILE is not built", refusal.number()),
     }
 }
 
@@ -42,7 +42,7 @@ fn main(rt: HostRuntime) {
     if let Some(n) = sheet {
         let loaded = loading::load(&mut segment, &mut blocks, &mut buffers, file, &text[..n]);
         if let Err(refusal) = loaded {
-            refused(&mut errors, b"SHEET is not a sheet", refusal);
+            refused(&mut errors, b"SHEET is not a sheet", refusal.number());
             return;
         }
     }

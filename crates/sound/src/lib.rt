@@ -41,6 +41,8 @@ fn lists_ok(s: &Segment) -> bool
 }
 
 // Whether memories of the right lengths stand for a desk of the rules. No byte of the record buffers is read. The files come first: most of their work is skipped if none is built.
+// Kept out of line: where LLVM puts it into a program that calls it once, the walks over blocks have too few registers, and take up to half as long again.
+#[inline(never)]
 #[tactic(auto, unfolding(crate::specs::Sound::soundly))]
 pub fn stands(segment: &Segment, blocks: &Blocks, buffers: &Buffers) -> bool
     ensures { result ≡ soundly (memories segment.now blocks.now buffers.now) }

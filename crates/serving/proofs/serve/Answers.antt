@@ -9,7 +9,7 @@ use Rattle.serving.proofs.Turns.{at-behind, behind_on, ends-behind}
 use Rattle.serving.proofs.serve.Goals as goal
 
 pub loop-init : goal.loop-init
-loop-init gi c = record { heard = λ d s h. begun-heard _ _ _ d s _ _ _ _ c.new-line.ensures h; kept = λ _. refl }
+loop-init gi c = record { heard = λ d s h. begun-heard _ _ _ d s _ _ _ _ c.new-line.ensures.len h; kept = λ _. refl }
 
 pub returns-in_default-clause-served : goal.returns-in_default-clause-served
 returns-in_default-clause-served gi c = λ d s h. at-behind (begun d s) _ _ _ _ _ _ (c.loop.invariant.heard d s h).on

@@ -2,7 +2,6 @@ use mathlib.Core.Path.{◌≡◌, ap, sym, ◌∙◌}
 use lib.ListN.{length}
 use native.Mathlib.Omega.{arith}
 use borrow.Author.Rules.{rules}
-use Rattle.std.specs.Prelude.{Some}
 use Rattle.faults.specs.Faults.{digits_alone, fault_of}
 use Rattle.faults.proofs.Steps.{at-digit, at_long, at-strange, at-end}
 use Rattle.faults.proofs.reading.fault_of.Goals as goal
@@ -13,7 +12,7 @@ loop-i-init c = search rules
 
 pub returns-then-not-is_digit : goal.returns-then-not-is_digit
 returns-then-not-is_digit c =
-    ap Some c.strange_byte.ensures ∙ sym (c.loop-i.invariant.1 ∙ at-strange _ _ c.loop-i-test.true (sym c.is_digit.ensures ∙ c.if-not-is_digit.true))
+    c.strange_byte.ensures ∙ sym (c.loop-i.invariant.1 ∙ at-strange _ _ c.loop-i-test.true (sym c.is_digit.ensures ∙ c.if-not-is_digit.true))
 
 pub returns-then-i-ge-MOST_DIGITS : goal.returns-then-i-ge-MOST_DIGITS
 returns-then-i-ge-MOST_DIGITS c =

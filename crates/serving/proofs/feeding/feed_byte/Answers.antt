@@ -20,5 +20,5 @@ returns-then-b-eq-LF-clause-kept c = line_kept _ _ _ _ _ _ _ c.answer_line-out.e
 pub returns-else-b-eq-LF-clause-at : goal.returns-else-b-eq-LF-clause-at
 returns-else-b-eq-LF-clause-at c = λ g a.
     let line = c.args.line.now in
-    let kept : take c.push.new.self.len c.push.new.self.bytes ≡ take most_held (take line.len line.bytes ++ (c.args.b ∷ [])) = c.push.ensures in
+    let kept : take c.push.new.self.len c.push.new.self.bytes ≡ take most_held (take line.len line.bytes ++ (c.args.b ∷ [])) = c.push.ensures.filled in
     byte_at g _ _ _ _ _ _ _ _ c.if-b-eq-LF.false kept a
