@@ -63,6 +63,7 @@ pub fn is_line(s: &[u8], most: usize) -> bool
 }
 
 // The byte that two digits say.
+// Kept: both are digits, so the 0 is never taken; `unwrap` would be a branch for each digit, where this is a value to choose.
 fn pair(a: u8, b: u8) -> u8
     requires { (value_of a < 16) × (value_of b < 16) }
     ensures { result ≡ value_of a * 16 + value_of b }

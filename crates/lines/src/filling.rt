@@ -1,5 +1,7 @@
 // Bytes that are put one after another into a memory of N bytes.
-ghost use Rattle.std.specs.Prelude.{◌≡◌, Some, [], ◌∷◌, ◌++◌, ◌≤◌, take, drop, replicate};
+ghost use Rattle.std.specs.Prelude.{◌≡◌, Some, Ok, IsOk, [], ◌∷◌, ◌++◌, ◌-◌, ◌≤◌, min, take, drop, length, replicate};
+ghost use Rattle.std.specs.Io.{WritesAtMost};
+ghost use Rattle.std.specs.Io.KnownBytes.{Keeps, WriteAppends};
 
 use std::io;
 use std::io::Write;
@@ -45,7 +47,12 @@ impl<const N: usize> Write for Filled<N> {
     ghost contents = { λ f. Some (take f.len f.bytes) };
 
     // Adds the bytes that there is room for.
-    fn write(&mut self, bytes: &[u8]) -> io::Result<usize> {
+    fn write(&mut self, bytes: &[u8]) -> io::Result<usize>
+        ensures bound { WritesAtMost result bytes.now }
+        ensures bytes { WriteAppends (Some (take self.old.len self.old.bytes)) (Some (take self.new.len self.new.bytes)) result bytes.now }
+        ensures count { result ≡ Ok (min (length bytes.now) (N - self.old.len)) }
+        ensures rest { drop self.new.len self.new.bytes ≡ drop self.new.len self.old.bytes }
+    {
         let n = bytes.len().min(N - self.len);
         let end = self.len + n;
         let memory = &mut self.bytes[..];
@@ -54,7 +61,11 @@ impl<const N: usize> Write for Filled<N> {
         Ok(n)
     }
 
-    fn flush(&mut self) -> io::Result<()> {
+    fn flush(&mut self) -> io::Result<()>
+        ensures bytes { Keeps (Some (take self.old.len self.old.bytes)) (Some (take self.new.len self.new.bytes)) }
+        ensures done { IsOk result }
+        ensures kept { self.new ≡ self.old }
+    {
         Ok(())
     }
 }

@@ -2,7 +2,7 @@
 ghost use Rattle.std.specs.Prelude.{◌≡◌};
 ghost use Rattle.segment.specs.Fields.{entry_words, file_words, place_words, entry_of, file_row_of, place_row_of};
 
-use crate::layout::{DATA_WORDS, FILE_ROW_WORDS, PLACE_ROW_WORDS};
+use crate::layout::{DATA_WORDS, FILE_ROW_WORDS, PLACE_FIELDS, PLACE_ROW_WORDS};
 use crate::{Entry, FileRow, PlaceRow};
 
 #[tactic(auto, unfolding(crate::specs::Fields::entry_of))]
@@ -64,7 +64,7 @@ impl From<[u16; PLACE_ROW_WORDS]> for PlaceRow {
     ghost from_gives = { λ ws r. r ≡ place_row_of ws };
 
     fn from(
-        [side, id, share, timeout, extended, typed, keep, first]: [u16; PLACE_ROW_WORDS],
+        [side, id, share, timeout, extended, typed, keep, first, ..]: [u16; PLACE_ROW_WORDS],
     ) -> Self {
         PlaceRow {
             side,
@@ -80,7 +80,7 @@ impl From<[u16; PLACE_ROW_WORDS]> for PlaceRow {
 }
 
 #[tactic(auto, unfolding(crate::specs::Fields::place_words))]
-impl From<PlaceRow> for [u16; PLACE_ROW_WORDS] {
+impl From<PlaceRow> for [u16; PLACE_FIELDS] {
     ghost from_gives = { λ r ws. ws ≡ place_words r };
 
     fn from(r: PlaceRow) -> Self {

@@ -34,7 +34,7 @@ pub fn number(text: &[u8]) -> usize {
 }
 
 // Writes the two digits of a byte, as far as there is room.
-// Kept: the digits are put by `hexadecimal`, and not printed by `write!`, which needs more of the stack than the program had.
+// Kept: the digits are put by `hexadecimal`, and not printed by `write!`, which takes more instructions.
 pub fn put_byte<const N: usize>(out: &mut Filled<N>, byte: u8) {
     let mut digits = [0u8; 2];
     hexadecimal::encode(&[byte], &mut digits);
