@@ -50,6 +50,8 @@ fn feed_byte(
 }
 
 // Takes the bytes of a chunk, as many as the output has room for, but at least one. Gives how many were taken.
+// Kept out of line: in line in a program's main, its loop took half as long again for the bytes of a line that is too long.
+#[inline(never)]
 pub fn feed(
     segment: &mut [u8],
     blocks: &mut [u8],
