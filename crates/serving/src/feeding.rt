@@ -50,7 +50,7 @@ fn feed_byte(
 }
 
 // Takes the bytes of a chunk, as many as the output has room for, but at least one. Gives how many were taken.
-// Kept out of line: in line in a program's main, its loop took half as long again for the bytes of a line that is too long.
+// Kept out of line: in line in the main of `sheet`, its loop took 1.2 times as long for a line that is too long, and 1.6 times for writes of 256 bytes.
 #[inline(never)]
 pub fn feed(
     segment: &mut [u8],
